@@ -1,0 +1,3 @@
+pub mod Splice
+pub mod Tabulate
+pub mod Entries

@@ -1,0 +1,12 @@
+pub mod Field
+pub mod Other
+pub mod Frame
+pub mod Present
+pub mod Complete
+pub mod Sound
+pub mod Injective
+pub mod Outcomes
+pub mod Found
+pub mod Arrays
+pub mod Lagrange
+pub mod Joined

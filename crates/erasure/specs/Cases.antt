@@ -1,0 +1,63 @@
+-- The cases of document 01 on the field and the coder that are marked P, in one table, which the definitions satisfy by computation.
+-- Assumes nothing.
+use mathlib.Core.Path.{_≡_, refl}
+use mathlib.Core.List.{List, [], _∷_, _++_}
+use Prim.Native.Nat.{ℕ}
+use Rattle.gf256.specs.Field.{timesX, product, power, inverse}
+use Rattle.gf256.specs.Cases.{product-case, inverse-case}
+use Rattle.limits.specs.Limits.{groupCause}
+use Rattle.buffer.specs.Splice.{spliced, tabulate}
+use Rattle.buffer.specs.Entries.{size, body, rest, fills, bodies}
+use Rattle.polynomial.specs.Polynomial.{sum, pow, value, factor, unit, numerator, denominator, basis, through}
+use Rattle.erasure.specs.Given.{gave, written}
+use Rattle.erasure.specs.Coding.{shareLength, headed, frame, block, shareByte, shareOf, share}
+use Rattle.erasure.specs.Rebuild.{present, point, framed, other, unframed, joined, recovered, answered, rebuildOf}
+use Rattle.erasure.specs.declared.Written.the-variants.{Done}
+
+-- the message 0x41 0x42, and the entries of its shares 2 and 3 alone, for n 3 and t 1
+abbrev ab : List ℕ
+ab = 0x41 ∷ 0x42 ∷ []
+
+abbrev two-and-three : List ℕ
+two-and-three = 0 ∷ 0 ∷ 0 ∷ 2 ∷ 0x82 ∷ 0x86 ∷ 0 ∷ 2 ∷ 0xC3 ∷ 0xC4 ∷ []
+
+pub record Cases : Type 0 where
+  -- 0x57 times 0x83 = 0xC1; inverse of 0x02 is 0x8D
+  pub product-of : product 0x57 0x83 ≡ 0xC1
+  pub inverse-of : inverse 0x02 ≡ 0x8D
+  -- n 3, t 1, book 0x41 0x42: shares 41 40, 82 86, C3 C4
+  pub three-1 : share 2 1 ab ≡ 0x41 ∷ 0x40 ∷ []
+  pub three-2 : share 2 2 ab ≡ 0x82 ∷ 0x86 ∷ []
+  pub three-3 : share 2 3 ab ≡ 0xC3 ∷ 0xC4 ∷ []
+  -- shares 2 and 3 of it alone rebuild it
+  pub rebuilt : rebuildOf 3 1 two-and-three (7 ∷ 8 ∷ 9 ∷ []) ≡ gave (Done 2) (0x41 ∷ 0x42 ∷ 9 ∷ [])
+  -- n 5, t 2, same book: share 4 is 1F 11, share 5 is 5E 53
+  pub five-4 : share 3 4 ab ≡ 0x1F ∷ 0x11 ∷ []
+  pub five-5 : share 3 5 ab ≡ 0x5E ∷ 0x53 ∷ []
+  -- n 2, t 0, book 0x41: shares 41 01, 82 01
+  pub two-1 : share 2 1 (0x41 ∷ []) ≡ 0x41 ∷ 0x01 ∷ []
+  pub two-2 : share 2 2 (0x41 ∷ []) ≡ 0x82 ∷ 0x01 ∷ []
+  -- empty book, n 3, t 1: three shares of one zero byte
+  pub empty-1 : share 2 1 [] ≡ 0 ∷ []
+  pub empty-2 : share 2 2 [] ≡ 0 ∷ []
+  pub empty-3 : share 2 3 [] ≡ 0 ∷ []
+
+pub cases : Cases
+unfolding share shareOf shareByte shareLength frame headed block tabulate value sum pow product timesX power inverse rebuildOf groupCause
+    fills bodies size body rest present point recovered joined framed other unframed written spliced through basis numerator denominator
+    factor unit
+cases = record {
+  product-of = product-case;
+  inverse-of = inverse-case;
+  three-1 = refl;
+  three-2 = refl;
+  three-3 = refl;
+  rebuilt = refl;
+  five-4 = refl;
+  five-5 = refl;
+  two-1 = refl;
+  two-2 = refl;
+  empty-1 = refl;
+  empty-2 = refl;
+  empty-3 = refl;
+}

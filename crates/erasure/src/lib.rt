@@ -1,0 +1,409 @@
+// The erasure code: a message becomes n shares, and any b = n - t of them give it back.
+ghost use mathlib.Core.Path.{_≡_};
+ghost use mathlib.Core.Bool.{true};
+ghost use mathlib.Core.List.{map};
+ghost use Prim.Native.Nat.{ℕ, _+_, _-_, _*_, _≤_, _<_};
+ghost use lib.ListN.{length, getD, take, drop};
+ghost use Rattle.limits.specs.Limits.{maxParties, maxMessage, maxShare};
+ghost use Rattle.buffer.specs.Splice.{spliced, tabulate};
+ghost use Rattle.buffer.specs.Entries.{fills, bodies};
+ghost use Rattle.gf256.specs.Field.{product, inverse};
+ghost use Rattle.polynomial.specs.Polynomial.{value, factor, numerator, denominator, basis, sum};
+ghost use Rattle.erasure.specs.Bytes.{bytes};
+ghost use Rattle.erasure.specs.Bounds.{Bytes};
+ghost use Rattle.erasure.specs.Given.{gave};
+ghost use Rattle.erasure.specs.Coding.{shareLength, headed, shareByte, shareOf, encodeOf};
+ghost use Rattle.erasure.specs.Rebuild.{present, recovered, unframed, answered, other, rebuildOf};
+ghost use Rattle.erasure.specs.Arrays.{sharesOf, held, Within, Reach, Table, cell, combined};
+use limits::MAX_MESSAGE;
+use limits::MAX_PARTIES;
+use limits::MAX_SHARE;
+
+// The greatest length of a frame: fewer than b zeros follow the message.
+const MAX_FRAME: usize = MAX_SHARE + MAX_PARTIES;
+
+// A coefficient for each power below the greatest b, of each of as many points.
+const TABLE: usize = MAX_PARTIES * MAX_PARTIES;
+
+// The answer of a function that writes into a lent buffer.
+pub enum Written {
+    // Turned away for this cause of document 01; nothing was written.
+    Refused(u8),
+    // Cause 9: the buffer is shorter than this; nothing was written.
+    Short(usize),
+    // So many bytes stand at the start of the buffer.
+    Done(usize),
+}
+
+// Writes shares 1 to n of a message, one behind the other.
+pub fn encode(n: usize, t: usize, message: &[u8], out: &mut [u8]) -> Written
+    ensures { λ r. ⌜ gave r (now (out .exit)) ≡ encodeOf n t (now (message .entry)) (now (out .entry)) ⌝ }
+{
+    let cause = limits::group_cause(n, t);
+    if cause != 0 {
+        return Written::Refused(cause);
+    }
+    if MAX_MESSAGE < message.len() {
+        return Written::Refused(4);
+    }
+    let b = n - t;
+    let s = share_length(b, message.len());
+    let need = n * s;
+    if out.len() < need {
+        return Written::Short(need);
+    }
+    let frame = frame_of(message);
+    write_shares(&frame, n, b, s, out);
+    Written::Done(need)
+}
+
+// The length of each share of a message of `len` bytes in b blocks.
+fn share_length(b: usize, len: usize) -> usize
+    requires { ⌜ (1 ≤ b) × (b ≤ maxParties) × (len < 65536) ⌝ }
+    ensures { λ r. ⌜ r ≡ shareLength b len ⌝ }
+{
+    (len + 2 + (b - 1)) / b
+}
+
+// The frame of a message, and zeros past it.
+fn frame_of(message: &[u8]) -> [u8; MAX_FRAME]
+    requires { ⌜ length (now message) ≤ maxMessage ⌝ }
+    ensures { λ r. ⌜ ((i : ℕ) → getD r i 0 ≡ getD (headed (now (message .entry))) i 0) ⌝ }
+{
+    let len = message.len();
+    let mut frame = [0u8; MAX_FRAME];
+    frame[0] = (len / 256 % 256) as u8;
+    frame[1] = (len % 256) as u8;
+    buffer::put(&mut frame, 2, message);
+    frame
+}
+
+// Byte c of share j, by Horner's rule from the last block down.
+fn share_byte(frame: &[u8; MAX_FRAME], b: usize, s: usize, j: u8, c: usize) -> u8
+    requires { ⌜ (c < s) × (b * s ≤ maxShare + maxParties) × Bytes (now frame) ⌝ }
+    ensures { λ r. ⌜ r ≡ shareByte b s (now (frame .entry)) j c ⌝ }
+{
+    let mut total = 0u8;
+    let mut k = b;
+    while 0 < k {
+        k -= 1;
+        total = frame[k * s + c] ^ gf256::mul(j, total);
+    }
+    total
+}
+
+// Writes share j from place at on.
+fn write_share(frame: &[u8; MAX_FRAME], b: usize, s: usize, j: u8, out: &mut [u8], at: usize)
+    requires { ⌜ (b * s ≤ maxShare + maxParties) × (at + s ≤ length (now out)) × Bytes (now frame) ⌝ }
+    ensures { λ _. ⌜ now (out .exit) ≡ spliced (now (out .entry)) at (shareOf b s (now (frame .entry)) j) ⌝ }
+{
+    let mut c = 0;
+    while c < s {
+        out[at + c] = share_byte(frame, b, s, j, c);
+        c += 1;
+    }
+}
+
+// Writes shares 1 to n from the start of out.
+fn write_shares(frame: &[u8; MAX_FRAME], n: usize, b: usize, s: usize, out: &mut [u8])
+    requires { ⌜ (n ≤ maxParties) × (b * s ≤ maxShare + maxParties) × (n * s ≤ length (now out)) × Bytes (now frame) ⌝ }
+    ensures { λ _. ⌜ now (out .exit) ≡ spliced (now (out .entry)) 0 (sharesOf n b s (now (frame .entry))) ⌝ }
+{
+    let mut at: usize = 0;
+    let mut j: usize = 0;
+    while j < n {
+        j += 1;
+        write_share(frame, b, s, (j % 256) as u8, out, at);
+        at += s;
+    }
+}
+
+// Writes the message that n entries give.
+pub fn rebuild(n: usize, t: usize, entries: &[u8], out: &mut [u8]) -> Written
+    ensures { λ r. ⌜ gave r (now (out .exit)) ≡ rebuildOf n t (now (entries .entry)) (now (out .entry)) ⌝ }
+{
+    let cause = limits::group_cause(n, t);
+    if cause != 0 {
+        return Written::Refused(cause);
+    }
+    if buffer::laid_out(entries, n) {
+        recover(n, n - t, entries, out)
+    } else {
+        Written::Refused(8)
+    }
+}
+
+// The same of entries that are laid out well, with b shares to use.
+fn recover(n: usize, b: usize, entries: &[u8], out: &mut [u8]) -> Written
+    requires { ⌜ (fills n (now entries) ≡ true) × (n ≤ maxParties) × (1 ≤ b) × (b ≤ n) ⌝ }
+    ensures { λ r. ⌜ gave r (now (out .exit))
+        ≡ answered (recovered b (present 1 (bodies n (now (entries .entry))))) (now (out .entry)) ⌝ }
+{
+    let chosen = choose(entries, n, b);
+    if chosen.count < b {
+        return Written::Refused(11);
+    }
+    let numbers = chosen.numbers;
+    let places = chosen.places;
+    let lens = chosen.lens;
+    if uneven(&lens, b) {
+        return Written::Refused(12);
+    }
+    let table = bases(&numbers, b);
+    read_frame(&table, entries, &places, b, lens[0], out)
+}
+
+// The shares to use: how many, their numbers, and where each lies in the entries.
+struct Chosen {
+    count: usize,
+    numbers: [u8; MAX_PARTIES],
+    places: [usize; MAX_PARTIES],
+    lens: [usize; MAX_PARTIES],
+}
+
+// The b lowest-numbered present shares, or all if fewer are present.
+fn choose(entries: &[u8], n: usize, b: usize) -> Chosen
+    requires { ⌜ (fills n (now entries) ≡ true) × (n ≤ maxParties) × (b ≤ n) ⌝ }
+    ensures { λ r. ⌜ (held (now (entries .entry)) (r .numbers) (r .places) (r .lens) (r .count)
+        ≡ take b (present 1 (bodies n (now (entries .entry)))))
+        × Within (now (entries .entry)) (r .places) (r .lens) (r .count) ⌝ }
+{
+    let mut numbers = [0u8; MAX_PARTIES];
+    let mut places = [0usize; MAX_PARTIES];
+    let mut lens = [0usize; MAX_PARTIES];
+    let mut count: usize = 0;
+    let mut at: usize = 0;
+    let mut j: usize = 0;
+    while j < n {
+        let len = buffer::size_at(entries, at);
+        let from = at + 2;
+        at = from + len;
+        j += 1;
+        if len == 0 {
+            continue;
+        }
+        if b <= count {
+            continue;
+        }
+        numbers[count] = (j % 256) as u8;
+        places[count] = from;
+        lens[count] = len;
+        count += 1;
+    }
+    Chosen {
+        count,
+        numbers,
+        places,
+        lens,
+    }
+}
+
+// Whether a length among the first b is not the first's.
+fn uneven(lens: &[usize; MAX_PARTIES], b: usize) -> bool
+    requires { ⌜ b ≤ maxParties ⌝ }
+    ensures { λ r. ⌜ r ≡ other (getD (now (lens .entry)) 0 0) (tabulate b (λ m. getD (now (lens .entry)) m 0)) ⌝ }
+{
+    let first = lens[0];
+    let mut m: usize = 0;
+    while m < b {
+        if lens[m] != first {
+            return true;
+        }
+        m += 1;
+    }
+    false
+}
+
+// (X + r) times the polynomial w, as far as the array holds coefficients.
+fn times_factor(w: [u8; MAX_PARTIES], r: u8) -> [u8; MAX_PARTIES]
+    ensures { λ v. ⌜ ((k : ℕ) → k < maxParties → getD v k 0 ≡ factor bytes r (λ i. getD w i 0) k) ⌝ }
+{
+    let mut v = [0u8; MAX_PARTIES];
+    v[0] = gf256::mul(r, w[0]);
+    let mut k: usize = 1;
+    while k < MAX_PARTIES {
+        v[k] = w[k - 1] ^ gf256::mul(r, w[k]);
+        k += 1;
+    }
+    v
+}
+
+// The product of (X + x) over the first b numbers but number i.
+fn numerator_of(numbers: &[u8; MAX_PARTIES], b: usize, i: usize) -> [u8; MAX_PARTIES]
+    requires { ⌜ b ≤ maxParties ⌝ }
+    ensures { λ w. ⌜ ((k : ℕ) → k < maxParties
+        → getD w k 0 ≡ numerator bytes b (λ m. getD (now (numbers .entry)) m 0) i k) ⌝ }
+{
+    let mut w = [0u8; MAX_PARTIES];
+    w[0] = 1;
+    let mut m: usize = 0;
+    while m < b {
+        if m != i {
+            let v = times_factor(w, numbers[m]);
+            w = v;
+        }
+        m += 1;
+    }
+    w
+}
+
+// Its value at number i.
+fn denominator_of(numbers: &[u8; MAX_PARTIES], b: usize, i: usize) -> u8
+    requires { ⌜ (b ≤ maxParties) × (i < b) ⌝ }
+    ensures { λ r. ⌜ r ≡ denominator bytes b (λ m. getD (now (numbers .entry)) m 0) i ⌝ }
+{
+    let x = numbers[i];
+    let mut d = 1u8;
+    let mut m: usize = 0;
+    while m < b {
+        if m != i {
+            d = gf256::mul(d, x ^ numbers[m]);
+        }
+        m += 1;
+    }
+    d
+}
+
+// The table with the polynomial w times d in column m.
+fn write_column(table: [u8; TABLE], m: usize, w: [u8; MAX_PARTIES], d: u8) -> [u8; TABLE]
+    requires { ⌜ m < maxParties ⌝ }
+    ensures { λ r. ⌜ ((k i : ℕ) → k < maxParties → i < maxParties → (i ≡ m → ⊥)
+        → getD r (cell k i) 0 ≡ getD table (cell k i) 0)
+        × ((k : ℕ) → k < maxParties → getD r (cell k m) 0 ≡ product (getD w k 0) d) ⌝ }
+{
+    let mut next = table;
+    let mut k: usize = 0;
+    while k < MAX_PARTIES {
+        next[k * MAX_PARTIES + m] = gf256::mul(w[k], d);
+        k += 1;
+    }
+    next
+}
+
+// The coefficients of Lagrange's polynomials for the first b numbers: worked out once, they serve every byte of the frame.
+fn bases(numbers: &[u8; MAX_PARTIES], b: usize) -> [u8; TABLE]
+    requires { ⌜ b ≤ maxParties ⌝ }
+    ensures { λ r. ⌜ Table r b (now (numbers .entry)) b ⌝ }
+{
+    let mut table = [0u8; TABLE];
+    let mut m: usize = 0;
+    while m < b {
+        let w = numerator_of(numbers, b, m);
+        let d = gf256::inv(denominator_of(numbers, b, m));
+        let next = write_column(table, m, w, d);
+        table = next;
+        m += 1;
+    }
+    table
+}
+
+// Byte i of the frame: b products.
+fn frame_byte(
+    table: &[u8; TABLE],
+    entries: &[u8],
+    places: &[usize; MAX_PARTIES],
+    b: usize,
+    s: usize,
+    i: usize,
+) -> u8
+    requires { ⌜ (b ≤ maxParties) × (i < b * s) × Reach (now entries) (now places) b s ⌝ }
+    ensures { λ r. ⌜ r ≡ getD (combined b s (now (table .entry)) (now (entries .entry)) (now (places .entry))) i 0 ⌝ }
+{
+    let row = i / s * MAX_PARTIES;
+    let c = i % s;
+    let mut total = 0u8;
+    let mut m: usize = 0;
+    while m < b {
+        total = total ^ gf256::mul(table[row + m], entries[places[m] + c]);
+        m += 1;
+    }
+    total
+}
+
+// Writes the message that stands in the frame, if the frame is one.
+fn read_frame(
+    table: &[u8; TABLE],
+    entries: &[u8],
+    places: &[usize; MAX_PARTIES],
+    b: usize,
+    s: usize,
+    out: &mut [u8],
+) -> Written
+    requires { ⌜ (1 ≤ b) × (b ≤ maxParties) × (1 ≤ s) × (s < 65536) × Reach (now entries) (now places) b s ⌝ }
+    ensures { λ r. ⌜ gave r (now (out .exit))
+        ≡ answered (unframed b s (combined b s (now (table .entry)) (now (entries .entry)) (now (places .entry))))
+        (now (out .entry)) ⌝ }
+{
+    if b * s < 2 {
+        return Written::Refused(12);
+    }
+    let high = wide(frame_byte(table, entries, places, b, s, 0));
+    let low = wide(frame_byte(table, entries, places, b, s, 1));
+    let len = high * 256 + low;
+    if MAX_MESSAGE < len {
+        return Written::Refused(12);
+    }
+    if s != share_length(b, len) {
+        return Written::Refused(12);
+    }
+    if spoilt(table, entries, places, b, s, len + 2) {
+        return Written::Refused(12);
+    }
+    if out.len() < len {
+        return Written::Short(len);
+    }
+    write_message(table, entries, places, b, s, len, out);
+    Written::Done(len)
+}
+
+fn wide(x: u8) -> usize
+    ensures { λ r. ⌜ (r ≡ x) × (r < 256) ⌝ }
+{
+    x as usize
+}
+
+// Whether a byte other than 0 stands in the frame from place `from` on.
+fn spoilt(
+    table: &[u8; TABLE],
+    entries: &[u8],
+    places: &[usize; MAX_PARTIES],
+    b: usize,
+    s: usize,
+    from: usize,
+) -> bool
+    requires { ⌜ (b ≤ maxParties) × (s < 65536) × (from ≤ b * s) × Reach (now entries) (now places) b s ⌝ }
+    ensures { λ r. ⌜ r
+        ≡ other 0 (drop from (combined b s (now (table .entry)) (now (entries .entry)) (now (places .entry)))) ⌝ }
+{
+    let mut i = from;
+    while i < b * s {
+        if frame_byte(table, entries, places, b, s, i) != 0 {
+            return true;
+        }
+        i += 1;
+    }
+    false
+}
+
+// Writes `len` bytes of the frame, those after its length, to the start of out.
+fn write_message(
+    table: &[u8; TABLE],
+    entries: &[u8],
+    places: &[usize; MAX_PARTIES],
+    b: usize,
+    s: usize,
+    len: usize,
+    out: &mut [u8],
+)
+    requires { ⌜ (b ≤ maxParties) × (s < 65536) × (len + 2 ≤ b * s) × (len ≤ length (now out))
+        × Reach (now entries) (now places) b s ⌝ }
+    ensures { λ _. ⌜ now (out .exit)
+        ≡ spliced (now (out .entry)) 0
+        (take len (drop 2 (combined b s (now (table .entry)) (now (entries .entry)) (now (places .entry))))) ⌝ }
+{
+    let mut i: usize = 0;
+    while i < len {
+        out[i] = frame_byte(table, entries, places, b, s, i + 2);
+        i += 1;
+    }
+}

@@ -1,0 +1,3 @@
+-- The definition of the field, and its worked cases.
+pub mod Field
+pub mod Cases

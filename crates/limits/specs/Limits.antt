@@ -1,0 +1,32 @@
+-- The greatest numbers of document 01, and causes 1 and 2. Assumes nothing.
+use Prim.Native.Nat.{ℕ, _+_, _*_}
+use mathlib.Core.Bool.{cond, _||_}
+use lib.Dec.{ltb, leb}
+use Rattle.limits.specs.declared.Greatest.{Greatest}
+
+-- the number of parties is 1 to maxParties
+abbrev pub maxParties : ℕ
+maxParties = 16
+
+-- a message (document 01: book) has 0 to maxMessage bytes
+abbrev pub maxMessage : ℕ
+maxMessage = 1024
+
+-- a share has 1 to maxShare bytes
+abbrev pub maxShare : ℕ
+maxShare = maxMessage + 2
+
+-- an audit path has up to maxPath hashes
+abbrev pub maxPath : ℕ
+maxPath = 4
+
+-- a string that is hashed has up to maxHashed bytes
+abbrev pub maxHashed : ℕ
+maxHashed = 65535
+
+abbrev pub greatest : Greatest
+greatest = record { parties = maxParties; message = maxMessage; share = maxShare; path = maxPath; hashed = maxHashed }
+
+-- cause 1: n outside 1 to maxParties; cause 2: 2·t ≥ n; 0: neither
+unfoldable pub groupCause : ℕ → ℕ → ℕ
+groupCause n t = cond (ltb n 1 || ltb maxParties n) 1 (cond (leb n (2 * t)) 2 0)
