@@ -1,6 +1,10 @@
-//! A reference for the field and the coder, written from the scope document alone,
-//! against which the proved implementation is compared.
+//! A reference for the field, the coder, the hash and the tree, written from the scope
+//! document and the public standards alone, against which the proved implementation is
+//! compared.
 
 pub mod coder;
 pub mod field;
 pub mod random;
+pub mod sha256;
+pub mod tree;
+pub mod writer;

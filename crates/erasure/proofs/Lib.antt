@@ -10,3 +10,4 @@ pub mod Found
 pub mod Arrays
 pub mod Lagrange
 pub mod Joined
+pub mod Instances

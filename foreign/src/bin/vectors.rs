@@ -18,7 +18,7 @@
 use foreign::coder::{self, frame_of, share_length, shares_of, Answer, Answer::*};
 use foreign::field;
 use foreign::random::Random;
-use std::io::Write;
+use foreign::writer::Writer;
 
 const UNTOUCHED: u8 = 0xA5;
 const MOST_INPUT: usize = 70_000;
@@ -41,21 +41,14 @@ const CHOSEN: [(usize, usize); 10] = [
 type Shares = Vec<Vec<u8>>;
 type Call = fn(usize, usize, &[u8], &mut [u8]) -> Answer;
 
-/// The file so far, its cases counted by kind, its calls counted by answer,
-/// and the source of randomness.
+/// The file so far, its calls counted by answer, and the source of randomness.
 struct File {
-    bytes: Vec<u8>,
-    counts: [usize; 6],
+    out: Writer,
     answers: [[usize; 16]; 2],
     random: Random,
 }
 
 impl File {
-    fn start(&mut self, kind: u8) {
-        self.bytes.push(kind);
-        self.counts[kind as usize] += 1;
-    }
-
     /// Runs one call and writes it as a case; gives the answer and what was written.
     fn case(
         &mut self,
@@ -64,7 +57,7 @@ impl File {
         input: &[u8],
         room: usize,
     ) -> (Answer, Vec<u8>) {
-        assert!(n < 65_536 && t < 65_536 && input.len() <= MOST_INPUT && room <= MOST_ROOM);
+        assert!(input.len() <= MOST_INPUT && room <= MOST_ROOM);
         let call: Call = if kind == 4 {
             coder::encode
         } else {
@@ -73,22 +66,22 @@ impl File {
         let mut out = vec![UNTOUCHED; room];
         let answer = call(n, t, input, &mut out);
         let (answer_kind, value, written) = match answer {
-            Refused(cause) => (0, cause, 0),
-            Short(length) => (1, length as u32, 0),
-            Done(length) => (2, length as u32, length),
+            Refused(cause) => (0, cause as usize, 0),
+            Short(length) => (1, length, 0),
+            Done(length) => (2, length, length),
         };
         assert!(out[written..].iter().all(|&x| x == UNTOUCHED));
         out.truncate(written);
-        self.start(kind);
-        self.bytes.extend((n as u16).to_be_bytes());
-        self.bytes.extend((t as u16).to_be_bytes());
-        self.bytes.extend((input.len() as u32).to_be_bytes());
-        self.bytes.extend((room as u32).to_be_bytes());
-        self.bytes.push(answer_kind);
-        self.bytes.extend(value.to_be_bytes());
-        self.bytes.extend(input);
-        self.bytes.extend(&out);
-        let place = [value as usize, 9, 0][answer_kind as usize];
+        self.out.start(kind);
+        self.out.two(n);
+        self.out.two(t);
+        self.out.four(input.len());
+        self.out.four(room);
+        self.out.one(answer_kind);
+        self.out.four(value);
+        self.out.bytes(input);
+        self.out.bytes(&out);
+        let place = [value, 9, 0][answer_kind];
         self.answers[kind as usize - 4][place] += 1;
         (answer, out)
     }
@@ -172,12 +165,14 @@ fn pairs(first: usize, last: usize) -> Vec<(usize, usize)> {
 
 fn field_cases(file: &mut File) {
     for a in 0..=255u8 {
-        file.start(1);
-        file.bytes.push(a);
-        file.bytes.extend((0..=255).map(|b| field::mul(a, b)));
+        let row: Vec<u8> = (0..=255).map(|b| field::mul(a, b)).collect();
+        file.out.start(1);
+        file.out.bytes(&[a]);
+        file.out.bytes(&row);
     }
-    file.start(2);
-    file.bytes.extend((0..=255).map(field::inv));
+    let inverses: Vec<u8> = (0..=255).map(field::inv).collect();
+    file.out.start(2);
+    file.out.bytes(&inverses);
     for a in 0..=255u8 {
         let any = file.random.word();
         for k in [0, 1, 2, 3, 254, 255, any] {
@@ -207,10 +202,10 @@ fn field_cases(file: &mut File) {
 }
 
 fn power(file: &mut File, a: u8, k: u64) {
-    file.start(3);
-    file.bytes.push(a);
-    file.bytes.extend(k.to_be_bytes());
-    file.bytes.push(field::pow(a, k));
+    file.out.start(3);
+    file.out.bytes(&[a]);
+    file.out.eight(k);
+    file.out.bytes(&[field::pow(a, k)]);
 }
 
 /// The cases that the scope document works out.
@@ -633,19 +628,14 @@ const PARTS: [fn(&mut File); 17] = [
 
 fn main() {
     let mut file = File {
-        bytes: Vec::new(),
-        counts: [0; 6],
+        out: Writer::new(5),
         answers: [[0; 16]; 2],
         random: Random::new(2024),
     };
     for part in PARTS {
         part(&mut file);
     }
-    file.start(0);
-    std::io::stdout()
-        .write_all(&file.bytes)
-        .expect("standard output takes the file");
-    eprintln!("cases of kind 0 to 5: {:?}", file.counts);
+    file.out.finish();
     let [encode, rebuild] = file.answers;
     eprintln!("encode answers by cause, 0 for done: {encode:?}");
     eprintln!("rebuild answers by cause, 0 for done: {rebuild:?}");

@@ -1,0 +1,53 @@
+-- The three theorems of the coder at work on one message: n 3, t 1, message 0x41 0x42, with shares 1 and 2 in their places and rubbish
+-- of another length in place 3. So their premises can be met, and nobody drops a theorem unseen. Assumes nothing.
+use mathlib.Core.Path.{_≡_, refl}
+use mathlib.Core.List.{List, [], _∷_}
+use Prim.Native.Nat.{ℕ, zero, suc, _<_, _≤_}
+use native.Mathlib.Omega.{arith}
+use lib.Dec.{lit<, lit≤}
+use lib.ListN.{length, getD}
+use Rattle.limits.specs.Limits.{maxMessage}
+use Rattle.gf256.specs.Field.{timesX, product}
+use Rattle.buffer.specs.Splice.{tabulate}
+use Rattle.polynomial.specs.Polynomial.{sum, pow, value}
+use Rattle.erasure.specs.Bounds.{Bytes}
+use Rattle.erasure.specs.Coding.{shareLength, headed, frame, block, shareByte, shareOf, share}
+use Rattle.erasure.specs.Rebuild.{point, present, recovered, Recovered, message}
+use Rattle.erasure.proofs.Complete.{complete}
+use Rattle.erasure.proofs.Sound.{sound}
+use Rattle.erasure.proofs.Injective.{injective}
+
+abbrev ab : List ℕ
+ab = 0x41 ∷ 0x42 ∷ []
+
+abbrev entries : List (List ℕ)
+entries = (0x41 ∷ 0x40 ∷ []) ∷ (0x82 ∷ 0x86 ∷ []) ∷ (0xEE ∷ []) ∷ []
+
+two-bytes : (a b : ℕ) → a < 256 → b < 256 → Bytes (a ∷ b ∷ [])
+two-bytes a b ha hb zero = ha
+two-bytes a b ha hb (suc zero) = hb
+two-bytes a b ha hb (suc (suc i)) = lit< tt
+
+-- the shares in places 1 and 2 are the message's own
+own : (i : ℕ) → i < 2 → point (present 1 entries) i .share ≡ share 2 (point (present 1 entries) i .number) ab
+unfolding point present share shareOf shareByte shareLength frame headed block tabulate value sum pow product timesX
+own zero h = refl
+own (suc zero) h = refl
+own (suc (suc i)) h = absurd (omega arith)
+
+pub rebuilt : recovered 2 (present 1 entries) ≡ message ab
+unfolding present
+rebuilt = complete 2 ab entries (lit≤ tt) (lit< tt) (two-bytes 0x41 0x42 (lit< tt) (lit< tt)) (lit≤ tt) (lit≤ tt) own
+
+used-bytes : (i : ℕ) → i < 2 → Bytes (point (present 1 entries) i .share)
+unfolding point present
+used-bytes zero h = two-bytes 0x41 0x40 (lit< tt) (lit< tt)
+used-bytes (suc zero) h = two-bytes 0x82 0x86 (lit< tt) (lit< tt)
+used-bytes (suc (suc i)) h = absurd (omega arith)
+
+pub rebuilt-has : (i : ℕ) → i < 2 → point (present 1 entries) i .share ≡ share 2 (point (present 1 entries) i .number) ab
+rebuilt-has = sound 2 ab entries (lit≤ tt) (lit< tt) used-bytes rebuilt .1
+
+pub only : (m : List ℕ) → Bytes m → length m ≤ maxMessage → ((j : ℕ) → 1 ≤ j → j ≤ 3 → share 2 j ab ≡ share 2 j m) → ab ≡ m
+only m small short e =
+    injective 2 3 ab m (lit≤ tt) (lit≤ tt) (lit< tt) (two-bytes 0x41 0x42 (lit< tt) (lit< tt)) small (lit≤ tt) short e
