@@ -1,3 +1,4 @@
 pub mod Splice
 pub mod Tabulate
 pub mod Entries
+pub mod Given

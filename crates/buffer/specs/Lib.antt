@@ -1,2 +1,3 @@
 pub mod Splice
 pub mod Entries
+pub mod Given

@@ -1,9 +1,20 @@
-// Lent buffers: the one function that copies into them, and entries of a two-byte length and as many bytes.
+// Lent buffers: the one function that copies into them, the answer of those that write into them, and entries of a two-byte length and
+// as many bytes.
 ghost use mathlib.Core.Path.{_≡_};
 ghost use Prim.Native.Nat.{_+_, _≤_, _<_};
 ghost use lib.ListN.{length, drop};
 ghost use Rattle.buffer.specs.Splice.{fitsAt, putOf};
 ghost use Rattle.buffer.specs.Entries.{size, fills};
+
+// The answer of a function that writes into a lent buffer.
+pub enum Written {
+    // Turned away for this cause of document 01; nothing was written.
+    Refused(u8),
+    // Cause 9: the buffer is shorter than this; nothing was written.
+    Short(usize),
+    // So many bytes stand at the start of the buffer.
+    Done(usize),
+}
 
 // Copies src into dst from place at on. Where it does not fit, nothing is written and the answer is no.
 pub fn put(dst: &mut [u8], at: usize, src: &[u8]) -> bool

@@ -18,7 +18,7 @@ use Rattle.polynomial.specs.Polynomial.{through}
 use Rattle.polynomial.proofs.Interpolation.{through-cong}
 use Rattle.erasure.specs.Bytes.{bytes}
 use Rattle.erasure.specs.Bounds.{Bytes}
-use Rattle.erasure.specs.Given.{written}
+use Rattle.buffer.specs.Given.{written}
 use Rattle.erasure.specs.Coding.{shareLength, frame, share}
 use Rattle.erasure.specs.Rebuild.{Point, present, point, framed, unframed, joined, recovered, answered, rebuildOf}
 use Rattle.erasure.specs.Rebuild.{Recovered, message}

@@ -6,22 +6,12 @@ use Prim.Native.Nat.{ℕ, _-_, _<_, _≤_}
 use borrow.Author.Tests.{lt-ltb, le-ltb, eq-eqb, ne-eqb}
 use lib.ListN.{length, take}
 use Rattle.limits.specs.Limits.{maxMessage, groupCause}
-use Rattle.buffer.specs.Splice.{spliced}
 use Rattle.buffer.specs.Entries.{size, body, rest, fills, bodies}
-use Rattle.erasure.specs.Given.{gave, written}
+use Rattle.buffer.specs.Given.{gave, written}
 use Rattle.erasure.specs.Coding.{shareLength, shares, encodeOf}
 use Rattle.erasure.specs.Rebuild.{Point, point, present, framed, other, unframed, joined, recovered, answered, rebuildOf}
 use Rattle.erasure.specs.Rebuild.{Recovered, cause, message}
-use Rattle.erasure.specs.declared.Written.the-variants.{Refused, Short, Done}
-
-module _ (bs out : List ℕ) where
-  pub written-short : length out < length bs → written bs out ≡ gave (Short (length bs)) out
-  unfolding written
-  written-short h = simp lt-ltb
-
-  pub written-done : length bs ≤ length out → written bs out ≡ gave (Done (length bs)) (spliced out 0 bs)
-  unfolding written
-  written-done h = simp le-ltb
+use Rattle.buffer.specs.declared.Written.the-variants.{Refused}
 
 module _ (n t : ℕ) (m out : List ℕ) where
   pub encode-refused : (groupCause n t ≡ 0 → ⊥) → encodeOf n t m out ≡ gave (Refused (groupCause n t)) out

@@ -21,10 +21,10 @@ use Rattle.polynomial.proofs.Value.{value-cong}
 use Rattle.erasure.specs.Bytes.{bytes}
 use Rattle.erasure.specs.Bounds.{Bytes}
 use Rattle.erasure.specs.Coding.{shareLength, frame, share}
-use Rattle.erasure.specs.Given.{Given, gave, written}
+use Rattle.buffer.specs.Given.{Given, gave, written}
 use Rattle.erasure.specs.Rebuild.{Point, present, point, framed, other, unframed, joined, recovered, answered, rebuildOf}
 use Rattle.erasure.specs.Rebuild.{Recovered, cause, message}
-use Rattle.erasure.specs.declared.Written.the-variants.{Refused, Short, Done}
+use Rattle.buffer.specs.declared.Written.the-variants.{Refused, Short, Done}
 use Rattle.erasure.proofs.Field.{through-lt, byte-through-value}
 use Rattle.erasure.proofs.Other.{none-other}
 use Rattle.erasure.proofs.Frame.{length-share, getD-share, frame-unframed, frame-bytes-message}

@@ -9,10 +9,10 @@ use Rattle.limits.specs.Limits.{groupCause}
 use Rattle.buffer.specs.Splice.{spliced, tabulate}
 use Rattle.buffer.specs.Entries.{size, body, rest, fills, bodies}
 use Rattle.polynomial.specs.Polynomial.{sum, pow, value, factor, unit, numerator, denominator, basis, through}
-use Rattle.erasure.specs.Given.{gave, written}
+use Rattle.buffer.specs.Given.{gave, written}
 use Rattle.erasure.specs.Coding.{shareLength, headed, frame, block, shareByte, shareOf, share}
 use Rattle.erasure.specs.Rebuild.{present, point, framed, other, unframed, joined, recovered, answered, rebuildOf}
-use Rattle.erasure.specs.declared.Written.the-variants.{Done}
+use Rattle.buffer.specs.declared.Written.the-variants.{Done}
 
 -- the message 0x41 0x42, and the entries of its shares 2 and 3 alone, for n 3 and t 1
 abbrev ab : List ℕ

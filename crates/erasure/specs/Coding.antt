@@ -9,8 +9,8 @@ use Rattle.limits.specs.Limits.{maxMessage, groupCause}
 use Rattle.buffer.specs.Splice.{tabulate}
 use Rattle.polynomial.specs.Polynomial.{value}
 use Rattle.erasure.specs.Bytes.{bytes}
-use Rattle.erasure.specs.Given.{Given, gave, written}
-use Rattle.erasure.specs.declared.Written.the-variants.{Refused}
+use Rattle.buffer.specs.Given.{Given, gave, written}
+use Rattle.buffer.specs.declared.Written.the-variants.{Refused}
 
 -- s = ceil((L + 2) / b)
 unfoldable pub shareLength : ℕ → ℕ → ℕ

@@ -1,5 +1,4 @@
 pub mod Bytes
-pub mod Given
 pub mod Coding
 pub mod Rebuild
 pub mod Arrays

@@ -9,9 +9,9 @@ use Rattle.buffer.specs.Splice.{tabulate}
 use Rattle.buffer.specs.Entries.{size, body, rest, fills, bodies}
 use Rattle.polynomial.specs.Polynomial.{through}
 use Rattle.erasure.specs.Bytes.{bytes}
-use Rattle.erasure.specs.Given.{Given, gave, written}
+use Rattle.buffer.specs.Given.{Given, gave, written}
 use Rattle.erasure.specs.Coding.{shareLength}
-use Rattle.erasure.specs.declared.Written.the-variants.{Refused}
+use Rattle.buffer.specs.declared.Written.the-variants.{Refused}
 
 -- a share with its number
 pub record Point : Type 0 where

@@ -11,10 +11,11 @@ ghost use Rattle.gf256.specs.Field.{product, inverse};
 ghost use Rattle.polynomial.specs.Polynomial.{value, factor, numerator, denominator, basis, sum};
 ghost use Rattle.erasure.specs.Bytes.{bytes};
 ghost use Rattle.erasure.specs.Bounds.{Bytes};
-ghost use Rattle.erasure.specs.Given.{gave};
+ghost use Rattle.buffer.specs.Given.{gave};
 ghost use Rattle.erasure.specs.Coding.{shareLength, headed, shareByte, shareOf, encodeOf};
 ghost use Rattle.erasure.specs.Rebuild.{present, recovered, unframed, answered, other, rebuildOf};
 ghost use Rattle.erasure.specs.Arrays.{sharesOf, held, Within, Reach, Table, cell, combined};
+use buffer::Written;
 use limits::MAX_MESSAGE;
 use limits::MAX_PARTIES;
 use limits::MAX_SHARE;
@@ -24,16 +25,6 @@ const MAX_FRAME: usize = MAX_SHARE + MAX_PARTIES;
 
 // A coefficient for each power below the greatest b, of each of as many points.
 const TABLE: usize = MAX_PARTIES * MAX_PARTIES;
-
-// The answer of a function that writes into a lent buffer.
-pub enum Written {
-    // Turned away for this cause of document 01; nothing was written.
-    Refused(u8),
-    // Cause 9: the buffer is shorter than this; nothing was written.
-    Short(usize),
-    // So many bytes stand at the start of the buffer.
-    Done(usize),
-}
 
 // Writes shares 1 to n of a message, one behind the other.
 pub fn encode(n: usize, t: usize, message: &[u8], out: &mut [u8]) -> Written

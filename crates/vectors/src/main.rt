@@ -8,7 +8,7 @@
 // 4, encode, and 5, rebuild: n (2), t (2), the input's length (4), the length of out (4), the answer (1: 0 refused, 1 short, 2 done)
 // and its value (4: cause, length needed or bytes written), the input, and after answer 2 the bytes written.
 // What breaks this, ends early or does not fit the buffers here is reported as a broken stream.
-use erasure::Written;
+use buffer::Written;
 
 // The descriptors of standard input and output.
 const IN: i32 = 0;

@@ -6,13 +6,14 @@ use lib.ListN.{length, getD}
 use Rattle.limits.specs.Limits.{groupCause}
 use Rattle.limits.proofs.Group.{Group, group-of}
 use Rattle.buffer.specs.Splice.{spliced}
-use Rattle.erasure.specs.Given.{gave}
+use Rattle.buffer.specs.Given.{gave}
 use Rattle.erasure.specs.Coding.{shareLength, frame, shares}
 use Rattle.erasure.specs.Arrays.{sharesOf}
-use Rattle.erasure.specs.declared.Written.the-variants.{Refused, Short, Done}
+use Rattle.buffer.specs.declared.Written.the-variants.{Refused, Short, Done}
 use Rattle.erasure.proofs.Arrays.{blocks-small, length-sharesOf, sharesOf-cong, shares-frame}
 use Rattle.erasure.proofs.Frame.{share-high, share-most, getD-frame, frame-bytes}
-use Rattle.erasure.proofs.Outcomes.{encode-refused, encode-long, encode-written, written-short, written-done}
+use Rattle.buffer.proofs.Given.{written-short, written-done}
+use Rattle.erasure.proofs.Outcomes.{encode-refused, encode-long, encode-written}
 use borrow.Author.Needs.{needs}
 use native.Mathlib.Omega.{arith}
 use Rattle.erasure.proofs.encode.Statement.{statement}

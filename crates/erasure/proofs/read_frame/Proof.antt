@@ -9,13 +9,14 @@ use Rattle.limits.specs.Limits.{maxParties, maxMessage}
 use Rattle.buffer.specs.Splice.{spliced}
 use Rattle.buffer.specs.Entries.{size, body, rest}
 use Rattle.erasure.specs.Coding.{shareLength}
-use Rattle.erasure.specs.Given.{gave}
+use Rattle.buffer.specs.Given.{gave}
 use Rattle.erasure.specs.Rebuild.{Recovered, message, answered, unframed, other}
-use Rattle.erasure.specs.declared.Written.the-variants.{Short, Done}
+use Rattle.buffer.specs.declared.Written.the-variants.{Short, Done}
 use Rattle.erasure.specs.Arrays.{combined}
 use Rattle.erasure.proofs.Arrays.{blocks-small, length-combined}
 use Rattle.erasure.proofs.Frame.{share-low}
-use Rattle.erasure.proofs.Outcomes.{unframed-tiny, unframed-over, unframed-stated, unframed-spoilt, unframed-found, written-short, written-done}
+use Rattle.buffer.proofs.Given.{written-short, written-done}
+use Rattle.erasure.proofs.Outcomes.{unframed-tiny, unframed-over, unframed-stated, unframed-spoilt, unframed-found}
 use borrow.Author.Needs.{needs}
 use native.Mathlib.Omega.{arith}
 use Rattle.erasure.proofs.read_frame.Statement.{statement}

@@ -3,8 +3,8 @@ use mathlib.Core.Path.{_≡_, sym, ap, _∙_}
 use Prim.Native.Nat.{ℕ}
 use Rattle.limits.specs.Limits.{groupCause}
 use Rattle.limits.proofs.Group.{Group, group-of}
-use Rattle.erasure.specs.Given.{gave}
-use Rattle.erasure.specs.declared.Written.the-variants.{Refused}
+use Rattle.buffer.specs.Given.{gave}
+use Rattle.buffer.specs.declared.Written.the-variants.{Refused}
 use Rattle.erasure.proofs.Outcomes.{rebuild-refused, rebuild-unlaid, rebuild-answered}
 use borrow.Author.Needs.{needs}
 use native.Mathlib.Omega.{arith}
