@@ -2,3 +2,4 @@ pub mod Splice
 pub mod Tabulate
 pub mod Entries
 pub mod Given
+pub mod Rows

@@ -113,9 +113,6 @@ length-sharesOf (suc n) b s f =
     length-append (sharesOf n b s f) (shareOf b s f (suc n))
     ∙ omega (arith, length-sharesOf n b s f, length-tabulate s (shareByte b s f (suc n)), suc-mul n s)
 
-pub share-inside : (n j s : ℕ) → j < n → j * s + s ≤ n * s
-share-inside n j s h = omega (arith, mul-le-mul-right s h, suc-mul j s)
-
 pub shares-more : (o f : List ℕ) (b s j at number : ℕ) → at ≡ j * s → number ≡ j + 1 → at ≤ length o
     → spliced (spliced o 0 (sharesOf j b s f)) at (shareOf b s f number) ≡ spliced o 0 (sharesOf (j + 1) b s f)
 unfolding sharesOf

@@ -2,15 +2,15 @@
 use mathlib.Core.Path.{_≡_, refl, sym, ap, ap₂, _∙_}
 use mathlib.Core.List.{List}
 use Prim.Native.Nat.{ℕ, _+_, _-_, _*_, _%_, _≤_, _<_}
-use native.Mathlib.Nat.{zero-mul, suc-mul}
-use native.Mathlib.Numerals.{add-one}
+use native.Mathlib.Nat.{zero-mul}
 use lib.ListN.{length, getD}
 use Rattle.limits.specs.Limits.{maxParties, maxShare}
 use Rattle.buffer.specs.Splice.{spliced}
 use Rattle.buffer.proofs.Splice.{spliced-none}
 use Rattle.erasure.specs.Coding.{shareOf}
 use Rattle.erasure.specs.Arrays.{sharesOf}
-use Rattle.erasure.proofs.Arrays.{share-inside, shares-more}
+use Rattle.buffer.proofs.Rows.{row-inside, row-next}
+use Rattle.erasure.proofs.Arrays.{shares-more}
 use borrow.Author.Needs.{needs}
 use native.Mathlib.Omega.{arith}
 use Rattle.erasure.proofs.write_shares.Statement.{statement}
@@ -38,13 +38,13 @@ write-share-requires : tie.Need-write-share-requires Inv-loop μ-loop
 write-share-requires c κs =
     let l = c .before .before in
     let st = l .before .before in
-    (st .pre .1, omega (arith, share-inside (st .args .n) (l .loop .j) (st .args .s) (c .before .loop-test .taken)), st .pre .3)
+    (st .pre .1, omega (arith, row-inside (st .args .n) (l .loop .j) (st .args .s) (c .before .loop-test .taken)), st .pre .3)
 
 add-at : tie.Need-add-at Inv-loop μ-loop
 add-at c =
     let l = c .before .before .before .before .before in
     let st = l .before .before in
-    omega (arith, share-inside (st .args .n) (l .loop .j) (st .args .s) (c .before .before .before .before .loop-test .taken))
+    omega (arith, row-inside (st .args .n) (l .loop .j) (st .args .s) (c .before .before .before .before .loop-test .taken))
 
 loop-less : tie.Need-loop-less Inv-loop μ-loop
 loop-less c = search needs
@@ -56,10 +56,10 @@ loop-again c =
     let st = l .before .before in
     let a = st .args in
     let whose : (l .loop .j + 1) % 256 ≡ l .loop .j + 1 = omega arith in
-    let next = share-inside (a .n) (l .loop .j) (a .s) (w .before .before .loop-test .taken) in
+    let next = row-inside (a .n) (l .loop .j) (a .s) (w .before .before .loop-test .taken) in
     let here : l .loop .at ≤ length (a .out .now) = omega (arith, next) in (
       omega arith,
-      omega (arith, suc-mul (l .loop .j) (a .s), ap (λ (n : ℕ). n * a .s) (add-one (l .loop .j))),
+      row-next (l .loop .j) (a .s) (l .loop .at) (l .loop .inv .1),
       w .write-share .kept .1 .1 .1 .1 .0 ∙ l .loop .inv .2,
       w .write-share .ensures
           ∙ ap (λ (o : List ℕ). spliced o (l .loop .at) (shareOf (a .b) (a .s) (a .frame .now) ((l .loop .j + 1) % 256))) (l .loop .inv .3)

@@ -1,0 +1,14 @@
+pub mod Way
+pub mod Shape
+pub mod Fold
+pub mod Complete
+pub mod Sound
+pub mod Depends
+pub mod Hashes
+pub mod Upward
+pub mod Descend
+pub mod Judged
+pub mod Outcomes
+pub mod Written
+pub mod Rows
+pub mod Shares

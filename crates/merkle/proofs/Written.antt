@@ -1,0 +1,53 @@
+-- The leaf string and the node string as they are put together in a buffer, and the hash of a string that is not too long.
+-- By the laws of writing into a buffer. Assumes nothing.
+use mathlib.Core.Path.{_≡_, ap, ap₂, _∙_}
+use mathlib.Core.List.{List, [], _∷_, _++_, append-nil}
+use Prim.Native.Nat.{ℕ, suc, _+_, _≤_}
+use native.Mathlib.Omega.{arith}
+use lib.ListN.{length, getD, take, drop, set, replicate, length-append, drop-of-length-le}
+use lib.Seq.{take-append-seam}
+use Rattle.limits.specs.Limits.{maxHashed}
+use Rattle.buffer.specs.Splice.{spliced, putOf}
+use Rattle.buffer.proofs.Splice.{put-fits, spliced-more, length-spliced}
+use Rattle.sha256.specs.Sha256.{sha256, hashOf}
+use Rattle.sha256.specs.declared.Hashed.{Hashed}
+use Rattle.sha256.proofs.Laws.{hash-fine}
+use Rattle.merkle.specs.Tree.{nodeString}
+use Rattle.merkle.specs.Shares.{leafString}
+
+pub digest-of : (m : List ℕ) → length m ≤ maxHashed → hashOf m .digest ≡ sha256 m
+digest-of m h = ap (λ (r : Hashed). r .digest) (hash-fine m h)
+
+pub length-leafString : (j : ℕ) (s : List ℕ) → length (leafString j s) ≡ 2 + length s
+unfolding leafString
+length-leafString j s = omega arith
+
+pub leaf-written : (d : List ℕ) (j : ℕ) (s : List ℕ) → 2 + length s ≤ length d → getD d 0 0 ≡ 0
+    → take (length s + 2) (putOf (set d 1 j) 2 s) ≡ leafString j s
+unfolding spliced leafString
+leaf-written [] j s h z = absurd (omega arith)
+leaf-written (a ∷ []) j s h z = absurd (omega arith)
+leaf-written (a ∷ b ∷ d) j s h z =
+    let two : length s + 2 ≡ suc (suc (length s)) = omega arith in
+    ap₂ take two (put-fits (a ∷ j ∷ d) 2 s h)
+    ∙ ap₂ (λ (x : ℕ) (l : List ℕ). x ∷ j ∷ l) z (take-append-seam s (drop (2 + length s) (a ∷ j ∷ d)))
+
+pub node-written : (a b : List ℕ) → length a ≡ 32 → length b ≡ 32
+    → putOf (putOf (1 ∷ replicate 64 0) 1 a) 33 b ≡ nodeString a b
+unfolding spliced nodeString
+node-written a b ha hb =
+    let d : List ℕ = 1 ∷ replicate 64 0 in
+    let fits : 1 + length a ≤ length d = omega arith in
+    let at : 33 ≡ 1 + length a = omega arith in
+    let both : length (a ++ b) ≡ 64 = length-append a b ∙ omega arith in
+    let past : length d ≤ 1 + length (a ++ b) = omega arith in
+    ap (λ (l : List ℕ). putOf l 33 b) (put-fits d 1 a fits)
+    ∙ put-fits (spliced d 1 a) 33 b (omega (arith, length-spliced d 1 a fits))
+    ∙ ap (λ (k : ℕ). spliced (spliced d 1 a) k b) at
+    ∙ spliced-more d 1 a b fits
+    ∙ ap (λ (l : List ℕ). 1 ∷ ((a ++ b) ++ l)) (drop-of-length-le d past)
+    ∙ ap (λ (l : List ℕ). 1 ∷ l) (append-nil (a ++ b))
+
+pub length-nodeString : (a b : List ℕ) → length a ≡ 32 → length b ≡ 32 → length (nodeString a b) ≡ 65
+unfolding nodeString
+length-nodeString a b ha hb = omega (arith, length-append a b)

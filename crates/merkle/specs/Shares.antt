@@ -1,0 +1,102 @@
+-- The tree over the shares of a message, by SHA-256 (document 01, "Field, shares, tree"): leaf strings, root, audit path and path check.
+-- Assumes nothing.
+use mathlib.Core.Bool.{Bool, true, false, cond, not, _&&_, _||_}
+use mathlib.Core.List.{List, [], _∷_, _++_, map}
+use Prim.Native.Nat.{ℕ, zero, suc, _+_, _-_, _*_, _/_, _%_}
+use lib.Dec.{ltb, eqb}
+use lib.ListN.{length, take, drop, replicate}
+use Rattle.limits.specs.Limits.{maxParties, maxPath, maxHashed}
+use Rattle.buffer.specs.Splice.{tabulate}
+use Rattle.sha256.specs.Sha256.{sha256}
+use Rattle.merkle.specs.Tree.{Side, shape, sides, folded}
+use Rattle.merkle.specs.Strings.{checkStrings}
+use Rattle.merkle.specs.Hashes.{topHash, pathHashes}
+use Rattle.merkle.specs.declared.Counted.{Counted}
+use Rattle.merkle.specs.declared.Counted.the-variants as counted
+use Rattle.merkle.specs.declared.Checked.{Checked}
+use Rattle.merkle.specs.declared.Checked.the-variants as checked
+
+-- leaf string: 0x00, the share's number in one byte, the share
+unfoldable pub leafString : ℕ → List ℕ → List ℕ
+leafString j share = 0x00 ∷ j ∷ share
+
+-- the leaf strings of n shares of equal length that lie one behind the other
+unfoldable pub leafStrings : ℕ → List ℕ → List (List ℕ)
+leafStrings n shares = tabulate n (λ i. leafString (i + 1) (take (length shares / n) (drop (i * (length shares / n)) shares)))
+
+-- 32 zeros
+abbrev pub blank : List ℕ
+blank = replicate 32 0
+
+-- why n shares of len bytes together are not hashed: n out of its range (1), a leaf string that is too long to hash (4), no n equal
+-- shares (8); 0: they are
+unfoldable pub sharesCause : ℕ → ℕ → ℕ
+sharesCause n len =
+    cond (ltb n 1 || ltb maxParties n) 1
+    (cond (ltb maxHashed (2 + len / n)) 4
+    (cond (not (eqb (len % n) 0)) 8
+    0))
+
+-- the leaf hashes, and blanks up to the greatest number of parties; all blank where a cause applies
+unfoldable pub leavesOf : ℕ → List ℕ → List (List ℕ)
+leavesOf n shares =
+    cond (eqb (sharesCause n (length shares)) 0) (map sha256 (leafStrings n shares) ++ replicate (maxParties - n) blank)
+    (replicate maxParties blank)
+
+-- n is within its range
+abbrev pub parties : ℕ → Bool
+parties n = not (ltb n 1 || ltb maxParties n)
+
+-- j is the number of one of n parties
+abbrev pub numbered : ℕ → ℕ → Bool
+numbered n j = not (ltb j 1 || ltb n j)
+
+-- the root over the first n leaf hashes; blank where n is out of its range
+unfoldable pub rootOf : ℕ → List (List ℕ) → List ℕ
+rootOf n leaves = cond (parties n) (topHash sha256 (shape n) 0 leaves) blank
+
+-- the sides of the siblings of share j of n, from the leaf upward
+abbrev pub sidesOf : ℕ → ℕ → List Side
+sidesOf n j = sides (shape n) (j - 1)
+
+-- how many hashes the audit path of share j of n has: causes 1 and 3
+unfoldable pub pathLengthOf : ℕ → ℕ → Counted
+pathLengthOf n j =
+    cond (not (parties n)) (counted.Refused 1) (cond (not (numbered n j)) (counted.Refused 3) (counted.Hashes (length (sidesOf n j))))
+
+-- the audit path of share j, and blanks up to the greatest length of a path; all blank where n or j is out of its range
+unfoldable pub pathOf : ℕ → ℕ → List (List ℕ) → List (List ℕ)
+pathOf n j leaves =
+    cond (parties n && numbered n j)
+    (pathHashes sha256 (shape n) (j - 1) 0 leaves ++ replicate (maxPath - length (sidesOf n j)) blank)
+    (replicate maxPath blank)
+
+-- two lists are one
+unfoldable pub same : List ℕ → List ℕ → Bool
+same [] [] = true
+same [] (b ∷ bs) = false
+same (a ∷ as') [] = false
+same (a ∷ as') (b ∷ bs) = eqb a b && same as' bs
+
+-- the first `count` hashes of a path are as many as n and j give, and fold to the root
+unfoldable pub passes : ℕ → ℕ → List ℕ → List (List ℕ) → ℕ → List ℕ → Bool
+passes n j share path count root =
+    eqb count (length (sidesOf n j)) && same (folded sha256 (sidesOf n j) (take count path) (sha256 (leafString j share))) root
+
+-- the strings hashed in checking a path: none where its length is wrong
+unfoldable pub stringsOf : ℕ → ℕ → List ℕ → List (List ℕ) → ℕ → List (List ℕ)
+stringsOf n j share path count =
+    cond (eqb count (length (sidesOf n j))) (checkStrings sha256 (sidesOf n j) (take count path) (leafString j share)) []
+
+abbrev pub told : Bool → Checked
+told true = checked.Yes
+told false = checked.No
+
+-- the path check: causes 1, 3, 4 and 7, else yes or no
+unfoldable pub checkOf : ℕ → ℕ → List ℕ → List (List ℕ) → ℕ → List ℕ → Checked
+checkOf n j share path count root =
+    cond (not (parties n)) (checked.Refused 1)
+    (cond (not (numbered n j)) (checked.Refused 3)
+    (cond (ltb maxHashed (2 + length share)) (checked.Refused 4)
+    (cond (not (eqb (length root) 32)) (checked.Refused 7)
+    (told (passes n j share path count root)))))

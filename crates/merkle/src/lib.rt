@@ -1,0 +1,373 @@
+// The Merkle tree of RFC 6962 over the shares of a message: leaf hashes, root, audit path, and the check of a path.
+ghost use mathlib.Core.Path.{_≡_};
+ghost use mathlib.Core.Bool.{true, false};
+ghost use mathlib.Core.List.{List, _++_};
+ghost use Prim.Native.Nat.{ℕ, _+_, _-_, _*_, _≤_, _<_};
+ghost use lib.ListN.{length, getD, take, replicate};
+ghost use Rattle.limits.specs.Limits.{maxParties, maxPath, maxShare, maxHashed};
+ghost use Rattle.sha256.specs.Sha256.{sha256};
+ghost use Rattle.merkle.specs.Tree.{split, shape, sides, nodeString, folded};
+ghost use Rattle.merkle.specs.Hashes.{topHash, pathHashes};
+ghost use Rattle.merkle.specs.Shares.{leafString, blank, sharesCause, leavesOf, rootOf, pathLengthOf, pathOf, same, checkOf};
+ghost use Rattle.merkle.specs.Turns.{upward};
+use limits::MAX_HASHED;
+use limits::MAX_PARTIES;
+use limits::MAX_PATH;
+use limits::MAX_SHARE;
+
+// A SHA-256 hash.
+pub type Hash = [u8; 32];
+
+// How many hashes an audit path has.
+pub enum Counted {
+    // Turned away for this cause of document 01.
+    Refused(u8),
+    Hashes(usize),
+}
+
+// The answer of a path check.
+pub enum Checked {
+    // Turned away for this cause of document 01.
+    Refused(u8),
+    No,
+    Yes,
+}
+
+// Why n equal shares of `len` bytes together are not hashed: cause 1, 4 or 8, or 0.
+pub fn shares_cause(n: usize, len: usize) -> u8
+    ensures { λ r. ⌜ r ≡ sharesCause n len ⌝ }
+{
+    if n < 1 {
+        return 1;
+    }
+    if MAX_PARTIES < n {
+        return 1;
+    }
+    if MAX_HASHED - 2 < len / n {
+        return 4;
+    }
+    if len % n != 0 {
+        return 8;
+    }
+    0
+}
+
+// The leaf hashes of n shares that lie one behind the other. Blanks stand past them, and everywhere if there is a cause.
+pub fn leaves(n: usize, shares: &[u8]) -> [Hash; MAX_PARTIES]
+    ensures { λ r. ⌜ r ≡ leavesOf n (now (shares .entry)) ⌝ }
+{
+    let mut hashes = [[0u8; 32]; MAX_PARTIES];
+    if shares_cause(n, shares.len()) != 0 {
+        return hashes;
+    }
+    let s = shares.len() / n;
+    let mut at: usize = 0;
+    let mut j: usize = 0;
+    while j < n {
+        let next = at + s;
+        let hash = leaf_hash(j + 1, &shares[at..next]);
+        hashes[j] = hash;
+        at = next;
+        j += 1;
+    }
+    hashes
+}
+
+// The root over the first n leaf hashes; blank if n is out of its range.
+pub fn root(n: usize, leaves: &[Hash; MAX_PARTIES]) -> Hash
+    ensures { λ r. ⌜ r ≡ rootOf n (now (leaves .entry)) ⌝ }
+{
+    if n < 1 {
+        return [0; 32];
+    }
+    if MAX_PARTIES < n {
+        return [0; 32];
+    }
+    top_hash(leaves, 0, n)
+}
+
+// The length of the audit path of share j of n.
+pub fn path_length(n: usize, j: usize) -> Counted
+    ensures { λ r. ⌜ r ≡ pathLengthOf n j ⌝ }
+{
+    if n < 1 {
+        return Counted::Refused(1);
+    }
+    if MAX_PARTIES < n {
+        return Counted::Refused(1);
+    }
+    if j < 1 {
+        return Counted::Refused(3);
+    }
+    if n < j {
+        return Counted::Refused(3);
+    }
+    let way = way_down(n, j - 1);
+    Counted::Hashes(way.count)
+}
+
+// The audit path of share j, from the leaf upward. Blanks stand past it, and everywhere if n or j is out of its range.
+pub fn path(n: usize, j: usize, leaves: &[Hash; MAX_PARTIES]) -> [Hash; MAX_PATH]
+    ensures { λ r. ⌜ r ≡ pathOf n j (now (leaves .entry)) ⌝ }
+{
+    if n < 1 {
+        return [[0; 32]; MAX_PATH];
+    }
+    if MAX_PARTIES < n {
+        return [[0; 32]; MAX_PATH];
+    }
+    if j < 1 {
+        return [[0; 32]; MAX_PATH];
+    }
+    if n < j {
+        return [[0; 32]; MAX_PATH];
+    }
+    let way = way_down(n, j - 1);
+    siblings(leaves, n, j - 1, way.count)
+}
+
+// Whether the first `count` hashes of a path lead from share j of n to the root.
+pub fn check(
+    n: usize,
+    j: usize,
+    share: &[u8],
+    path: [Hash; MAX_PATH],
+    count: usize,
+    root: &[u8],
+) -> Checked
+    ensures { λ r. ⌜ r ≡ checkOf n j (now (share .entry)) path count (now (root .entry)) ⌝ }
+{
+    if n < 1 {
+        return Checked::Refused(1);
+    }
+    if MAX_PARTIES < n {
+        return Checked::Refused(1);
+    }
+    if j < 1 {
+        return Checked::Refused(3);
+    }
+    if n < j {
+        return Checked::Refused(3);
+    }
+    if MAX_HASHED - 2 < share.len() {
+        return Checked::Refused(4);
+    }
+    if root.len() != 32 {
+        return Checked::Refused(7);
+    }
+    let way = way_down(n, j - 1);
+    if count != way.count {
+        return Checked::No;
+    }
+    let leaf = leaf_hash(j, share);
+    let top = fold_path(way, path, leaf);
+    if equal(&top, root) {
+        return Checked::Yes;
+    }
+    Checked::No
+}
+
+// The hash of the leaf string of share j. The buffer is as long as a share of a message needs, unless the share is longer.
+fn leaf_hash(j: usize, share: &[u8]) -> Hash
+    requires { ⌜ (j < 256) × (2 + length (now share) ≤ maxHashed) ⌝ }
+    ensures { λ r. ⌜ r ≡ sha256 (leafString j (now (share .entry))) ⌝ }
+{
+    if MAX_SHARE < share.len() {
+        let mut wide = [0u8; MAX_HASHED];
+        return leaf_hash_in(&mut wide, j, share);
+    }
+    let mut narrow = [0u8; MAX_SHARE + 2];
+    leaf_hash_in(&mut narrow, j, share)
+}
+
+// The same, with the leaf string put together in a buffer of zeros.
+fn leaf_hash_in(buffer: &mut [u8], j: usize, share: &[u8]) -> Hash
+    requires { ⌜ (j < 256) × (2 + length (now share) ≤ maxHashed) × (2 + length (now share) ≤ length (now buffer))
+        × (getD (now buffer) 0 0 ≡ 0) ⌝ }
+    ensures { λ r. ⌜ r ≡ sha256 (leafString j (now (share .entry))) ⌝ }
+{
+    buffer[1] = (j % 256) as u8;
+    buffer::put(buffer, 2, share);
+    let end = share.len() + 2;
+    sha256::hash(&buffer[..end]).digest
+}
+
+// The hash of the node string of two hashes.
+fn node_hash(left: Hash, right: Hash) -> Hash
+    ensures { λ r. ⌜ r ≡ sha256 (nodeString left right) ⌝ }
+{
+    let mut string = [0u8; 65];
+    string[0] = 1;
+    buffer::put(&mut string, 1, &left);
+    buffer::put(&mut string, 33, &right);
+    sha256::hash(&string).digest
+}
+
+// The largest power of two smaller than n.
+fn split_of(n: usize) -> usize
+    requires { ⌜ (2 ≤ n) × (n ≤ maxParties) ⌝ }
+    ensures { λ r. ⌜ r ≡ split n ⌝ }
+{
+    let mut k: usize = 1;
+    while k * 2 < n {
+        k = k * 2;
+    }
+    k
+}
+
+// The root of the tree over n leaf hashes from place i on.
+fn top_hash(leaves: &[Hash; MAX_PARTIES], i: usize, n: usize) -> Hash
+    requires { ⌜ (1 ≤ n) × (i + n ≤ maxParties) ⌝ }
+    ensures { λ r. ⌜ r ≡ topHash sha256 (shape n) i (now (leaves .entry)) ⌝ }
+{
+    if n < 2 {
+        return leaves[i];
+    }
+    let k = split_of(n);
+    let left = top_hash(leaves, i, k);
+    let right = top_hash(leaves, i + k, n - k);
+    node_hash(left, right)
+}
+
+// The half of a tree that holds a leaf, and the other half: their first leaves, their numbers of leaves, and the leaf's place in its half.
+struct Halves {
+    first: usize,
+    width: usize,
+    at: usize,
+    other: usize,
+    others: usize,
+    right: bool,
+}
+
+// The halves of the tree over `width` leaves from `first` on, for its leaf `at`.
+fn halve(first: usize, width: usize, at: usize) -> Halves
+    requires { ⌜ (2 ≤ width) × (first + width ≤ maxParties) × (at < width) ⌝ }
+    ensures { λ r. ⌜ (at < split width → r ≡ record {
+      first = first;
+      width = split width;
+      at = at;
+      other = first + split width;
+      others = width - split width;
+      right = true;
+    })
+        × (split width ≤ at → r ≡ record {
+          first = first + split width;
+          width = width - split width;
+          at = at - split width;
+          other = first;
+          others = split width;
+          right = false;
+        }) ⌝ }
+{
+    let k = split_of(width);
+    if at < k {
+        return Halves {
+            first,
+            width: k,
+            at,
+            other: first + k,
+            others: width - k,
+            right: true,
+        };
+    }
+    Halves {
+        first: first + k,
+        width: width - k,
+        at: at - k,
+        other: first,
+        others: k,
+        right: false,
+    }
+}
+
+// The way from the root down to a leaf: its length, and at each node whether the sibling stands on the right.
+struct Turns {
+    count: usize,
+    right: [bool; MAX_PATH],
+}
+
+// The way down to leaf m of n.
+fn way_down(n: usize, m: usize) -> Turns
+    requires { ⌜ (n ≤ maxParties) × (m < n) ⌝ }
+    ensures { λ r. ⌜ (r .count ≤ maxPath) × (r .count ≡ length (sides (shape n) m)) × (upward (take (r .count) (r .right)) ≡ sides (shape n) m) ⌝ }
+{
+    let mut right = [false; MAX_PATH];
+    let mut count: usize = 0;
+    let mut first: usize = 0;
+    let mut width = n;
+    let mut at = m;
+    while 1 < width {
+        let halves = halve(first, width, at);
+        right[count] = halves.right;
+        count += 1;
+        first = halves.first;
+        width = halves.width;
+        at = halves.at;
+    }
+    Turns { count, right }
+}
+
+// The roots of the other halves on the way to leaf m of n, from the leaf upward; `count` is the length of that way.
+fn siblings(leaves: &[Hash; MAX_PARTIES], n: usize, m: usize, count: usize) -> [Hash; MAX_PATH]
+    requires { ⌜ (n ≤ maxParties) × (m < n) × (count ≡ length (sides (shape n) m)) × (count ≤ maxPath) ⌝ }
+    ensures { λ r. ⌜ r ≡ pathHashes sha256 (shape n) m 0 (now (leaves .entry)) ++ replicate (maxPath - count) blank ⌝ }
+{
+    let mut path = [[0u8; 32]; MAX_PATH];
+    let mut left = count;
+    let mut first: usize = 0;
+    let mut width = n;
+    let mut at = m;
+    while 1 < width {
+        let halves = halve(first, width, at);
+        left -= 1;
+        let hash = top_hash(leaves, halves.other, halves.others);
+        path[left] = hash;
+        first = halves.first;
+        width = halves.width;
+        at = halves.at;
+    }
+    path
+}
+
+// The hash that a path leads to from a leaf's hash, upward.
+fn fold_path(way: Turns, path: [Hash; MAX_PATH], leaf: Hash) -> Hash
+    requires { ⌜ way .count ≤ maxPath ⌝ }
+    ensures { λ r. ⌜ r ≡ folded sha256 (upward (take (way .count) (way .right))) (take (way .count) path) leaf ⌝ }
+{
+    let count = way.count;
+    let right = way.right;
+    let mut hash = leaf;
+    let mut d: usize = 0;
+    while d < count {
+        let up = count - d - 1;
+        let next = step(right[up], hash, path[d]);
+        hash = next;
+        d += 1;
+    }
+    hash
+}
+
+// The hash of a hash and its sibling.
+fn step(right: bool, hash: Hash, sibling: Hash) -> Hash
+    ensures { λ r. ⌜ (right ≡ true → r ≡ sha256 (nodeString hash sibling)) × (right ≡ false → r ≡ sha256 (nodeString sibling hash)) ⌝ }
+{
+    if right {
+        return node_hash(hash, sibling);
+    }
+    node_hash(sibling, hash)
+}
+
+// Whether a hash is the bytes of a slice of as many.
+fn equal(hash: &Hash, other: &[u8]) -> bool
+    requires { ⌜ (length (now hash) ≡ 32) × (length (now other) ≡ 32) ⌝ }
+    ensures { λ r. ⌜ r ≡ same (now (hash .entry)) (now (other .entry)) ⌝ }
+{
+    let mut i: usize = 0;
+    while i < 32 {
+        if hash[i] != other[i] {
+            return false;
+        }
+        i += 1;
+    }
+    true
+}
