@@ -1,9 +1,11 @@
-//! A reference for the field, the coder, the hash and the tree, written from the scope
-//! document and the public standards alone, against which the proved implementation is
-//! compared.
+//! A reference for the field, the coder, the hash, the tree and the packets, written from
+//! the scope document and the public standards alone, against which the proved
+//! implementation is compared.
 
 pub mod coder;
 pub mod field;
+pub mod inbox;
+pub mod packet;
 pub mod random;
 pub mod sha256;
 pub mod tree;
