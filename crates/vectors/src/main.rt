@@ -9,63 +9,20 @@
 // and its value (4: cause, length needed or bytes written), the input, and after answer 2 the bytes written.
 // What breaks this, ends early or does not fit the buffers here is reported as a broken stream.
 use buffer::Written;
-
-// The descriptors of standard input and output.
-const IN: i32 = 0;
-
-const OUT: i32 = 1;
+use stream::MAX_CASES;
+use stream::Next;
+use stream::Tally;
 
 // The greatest lengths of an input and of an out buffer.
 const MAX_INPUT: usize = 70_000;
 
 const MAX_ROOM: usize = 20_000;
 
-// The loop over cases needs a bound; a stream with more of them counts as broken.
-const MAX_CASES: usize = 1_000_000;
-
 // The number of kinds of cases, numbered from 1.
 const KINDS: usize = 5;
 
 // The value of each byte of out before a call.
 const UNTOUCHED: u8 = 0xA5;
-
-// The cases of one kind: how many agreed and failed, the running number of the first that failed, and whether one was broken off.
-struct Tally {
-    agreed: u64,
-    failed: u64,
-    first: u64,
-    broken: bool,
-}
-
-impl Tally {
-    fn none() -> Tally {
-        Tally {
-            agreed: 0,
-            failed: 0,
-            first: 0,
-            broken: false,
-        }
-    }
-
-    // With one more case. Before the first that failed all agreed, so its number follows theirs.
-    fn counted(mut self, good: bool) -> Tally {
-        if good {
-            self.agreed = std::num::wrapping_add_u64(self.agreed, 1);
-            return self;
-        }
-        self.failed = std::num::wrapping_add_u64(self.failed, 1);
-        if self.first == 0 {
-            self.first = std::num::wrapping_add_u64(self.agreed, 1);
-        }
-        self
-    }
-
-    // With a case that the stream does not give as it should.
-    fn cut(mut self) -> Tally {
-        self.broken = true;
-        self
-    }
-}
 
 // What came of a stream: a tally for each kind, and whether the stream was whole.
 struct Outcome {
@@ -77,11 +34,8 @@ fn main() {
     let mut input = [0u8; MAX_INPUT];
     let mut expected = [0u8; MAX_ROOM];
     let mut out = [0u8; MAX_ROOM];
-    let Outcome { tallies, whole } = run(&mut input, &mut expected, &mut out);
-    print_tallies(tallies);
-    if !whole {
-        io::write_all(OUT, b"broken stream\n");
-    }
+    let outcome = run(&mut input, &mut expected, &mut out);
+    print(outcome);
 }
 
 // Runs all cases.
@@ -90,16 +44,9 @@ fn run(input: &mut [u8], expected: &mut [u8], out: &mut [u8]) -> Outcome {
     let mut left: usize = MAX_CASES;
     while left > 0 {
         left -= 1;
-        let kind = read_kind();
+        let Next { kind, whole } = stream::read_kind(KINDS);
         if kind == 0 {
-            let whole = at_end();
             return Outcome { tallies, whole };
-        }
-        if KINDS < kind {
-            return Outcome {
-                tallies,
-                whole: false,
-            };
         }
         let tally = run_case(kind, tallies[kind - 1], input, expected, out);
         tallies[kind - 1] = tally;
@@ -114,21 +61,6 @@ fn run(input: &mut [u8], expected: &mut [u8], out: &mut [u8]) -> Outcome {
         tallies,
         whole: false,
     }
-}
-
-// The kind of the next case, or an unknown one where the input has ended.
-fn read_kind() -> usize {
-    let mut byte = [0u8; 1];
-    if io::read_full(IN, &mut byte) < 1 {
-        return KINDS + 1;
-    }
-    wide(byte[0])
-}
-
-// Whether the input has no more bytes.
-fn at_end() -> bool {
-    let mut byte = [0u8; 1];
-    io::read_full(IN, &mut byte) == 0
 }
 
 // Runs one case of a kind, and counts it.
@@ -154,7 +86,7 @@ fn run_case(
 // The products of one byte, each a case of its own.
 fn products(tally: Tally) -> Tally {
     let mut bytes = [0u8; 257];
-    if io::read_full(IN, &mut bytes) < 257 {
+    if !stream::read(&mut bytes) {
         return tally.cut();
     }
     count_products(tally, &bytes)
@@ -175,7 +107,7 @@ fn count_products(tally: Tally, bytes: &[u8; 257]) -> Tally {
 // The inverses, each a case of its own.
 fn inverses(tally: Tally) -> Tally {
     let mut bytes = [0u8; 256];
-    if io::read_full(IN, &mut bytes) < 256 {
+    if !stream::read(&mut bytes) {
         return tally.cut();
     }
     count_inverses(tally, &bytes)
@@ -194,10 +126,10 @@ fn count_inverses(tally: Tally, bytes: &[u8; 256]) -> Tally {
 // One power.
 fn power(tally: Tally) -> Tally {
     let mut bytes = [0u8; 10];
-    if io::read_full(IN, &mut bytes) < 10 {
+    if !stream::read(&mut bytes) {
         return tally.cut();
     }
-    let k = number(&bytes[1..9]);
+    let k = stream::number(&bytes[1..9]);
     tally.counted(gf256::pow(bytes[0], k) == bytes[9])
 }
 
@@ -214,12 +146,12 @@ struct Head {
 impl Head {
     fn of(bytes: [u8; 17]) -> Head {
         Head {
-            n: number(&bytes[0..2]),
-            t: number(&bytes[2..4]),
-            len: number(&bytes[4..8]),
-            room: number(&bytes[8..12]),
-            answer: number(&bytes[12..13]),
-            value: number(&bytes[13..17]),
+            n: stream::number(&bytes[0..2]),
+            t: stream::number(&bytes[2..4]),
+            len: stream::number(&bytes[4..8]),
+            room: stream::number(&bytes[8..12]),
+            answer: stream::number(&bytes[12..13]),
+            value: stream::number(&bytes[13..17]),
         }
     }
 
@@ -238,13 +170,12 @@ fn coding(
     out: &mut [u8],
 ) -> Tally {
     let mut bytes = [0u8; 17];
-    if io::read_full(IN, &mut bytes) < 17 {
+    if !stream::read(&mut bytes) {
         return tally.cut();
     }
     let head = Head::of(bytes);
     let len = head.len;
     let room = head.room;
-    let written = head.written();
     if 2 < head.answer {
         return tally.cut();
     }
@@ -254,7 +185,7 @@ fn coding(
     if out.len() < room {
         return tally.cut();
     }
-    if expected.len() < written {
+    if expected.len() < room {
         return tally.cut();
     }
     run_call(
@@ -262,12 +193,12 @@ fn coding(
         tally,
         head,
         &mut input[..len],
-        &mut expected[..written],
+        &mut expected[..room],
         &mut out[..room],
     )
 }
 
-// The same with buffers of the lengths that the head gives.
+// The same with buffers of the lengths that the head gives. Past the bytes that the call is to write, out is to be left as it was.
 fn run_call(
     encodes: bool,
     tally: Tally,
@@ -276,10 +207,15 @@ fn run_call(
     expected: &mut [u8],
     out: &mut [u8],
 ) -> Tally {
-    if io::read_full(IN, input) < input.len() {
+    let written = head.written();
+    if expected.len() < written {
         return tally.cut();
     }
-    if io::read_full(IN, expected) < expected.len() {
+    fill(expected);
+    if !stream::read(input) {
+        return tally.cut();
+    }
+    if !stream::read(&mut expected[..written]) {
         return tally.cut();
     }
     tally.counted(agrees(encodes, head, input, expected, out))
@@ -289,11 +225,7 @@ fn run_call(
 fn agrees(encodes: bool, head: Head, input: &[u8], expected: &[u8], out: &mut [u8]) -> bool {
     fill(out);
     let got = call(encodes, head.n, head.t, input, out);
-    if same_answer(got, head.answer, head.value) {
-        left_as(out, expected)
-    } else {
-        false
-    }
+    same_answer(got, head.answer, head.value) && check::same(out, expected)
 }
 
 // The call itself.
@@ -308,7 +240,7 @@ fn call(encodes: bool, n: usize, t: usize, input: &[u8], out: &mut [u8]) -> Writ
 // Whether what a call gave is this answer with this value.
 fn same_answer(got: Written, answer: usize, value: usize) -> bool {
     match got {
-        Written::Refused(cause) => answer == 0 && value == wide(cause),
+        Written::Refused(cause) => answer == 0 && value == stream::wide(cause),
         Written::Short(length) => answer == 1 && value == length,
         Written::Done(length) => answer == 2 && value == length,
     }
@@ -322,76 +254,13 @@ fn fill(out: &mut [u8]) {
     }
 }
 
-// Whether out starts with what was expected, and is untouched past it.
-fn left_as(out: &[u8], expected: &[u8]) -> bool {
-    if out.len() < expected.len() {
-        return false;
-    }
-    let mut i = 0;
-    while i < out.len() {
-        let byte = if i < expected.len() {
-            expected[i]
-        } else {
-            UNTOUCHED
-        };
-        if out[i] != byte {
-            return false;
-        }
-        i += 1;
-    }
-    true
-}
-
-// The number that up to eight bytes spell.
-fn number(bytes: &[u8]) -> usize {
-    let mut value: usize = 0;
-    let mut i = 0;
-    while i < bytes.len() {
-        value = value << 8 | wide(bytes[i]);
-        i += 1;
-    }
-    value
-}
-
-fn wide(x: u8) -> usize {
-    x as usize
-}
-
-// A line for each kind, and one with the number of all that failed.
-fn print_tallies(tallies: [Tally; KINDS]) {
-    let mut failed: u64 = 0;
-    let mut i: usize = 0;
-    while i < KINDS {
-        let tally = tallies[i];
-        i += 1;
-        print_tally(i, tally);
-        failed = std::num::wrapping_add_u64(failed, tally.failed);
-    }
-    print_line(b"failed ", failed);
-}
-
-// How many cases agreed, and, if any failed, which was the first.
-fn print_tally(kind: usize, tally: Tally) {
-    print_kind(kind);
-    print_line(b" ", tally.agreed);
-    if tally.failed != 0 {
-        print_kind(kind);
-        print_line(b" failed first at case ", tally.first);
-    }
-}
-
-fn print_kind(kind: usize) -> bool {
-    match kind {
-        1 => io::write_all(OUT, b"products"),
-        2 => io::write_all(OUT, b"inverses"),
-        3 => io::write_all(OUT, b"powers"),
-        4 => io::write_all(OUT, b"encode"),
-        _ => io::write_all(OUT, b"rebuild"),
-    }
-}
-
-fn print_line(before: &[u8], value: u64) {
-    io::write_all(OUT, before);
-    io::print_decimal(OUT, value);
-    io::write_all(OUT, b"\n");
+// A line for each kind, and the end.
+fn print(outcome: Outcome) {
+    let tallies = outcome.tallies;
+    let mut failed = stream::print_tally(b"products", tallies[0], 0);
+    failed = stream::print_tally(b"inverses", tallies[1], failed);
+    failed = stream::print_tally(b"powers", tallies[2], failed);
+    failed = stream::print_tally(b"encode", tallies[3], failed);
+    failed = stream::print_tally(b"rebuild", tallies[4], failed);
+    stream::print_end(failed, outcome.whole);
 }

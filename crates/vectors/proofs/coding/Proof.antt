@@ -1,15 +1,15 @@
 -- `vectors::coding` is safe: each part of a buffer that it lends has the length that was compared with the buffer's. Assumes nothing.
-use native.Mathlib.Omega.{arith}
 use lib.ListN.{length-take}
+use native.Mathlib.Omega.{arith}
 use borrow.Author.Needs.{needs}
 use Rattle.vectors.proofs.coding.Statement.{statement}
 use Rattle.vectors.proofs.coding.Tie as tie
 
-slice-aggregate-read-full : tie.Need-slice-aggregate-read-full
-slice-aggregate-read-full c = search needs
+slice-aggregate-read : tie.Need-slice-aggregate-read
+slice-aggregate-read c = search needs
 
-read-full-requires : tie.Need-read-full-requires
-read-full-requires c κs = search needs
+read-requires : tie.Need-read-requires
+read-requires c κs = search needs
 
 cut-requires : tie.Need-cut-requires
 cut-requires c κs = search needs
@@ -19,9 +19,6 @@ returns c = search needs
 
 of-requires : tie.Need-of-requires
 of-requires c κs = search needs
-
-written-requires : tie.Need-written-requires
-written-requires c κs = search needs
 
 cut-requires-2 : tie.Need-cut-requires-2
 cut-requires-2 c κs = search needs
@@ -84,12 +81,11 @@ pub coding-spec : {M : Type 1} → statement M
 coding-spec =
     tie.close
     (tie.spec
-    slice-aggregate-read-full
-    read-full-requires
+    slice-aggregate-read
+    read-requires
     cut-requires
     returns
     of-requires
-    written-requires
     cut-requires-2
     returns-2
     cut-requires-3

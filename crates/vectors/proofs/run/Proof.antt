@@ -1,7 +1,7 @@
 -- `vectors::run` is safe and ends: the measure is the number of cases that are left to the budget, and the buffers keep their lengths. Assumes nothing.
-use borrow.Author.Needs.{needs}
 use mathlib.Core.Path.{_≡_}
 use lib.ListN.{length}
+use borrow.Author.Needs.{needs}
 use Rattle.vectors.proofs.run.Statement.{statement}
 use Rattle.vectors.proofs.run.Tie as tie
 
@@ -23,9 +23,6 @@ sub-left c = search needs
 read-kind-requires : tie.Need-read-kind-requires Inv-loop μ-loop
 read-kind-requires c κs = search needs
 
-at-end-requires : tie.Need-at-end-requires Inv-loop μ-loop
-at-end-requires c κs = search needs
-
 same-length : tie.Need-same-length Inv-loop μ-loop
 same-length c = search needs
 
@@ -37,18 +34,6 @@ same-length-3 c = search needs
 
 returns : tie.Need-returns Inv-loop μ-loop
 returns c = search needs
-
-same-length-4 : tie.Need-same-length-4 Inv-loop μ-loop
-same-length-4 c = search needs
-
-same-length-5 : tie.Need-same-length-5 Inv-loop μ-loop
-same-length-5 c = search needs
-
-same-length-6 : tie.Need-same-length-6 Inv-loop μ-loop
-same-length-6 c = search needs
-
-returns-2 : tie.Need-returns-2 Inv-loop μ-loop
-returns-2 c = search needs
 
 sub-run-case : tie.Need-sub-run-case Inv-loop μ-loop
 sub-run-case c = search needs
@@ -71,6 +56,24 @@ mul-tallies c = search needs
 array-set-from-tallies : tie.Need-array-set-from-tallies Inv-loop μ-loop
 array-set-from-tallies c = search needs
 
+same-length-4 : tie.Need-same-length-4 Inv-loop μ-loop
+same-length-4 c = search needs
+
+same-length-5 : tie.Need-same-length-5 Inv-loop μ-loop
+same-length-5 c = search needs
+
+same-length-6 : tie.Need-same-length-6 Inv-loop μ-loop
+same-length-6 c = search needs
+
+returns-2 : tie.Need-returns-2 Inv-loop μ-loop
+returns-2 c = search needs
+
+loop-less : tie.Need-loop-less Inv-loop μ-loop
+loop-less c = search needs
+
+loop-again : tie.Need-loop-again Inv-loop μ-loop
+loop-again c = search needs
+
 same-length-7 : tie.Need-same-length-7 Inv-loop μ-loop
 same-length-7 c = search needs
 
@@ -83,24 +86,6 @@ same-length-9 c = search needs
 returns-3 : tie.Need-returns-3 Inv-loop μ-loop
 returns-3 c = search needs
 
-loop-less : tie.Need-loop-less Inv-loop μ-loop
-loop-less c = search needs
-
-loop-again : tie.Need-loop-again Inv-loop μ-loop
-loop-again c = search needs
-
-same-length-10 : tie.Need-same-length-10 Inv-loop μ-loop
-same-length-10 c = search needs
-
-same-length-11 : tie.Need-same-length-11 Inv-loop μ-loop
-same-length-11 c = search needs
-
-same-length-12 : tie.Need-same-length-12 Inv-loop μ-loop
-same-length-12 c = search needs
-
-returns-4 : tie.Need-returns-4 Inv-loop μ-loop
-returns-4 c = search needs
-
 pub run-spec : {M : Type 1} → statement M
 run-spec =
     tie.close
@@ -111,15 +96,10 @@ run-spec =
     loop-holds
     sub-left
     read-kind-requires
-    at-end-requires
     same-length
     same-length-2
     same-length-3
     returns
-    same-length-4
-    same-length-5
-    same-length-6
-    returns-2
     sub-run-case
     mul-run-case
     array-copy-out-run-case
@@ -127,13 +107,13 @@ run-spec =
     sub-tallies
     mul-tallies
     array-set-from-tallies
+    same-length-4
+    same-length-5
+    same-length-6
+    returns-2
+    loop-less
+    loop-again
     same-length-7
     same-length-8
     same-length-9
-    returns-3
-    loop-less
-    loop-again
-    same-length-10
-    same-length-11
-    same-length-12
-    returns-4)
+    returns-3)

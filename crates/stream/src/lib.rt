@@ -1,0 +1,163 @@
+// What the programs that run test vectors share: they read a stream of cases from standard input, count them and print the counts.
+//
+// No contract can say what is read or written.
+ghost use mathlib.Core.Path.{_≡_};
+ghost use mathlib.Core.Bool.{true, false, _&&_};
+ghost use Prim.Native.Nat.{_≤_, _<_};
+ghost use lib.Dec.{eqb};
+ghost use lib.ListN.{length};
+ghost use Rattle.stream.specs.Number.{spelled};
+ghost use Rattle.stream.specs.Tally.{_⊞_, countedOf, cutOf};
+use std::num::wrapping_add_u64;
+
+// The descriptors of standard input and output.
+const IN: i32 = 0;
+
+const OUT: i32 = 1;
+
+// A program's loop over cases needs a bound; a stream with more of them counts as broken.
+pub const MAX_CASES: usize = 1_000_000;
+
+// The numbers below this have room for one more byte behind them.
+const ROOMY: usize = 1 << 56;
+
+// The cases of one kind: how many agreed and failed, the running number of the first that failed, and whether one was broken off.
+pub struct Tally {
+    pub agreed: u64,
+    pub failed: u64,
+    pub first: u64,
+    pub broken: bool,
+}
+
+impl Tally {
+    pub fn none() -> Tally
+        ensures { λ r. ⌜ r ≡ record { agreed = 0; failed = 0; first = 0; broken = false } ⌝ }
+    {
+        Tally {
+            agreed: 0,
+            failed: 0,
+            first: 0,
+            broken: false,
+        }
+    }
+
+    // With one more case. Before the first that failed all agreed, so its number follows theirs.
+    pub fn counted(self, good: bool) -> Tally
+        ensures { λ r. ⌜ r ≡ countedOf self good ⌝ }
+    {
+        let mut tally = self;
+        if good {
+            tally.agreed = wrapping_add_u64(self.agreed, 1);
+            return tally;
+        }
+        tally.failed = wrapping_add_u64(self.failed, 1);
+        if self.first == 0 {
+            tally.first = wrapping_add_u64(self.agreed, 1);
+        }
+        tally
+    }
+
+    // With a case that the stream does not give as it should.
+    pub fn cut(self) -> Tally
+        ensures { λ r. ⌜ r ≡ cutOf self ⌝ }
+    {
+        let mut tally = self;
+        tally.broken = true;
+        tally
+    }
+}
+
+// The kind of the next case. 0: there is none, and `whole` tells whether the stream ended there as it should.
+pub struct Next {
+    pub kind: usize,
+    pub whole: bool,
+}
+
+// Reads the byte that each case starts with. Kinds are numbered from 1; byte 0 stands at the end, with nothing after it.
+pub fn read_kind(kinds: usize) -> Next
+    ensures { λ r. ⌜ (r .kind ≤ kinds) × (0 < r .kind → r .whole ≡ true) ⌝ }
+{
+    let mut byte = [0u8; 1];
+    if !read(&mut byte) {
+        return Next {
+            kind: 0,
+            whole: false,
+        };
+    }
+    let kind = wide(byte[0]);
+    if kind == 0 {
+        let whole = at_end();
+        return Next { kind: 0, whole };
+    }
+    if kinds < kind {
+        return Next {
+            kind: 0,
+            whole: false,
+        };
+    }
+    Next { kind, whole: true }
+}
+
+// Whether the input has no more bytes.
+fn at_end() -> bool {
+    let mut byte = [0u8; 1];
+    io::read_full(IN, &mut byte) == 0
+}
+
+// Fills a buffer from the stream; tells whether the stream had as many bytes.
+pub fn read(buffer: &mut [u8]) -> bool
+    ensures { λ _. ⌜ length (now (buffer .exit)) ≡ length (now (buffer .entry)) ⌝ }
+{
+    let got = io::read_full(IN, buffer);
+    got == buffer.len()
+}
+
+// The number that bytes spell, the first the highest, modulo 2^64.
+pub fn number(bytes: &[u8]) -> usize
+    ensures { λ r. ⌜ r ≡ spelled (now (bytes .entry)) ⌝ }
+{
+    let mut value: usize = 0;
+    let mut i: usize = 0;
+    while i < bytes.len() {
+        let byte = wide(bytes[i]);
+        value = value % ROOMY * 256 + byte;
+        i += 1;
+    }
+    value
+}
+
+pub fn wide(x: u8) -> usize
+    ensures { λ r. ⌜ (r ≡ x) × (r < 256) ⌝ }
+{
+    x as usize
+}
+
+// Prints how many cases of a kind agreed and, if any failed, which was the first. Gives a number of failed cases with those of this kind.
+pub fn print_tally(name: &[u8], tally: Tally, failed: u64) -> u64
+    ensures { λ r. ⌜ r ≡ failed ⊞ tally .failed ⌝ }
+{
+    io::write_all(OUT, name);
+    print_line(b" ", tally.agreed);
+    if tally.failed != 0 {
+        io::write_all(OUT, name);
+        print_line(b" failed first at case ", tally.first);
+    }
+    wrapping_add_u64(failed, tally.failed)
+}
+
+// Prints how many cases failed, and whether the stream was broken. Tells whether all was well.
+pub fn print_end(failed: u64, whole: bool) -> bool
+    ensures { λ r. ⌜ r ≡ (eqb failed 0 && whole) ⌝ }
+{
+    print_line(b"failed ", failed);
+    if !whole {
+        io::write_all(OUT, b"broken stream\n");
+    }
+    failed == 0 && whole
+}
+
+fn print_line(before: &[u8], value: u64) {
+    io::write_all(OUT, before);
+    io::print_decimal(OUT, value);
+    io::write_all(OUT, b"\n");
+}
