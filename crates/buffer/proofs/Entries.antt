@@ -77,3 +77,8 @@ module _ (m n at : ℕ) (s : List ℕ) (e : n ≡ suc m) where
   pub bodies-more : bodies n (drop at s) ≡ take (size (drop at s)) (drop (at + 2) s) ∷ bodies m (drop (at + 2 + size (drop at s)) s)
   unfolding bodies
   bodies-more = simp (e, body-drop, rest-drop)
+
+pub length-bodies : (n : ℕ) (s : List ℕ) → length (bodies n s) ≡ n
+unfolding bodies
+length-bodies zero s = refl
+length-bodies (suc n) s = ap suc (length-bodies n (rest s))

@@ -17,7 +17,7 @@ use Rattle.limits.specs.Limits.{maxParties}
 use Rattle.gf256.specs.Field.{product}
 use Rattle.polynomial.specs.Polynomial.{value, sum}
 use Rattle.polynomial.proofs.Value.{value-cong}
-use Rattle.erasure.specs.Bounds.{Bytes}
+use Rattle.buffer.specs.Bounds.{Bytes}
 use Rattle.erasure.specs.Bytes.{bytes}
 use Rattle.erasure.specs.Coding.{shareLength, frame, block, shareByte, shareOf, share, shares}
 use Rattle.erasure.specs.Arrays.{sharesOf, combined, cell}

@@ -12,12 +12,13 @@ use lib.Seq.{length-take-le}
 use Rattle.limits.specs.Limits.{maxMessage, groupCause}
 use Rattle.limits.proofs.Group.{group-of}
 use Rattle.buffer.specs.Splice.{tabulate}
+use Rattle.buffer.proofs.Entries.{length-bodies}
 use Rattle.buffer.specs.Entries.{fills, bodies}
 use Rattle.buffer.proofs.Tabulate.{tabulate-cong, tabulate-getD}
 use Rattle.polynomial.specs.Polynomial.{through}
 use Rattle.polynomial.proofs.Interpolation.{through-cong}
 use Rattle.erasure.specs.Bytes.{bytes}
-use Rattle.erasure.specs.Bounds.{Bytes}
+use Rattle.buffer.specs.Bounds.{Bytes}
 use Rattle.buffer.specs.Given.{written}
 use Rattle.erasure.specs.Coding.{shareLength, frame, share}
 use Rattle.erasure.specs.Rebuild.{Point, present, point, framed, unframed, joined, recovered, answered, rebuildOf}
@@ -26,7 +27,7 @@ use Rattle.erasure.proofs.Field.{byte-recovers}
 use Rattle.erasure.proofs.Other.{other-none}
 use Rattle.erasure.proofs.Outcomes.{rebuild-answered}
 use Rattle.erasure.proofs.Frame.{share-positive, length-frame, frame-bytes, length-share, getD-share, unframed-frame}
-use Rattle.erasure.proofs.Present.{number-lt, number-distinct, point-used, length-bodies}
+use Rattle.erasure.proofs.Present.{number-lt, number-distinct, point-used}
 
 module _ (b : ℕ) (m : List ℕ) (es : List (List ℕ)) (low : 1 ≤ b) (few : length es < 256) (small : Bytes m)
     (short : length m ≤ maxMessage) (enough : b ≤ length (present 1 es))

@@ -17,7 +17,7 @@ use Rattle.buffer.proofs.Tabulate.{length-tabulate, getD-tabulate}
 use Rattle.polynomial.specs.Polynomial.{value}
 use Rattle.polynomial.proofs.Value.{value-cong}
 use Rattle.erasure.specs.Bytes.{bytes}
-use Rattle.erasure.specs.Bounds.{Bytes}
+use Rattle.buffer.specs.Bounds.{Bytes}
 use Rattle.erasure.specs.Coding.{shareLength, headed, frame, block, shareByte, shareOf, share}
 use Rattle.erasure.specs.Rebuild.{other, unframed, cause, message}
 use Rattle.erasure.proofs.Other.{other-none, none-other}

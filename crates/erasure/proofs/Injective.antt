@@ -10,7 +10,7 @@ use lib.Seq.{ext-getD}
 use Rattle.limits.specs.Limits.{maxMessage}
 use Rattle.polynomial.specs.Polynomial.{value}
 use Rattle.erasure.specs.Bytes.{bytes}
-use Rattle.erasure.specs.Bounds.{Bytes}
+use Rattle.buffer.specs.Bounds.{Bytes}
 use Rattle.erasure.specs.Coding.{shareLength, frame, share}
 use Rattle.erasure.specs.Rebuild.{unframed, message}
 use Rattle.erasure.proofs.Field.{byte-unique}

@@ -10,7 +10,7 @@ use Rattle.limits.specs.Limits.{maxMessage}
 use Rattle.gf256.specs.Field.{timesX, product}
 use Rattle.buffer.specs.Splice.{tabulate}
 use Rattle.polynomial.specs.Polynomial.{sum, pow, value}
-use Rattle.erasure.specs.Bounds.{Bytes}
+use Rattle.buffer.specs.Bounds.{Bytes}
 use Rattle.erasure.specs.Coding.{shareLength, headed, frame, block, shareByte, shareOf, share}
 use Rattle.erasure.specs.Rebuild.{point, present, recovered, Recovered, message}
 use Rattle.erasure.proofs.Complete.{complete}

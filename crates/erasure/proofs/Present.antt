@@ -12,7 +12,7 @@ use lib.ListN.{length, getD, take, drop, length-take, List·getD-eq-default}
 use lib.Seq.{getD-take, getD-drop}
 use Rattle.buffer.specs.Entries.{size, body, rest, bodies}
 use Rattle.polynomial.specs.Polynomial.{Distinct}
-use Rattle.erasure.specs.Bounds.{Bytes}
+use Rattle.buffer.specs.Bounds.{Bytes}
 use Rattle.erasure.specs.Rebuild.{Point, present, point}
 
 -- points ps taken in order from the entries es, which are numbered from j on
@@ -116,11 +116,6 @@ unfolding point
 point-used b ps i h = getD-take b ps i _ h
 
 -- entries that lie one behind the other in a list
-
-pub length-bodies : (n : ℕ) (l : List ℕ) → length (bodies n l) ≡ n
-unfolding bodies
-length-bodies zero l = refl
-length-bodies (suc n) l = ap suc (length-bodies n (rest l))
 
 drop-bytes : (n : ℕ) (l : List ℕ) → Bytes l → Bytes (drop n l)
 drop-bytes n l h i = subst (λ (x : ℕ). x < 256) (sym (getD-drop n l i 0)) (h (n + i))

@@ -14,12 +14,13 @@ use lib.Seq.{ext-getD, length-take-le}
 use Rattle.limits.specs.Limits.{maxMessage, groupCause}
 use Rattle.limits.proofs.Group.{group-of}
 use Rattle.buffer.specs.Splice.{spliced}
+use Rattle.buffer.proofs.Entries.{length-bodies}
 use Rattle.buffer.specs.Entries.{fills, bodies}
 use Rattle.buffer.proofs.Tabulate.{length-tabulate, getD-tabulate}
 use Rattle.polynomial.specs.Polynomial.{Distinct, through}
 use Rattle.polynomial.proofs.Value.{value-cong}
 use Rattle.erasure.specs.Bytes.{bytes}
-use Rattle.erasure.specs.Bounds.{Bytes}
+use Rattle.buffer.specs.Bounds.{Bytes}
 use Rattle.erasure.specs.Coding.{shareLength, frame, share}
 use Rattle.buffer.specs.Given.{Given, gave, written}
 use Rattle.erasure.specs.Rebuild.{Point, present, point, framed, other, unframed, joined, recovered, answered, rebuildOf}
@@ -30,7 +31,7 @@ use Rattle.erasure.proofs.Other.{none-other}
 use Rattle.erasure.proofs.Frame.{length-share, getD-share, frame-unframed, frame-bytes-message}
 use Rattle.erasure.proofs.Outcomes.{rebuild-answered}
 use Rattle.erasure.proofs.Present.{number-lt, number-distinct, point-used, point-none}
-use Rattle.erasure.proofs.Present.{present-bytes, length-bodies, bodies-bytes}
+use Rattle.erasure.proofs.Present.{present-bytes, bodies-bytes}
 
 -- all have one length where none has another
 one-length : (s : ℕ) (us : List Point) → other s (map (λ p. length (p .share)) us) ≡ false

@@ -2,5 +2,4 @@ pub mod Bytes
 pub mod Coding
 pub mod Rebuild
 pub mod Arrays
-pub mod Bounds
 pub mod Cases

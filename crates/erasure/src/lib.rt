@@ -10,7 +10,7 @@ ghost use Rattle.buffer.specs.Entries.{fills, bodies};
 ghost use Rattle.gf256.specs.Field.{product, inverse};
 ghost use Rattle.polynomial.specs.Polynomial.{value, factor, numerator, denominator, basis, sum};
 ghost use Rattle.erasure.specs.Bytes.{bytes};
-ghost use Rattle.erasure.specs.Bounds.{Bytes};
+ghost use Rattle.buffer.specs.Bounds.{Bytes};
 ghost use Rattle.buffer.specs.Given.{gave};
 ghost use Rattle.erasure.specs.Coding.{shareLength, headed, shareByte, shareOf, encodeOf};
 ghost use Rattle.erasure.specs.Rebuild.{present, recovered, unframed, answered, other, rebuildOf};

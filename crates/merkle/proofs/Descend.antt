@@ -13,7 +13,7 @@ use lib.ListN.{length, getD, take, drop, set, replicate, length-append, length-r
 use lib.Pow.{pow-mono, pow-pos}
 use lib.Seq.{take-suc-set, set-split, drop-at, length-take-le}
 use Rattle.limits.specs.Limits.{maxParties, maxPath}
-use Rattle.merkle.specs.Tree.{split, shape, size, nodeString, Side, sides}
+use Rattle.merkle.specs.Tree.{split, shape, size, nodeString, sides}
 use Rattle.merkle.specs.Hashes.{topHash, pathHashes}
 use Rattle.merkle.specs.Turns.{sideOf, upward}
 use Rattle.merkle.specs.declared.Halves.{Halves}

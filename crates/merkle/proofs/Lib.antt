@@ -12,3 +12,5 @@ pub mod Outcomes
 pub mod Written
 pub mod Rows
 pub mod Shares
+pub mod Trees
+pub mod Instances

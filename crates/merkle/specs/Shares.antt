@@ -2,14 +2,14 @@
 -- Assumes nothing.
 use mathlib.Core.Bool.{Bool, true, false, cond, not, _&&_, _||_}
 use mathlib.Core.List.{List, [], _∷_, _++_, map}
-use Prim.Native.Nat.{ℕ, zero, suc, _+_, _-_, _*_, _/_, _%_}
+use Prim.Native.Nat.{ℕ, _+_, _-_, _*_, _/_, _%_}
 use lib.Dec.{ltb, eqb}
 use lib.ListN.{length, take, drop, replicate}
 use Rattle.limits.specs.Limits.{maxParties, maxPath, maxHashed}
 use Rattle.buffer.specs.Splice.{tabulate}
 use Rattle.sha256.specs.Sha256.{sha256}
 use Rattle.merkle.specs.Tree.{Side, shape, sides, folded}
-use Rattle.merkle.specs.Strings.{checkStrings}
+use Rattle.merkle.specs.Strings.{treeStrings, checkStrings}
 use Rattle.merkle.specs.Hashes.{topHash, pathHashes}
 use Rattle.merkle.specs.declared.Counted.{Counted}
 use Rattle.merkle.specs.declared.Counted.the-variants as counted
@@ -28,8 +28,8 @@ leafStrings n shares = tabulate n (λ i. leafString (i + 1) (take (length shares
 abbrev pub blank : List ℕ
 blank = replicate 32 0
 
--- why n shares of len bytes together are not hashed: n out of its range (1), a leaf string that is too long to hash (4), no n equal
--- shares (8); 0: they are
+-- why n shares of len bytes together are not hashed: n out of its range (1), a leaf string too long to hash (4; a share's length is
+-- len / n, rounded down), not n equal shares (8); 0: they are
 unfoldable pub sharesCause : ℕ → ℕ → ℕ
 sharesCause n len =
     cond (ltb n 1 || ltb maxParties n) 1
@@ -71,19 +71,23 @@ pathOf n j leaves =
     (pathHashes sha256 (shape n) (j - 1) 0 leaves ++ replicate (maxPath - length (sidesOf n j)) blank)
     (replicate maxPath blank)
 
--- two lists are one
+-- the two lists are equal
 unfoldable pub same : List ℕ → List ℕ → Bool
 same [] [] = true
 same [] (b ∷ bs) = false
 same (a ∷ as') [] = false
 same (a ∷ as') (b ∷ bs) = eqb a b && same as' bs
 
--- the first `count` hashes of a path are as many as n and j give, and fold to the root
+-- the path check: of a path of at least `count` hashes the first `count` are as many as n and j give, and fold to the root
 unfoldable pub passes : ℕ → ℕ → List ℕ → List (List ℕ) → ℕ → List ℕ → Bool
 passes n j share path count root =
     eqb count (length (sidesOf n j)) && same (folded sha256 (sidesOf n j) (take count path) (sha256 (leafString j share))) root
 
--- the strings hashed in checking a path: none where its length is wrong
+-- the strings hashed in coding n shares: their leaf strings and the node strings
+unfoldable pub codingStrings : ℕ → List ℕ → List (List ℕ)
+codingStrings n shares = treeStrings sha256 (shape n) (leafStrings n shares)
+
+-- the strings hashed in a check that is not refused: none where the path's length is wrong
 unfoldable pub stringsOf : ℕ → ℕ → List ℕ → List (List ℕ) → ℕ → List (List ℕ)
 stringsOf n j share path count =
     cond (eqb count (length (sidesOf n j))) (checkStrings sha256 (sidesOf n j) (take count path) (leafString j share)) []
@@ -92,7 +96,7 @@ abbrev pub told : Bool → Checked
 told true = checked.Yes
 told false = checked.No
 
--- the path check: causes 1, 3, 4 and 7, else yes or no
+-- the public check: causes 1, 3, 4 and 7, else yes or no
 unfoldable pub checkOf : ℕ → ℕ → List ℕ → List (List ℕ) → ℕ → List ℕ → Checked
 checkOf n j share path count root =
     cond (not (parties n)) (checked.Refused 1)

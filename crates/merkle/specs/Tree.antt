@@ -6,7 +6,7 @@ use Prim.Native.Nat.{ℕ, zero, suc, _+_, _-_, _*_}
 use lib.Dec.{ltb}
 use lib.ListN.{getD, take, drop}
 
--- the largest power of two smaller than n, for n at least 2: 1 doubled as long as the double is smaller than n
+-- the largest power of two smaller than n, for n at least 2: 1 doubled as long as the double is smaller than n, at most n times
 unfoldable pub splitFrom : ℕ → ℕ → ℕ → ℕ
 splitFrom zero k n = k
 splitFrom (suc fuel) k n = cond (ltb (k * 2) n) (splitFrom fuel (k * 2) n) k
@@ -14,7 +14,8 @@ splitFrom (suc fuel) k n = cond (ltb (k * 2) n) (splitFrom fuel (k * 2) n) k
 unfoldable pub split : ℕ → ℕ
 split n = splitFrom n 1 n
 
--- the shape of the tree over n leaves: one leaf, or the trees over the first split n leaves and over the others
+-- the shape of the tree over n leaves: one leaf, or the trees over the first split n leaves and over the others (no tree is more
+-- than n high, so n steps suffice; the tree over n leaves has n of them: `size-shape`)
 pub data Shape : Type 0 where
   leaf : Shape
   node : Shape → Shape → Shape

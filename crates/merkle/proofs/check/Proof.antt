@@ -36,7 +36,8 @@ top f =
     let k = h .before in
     let w = k .before .before in
     let a = Entry (w .before) .args in
-    folded-same sha256 (a .path) (f .fold-path .ensures) (w .way-down .ensures .2) (sym (k .if7 .left)) (h .leaf-hash .ensures)
+    let counted : w .way-down .result .count ≡ a .count = omega arith in
+    folded-same sha256 (a .path) (f .fold-path .ensures) (w .way-down .ensures .2) counted (h .leaf-hash .ensures)
 
 answer : (q : tie.After-equal) → let a = Entry (q .before .before .before .before .before .before .before) .args in
     passes (a .n) (a .j) (a .share .now) (a .path) (a .count) (a .root .now) ≡ q .equal .result
@@ -45,7 +46,8 @@ answer q =
     let k = f .before .before in
     let w = k .before .before in
     let a = Entry (w .before) .args in
-    passes-same (a .n) (a .j) (a .share .now) (a .path) (a .count) (a .root .now) (k .if7 .left ∙ w .way-down .ensures .1)
+    let counted : a .count ≡ w .way-down .result .count = omega arith in
+    passes-same (a .n) (a .j) (a .share .now) (a .path) (a .count) (a .root .now) (counted ∙ w .way-down .ensures .1)
     ∙ ap (λ (x : List ℕ). same x (a .root .now)) (top f) ∙ sym (q .equal .ensures)
 
 returns : tie.Need-returns

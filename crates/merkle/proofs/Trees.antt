@@ -1,0 +1,224 @@
+-- What the tree over n shares gives at SHA-256: the path made for a share passes, a path that passes is that of the tree's own share,
+-- two lists of shares with one root are one, each unless two different strings with one hash are among those hashed; and roots, paths
+-- and checks depend on SHA-256 only at the strings hashed. By the laws for all shapes and hashes. Assumes nothing.
+use mathlib.Core.Path.{_≡_, refl, sym, ap, ap₂, _∙_}
+use mathlib.Core.Logic.{_⊎_, inl, inr}
+use mathlib.Core.Bool.{Bool, true, false}
+use mathlib.Core.List.{List, [], _∷_, _++_}
+use Prim.Native.Nat.{ℕ, zero, suc, _+_, _-_, _*_, _/_, _≤_, _<_}
+use native.Mathlib.Nat.{zero-mul, suc-mul}
+use native.Mathlib.Omega.{arith}
+use borrow.Author.Tests.{eq-eqb, ltb-true, ltb-false}
+use lib.Dec.{ltb}
+use lib.ListN.{length, getD, take, drop, replicate, length-append, length-drop, List·getD-append, List·getD-eq-default}
+use lib.Seq.{getD-take, getD-at, take-at, take-add, take-all, length-take-le}
+use Rattle.limits.specs.Limits.{maxPath, maxHashed}
+use Rattle.buffer.proofs.Rows.{row-inside}
+use Rattle.sha256.specs.Sha256.{sha256}
+use Rattle.sha256.proofs.Laws.{sha256-length}
+use Rattle.merkle.specs.Tree.{Shape, leaf, node, shape, size, sides, root, path, folded}
+use Rattle.merkle.specs.Strings.{treeStrings, checkStrings, Collision}
+use Rattle.merkle.specs.Shares.{leafString, leafStrings, blank, sharesCause, leavesOf, rootOf, sidesOf, pathOf, same, passes}
+use Rattle.merkle.specs.Shares.{codingStrings, stringsOf, told, checkOf}
+use Rattle.merkle.specs.declared.Checked.the-variants.{Yes}
+use Rattle.merkle.proofs.Way.{Way, left, right, way, length-path}
+use Rattle.merkle.proofs.Shape.{size-shape}
+use Rattle.merkle.proofs.Complete.{complete}
+use Rattle.merkle.proofs.Sound.{Wide, root-length, sound, same-roots}
+use Rattle.merkle.proofs.Depends.{Agree, root-depends, path-depends, check-depends}
+use Rattle.merkle.proofs.Judged.{Even, even-of, even-whole, same-refl, passes-same, passes-true, check-judged}
+use Rattle.merkle.proofs.Rows.{shareAt}
+use Rattle.merkle.proofs.Shares.{leafString-injective, length-leafStrings, getD-leafStrings, tree-root, tree-path}
+
+-- every hash of an audit path is as long as a hash
+module _ (H : List ℕ → List ℕ) (w : ℕ) (wide : (s : List ℕ) → length (H s) ≡ w) where
+  wide-more : (p : List (List ℕ)) (h : List ℕ) → Wide w p → length h ≡ w → Wide w (p ++ (h ∷ []))
+  wide-more p h f e i k = go (ltb i (length p)) refl
+    where
+      go : (b : Bool) → ltb i (length p) ≡ b → length (getD (p ++ (h ∷ [])) i []) ≡ w
+      go true t =
+          let inside : i < length p = ltb-true i (length p) t in
+          ap length (List·getD-append p (h ∷ []) [] i inside) ∙ f i inside
+      go false t =
+          let last : length p ≡ i = omega (arith, ltb-false i (length p) t, length-append p (h ∷ [])) in
+          ap length (getD-at p h [] [] i last) ∙ e
+
+  wide-path : (t : Shape) (m : ℕ) (ds : List (List ℕ)) → Wide w (path H t m ds)
+  unfolding path
+  wide-path leaf m ds = λ i k. absurd (omega arith)
+  wide-path (node l r) m ds =
+      go (way l m) (wide-path l m (take (size l) ds)) (wide-path r (m - size l) (drop (size l) ds))
+    where
+      go : Way l m → Wide w (path H l m (take (size l) ds)) → Wide w (path H r (m - size l) (drop (size l) ds))
+          → Wide w (path H (node l r) m ds)
+      go (left e i) p q =
+          rw (e, path) (wide-more (path H l m (take (size l) ds)) _ p (root-length H w wide r (drop (size l) ds)))
+      go (right e i) p q =
+          rw (e, path) (wide-more (path H r (m - size l) (drop (size l) ds)) _ q (root-length H w wide l (take (size l) ds)))
+
+-- a path whose first `count` hashes are there
+module _ (w count : ℕ) (hashes : List (List ℕ)) (there : (i : ℕ) → i < count → length (getD hashes i []) ≡ suc w) where
+  enough : count ≤ length hashes
+  enough = go (ltb (length hashes) count) refl
+    where
+      go : (b : Bool) → ltb (length hashes) count ≡ b → count ≤ length hashes
+      go true t =
+          let none : length (getD hashes (length hashes) []) ≡ 0 = ap length (List·getD-eq-default hashes [] (omega arith)) in
+          absurd (omega (arith, there (length hashes) (ltb-true (length hashes) count t)))
+      go false t = ltb-false (length hashes) count t
+
+  wide-there : Wide (suc w) (take count hashes)
+  wide-there i h =
+      let inside : i < count = omega (arith, length-take-le count hashes enough) in
+      ap length (getD-take count hashes i [] inside) ∙ there i inside
+
+-- lists are one as far as their rows of s bytes are
+rows-same : (k s : ℕ) (a b : List ℕ) → ((i : ℕ) → i < k → shareAt s a i ≡ shareAt s b i) → take (k * s) a ≡ take (k * s) b
+rows-same zero s a b f = rw zero-mul
+rows-same (suc k) s a b f =
+    rw (suc-mul k s, take-add (k * s) s a, take-add (k * s) s b)
+    (ap₂ (λ (u v : List ℕ). u ++ v) (rows-same k s a b (λ i h. f i (omega arith))) (f k (omega arith)))
+
+module _ (n : ℕ) (shares : List ℕ) (fine : sharesCause n (length shares) ≡ 0) where
+  abbrev even : Even n (length shares)
+  even = even-of n (length shares) fine
+
+  -- the shares are told by their leaf strings
+  shares-same : (others : List ℕ) → length others ≡ length shares → leafStrings n others ≡ leafStrings n shares → others ≡ shares
+  shares-same others e f =
+      let s : ℕ = length shares / n in
+      let whole : n * s ≡ length shares = even-whole n (length shares) even in
+      let other : length others / n ≡ s = ap (λ (k : ℕ). k / n) e in
+      let rows : (i : ℕ) → i < n → shareAt s others i ≡ shareAt s shares i =
+      (λ i h. ap (λ (k : ℕ). shareAt k others i) (sym other)
+      ∙ leafString-injective (sym (getD-leafStrings n others i h) ∙ ap (λ (l : List (List ℕ)). getD l i []) f
+      ∙ getD-leafStrings n shares i h) .1) in
+      sym (take-all (n * s) others (omega arith)) ∙ rows-same n s others shares rows ∙ take-all (n * s) shares (omega arith)
+
+  -- the root's length
+  length-root : length (rootOf n (leavesOf n shares)) ≡ 32
+  length-root =
+      ap length (tree-root n shares fine (even .low) (even .high))
+      ∙ root-length sha256 32 sha256-length (shape n) (leafStrings n shares)
+
+  -- one root, one list of shares
+  pub roots-differ : (others : List ℕ) → sharesCause n (length others) ≡ 0 → length others ≡ length shares
+      → rootOf n (leavesOf n others) ≡ rootOf n (leavesOf n shares)
+      → (others ≡ shares) ⊎ Collision sha256 (codingStrings n others) (codingStrings n shares)
+  unfolding codingStrings
+  roots-differ others g e r =
+      go (same-roots sha256 32 sha256-length (shape n) (leafStrings n others) (leafStrings n shares)
+      (length-leafStrings n others ∙ sym (size-shape n (even .low)))
+      (length-leafStrings n shares ∙ sym (size-shape n (even .low)))
+      (sym (tree-root n others g (even .low) (even .high)) ∙ r ∙ tree-root n shares fine (even .low) (even .high)))
+    where
+      go : (leafStrings n others ≡ leafStrings n shares) ⊎ Collision sha256 (codingStrings n others) (codingStrings n shares)
+          → (others ≡ shares) ⊎ Collision sha256 (codingStrings n others) (codingStrings n shares)
+      go (inl f) = inl (shares-same others e f)
+      go (inr k) = inr k
+
+  -- the root depends on SHA-256 only at the strings hashed
+  pub root-hashed : (K : List ℕ → List ℕ) → Agree sha256 K (codingStrings n shares)
+      → rootOf n (leavesOf n shares) ≡ root K (shape n) (leafStrings n shares)
+  unfolding codingStrings
+  root-hashed K f =
+      tree-root n shares fine (even .low) (even .high) ∙ root-depends sha256 K (shape n) (leafStrings n shares) f
+
+  module _ (j : ℕ) (one : 1 ≤ j) (last : j ≤ n) where
+    -- the leaf string of share j
+    own-leaf : getD (leafStrings n shares) (j - 1) [] ≡ leafString j (shareAt (length shares / n) shares (j - 1))
+    own-leaf =
+        let e : j - 1 + 1 ≡ j = omega arith in
+        getD-leafStrings n shares (j - 1) (omega arith)
+        ∙ ap (λ (k : ℕ). leafString k (shareAt (length shares / n) shares (j - 1))) e
+
+    inside-tree : j - 1 < size (shape n)
+    inside-tree = omega (arith, size-shape n (even .low))
+
+    -- share j has s bytes
+    own-length : length (shareAt (length shares / n) shares (j - 1)) ≡ length shares / n
+    own-length =
+        let s : ℕ = length shares / n in
+        length-take-le s (drop ((j - 1) * s) shares)
+        (omega (arith, row-inside n (j - 1) s (omega arith), even-whole n (length shares) even, length-drop ((j - 1) * s) shares))
+
+    -- the path made, without its blanks
+    made : take (length (sidesOf n j)) (pathOf n j (leavesOf n shares)) ≡ path sha256 (shape n) (j - 1) (leafStrings n shares)
+    made =
+        ap (take (length (sidesOf n j))) (tree-path n shares fine (even .low) (even .high) j one last)
+        ∙ take-at (path sha256 (shape n) (j - 1) (leafStrings n shares)) (replicate (maxPath - length (sidesOf n j)) blank)
+        (length (sidesOf n j)) (sym (length-path sha256 (shape n) (j - 1) (leafStrings n shares)))
+
+    -- its hashes have 32 bytes
+    pub path-wide : (i : ℕ) → i < length (sidesOf n j) → length (getD (pathOf n j (leavesOf n shares)) i []) ≡ 32
+    path-wide i h =
+        ap length (sym (getD-take (length (sidesOf n j)) (pathOf n j (leavesOf n shares)) i [] h)
+        ∙ ap (λ (p : List (List ℕ)). getD p i []) made)
+        ∙ wide-path sha256 32 sha256-length (shape n) (j - 1) (leafStrings n shares) i
+        (omega (arith, length-path sha256 (shape n) (j - 1) (leafStrings n shares)))
+
+    -- the path made passes
+    pub path-passes : passes n j (take (length shares / n) (drop ((j - 1) * (length shares / n)) shares))
+        (pathOf n j (leavesOf n shares)) (length (sidesOf n j)) (rootOf n (leavesOf n shares)) ≡ true
+    path-passes =
+        let share : List ℕ = shareAt (length shares / n) shares (j - 1) in
+        let top : List ℕ = rootOf n (leavesOf n shares) in
+        let leads : folded sha256 (sidesOf n j) (take (length (sidesOf n j)) (pathOf n j (leavesOf n shares)))
+        (sha256 (leafString j share)) ≡ top =
+        ap₂ (λ (p : List (List ℕ)) (x : List ℕ). folded sha256 (sidesOf n j) p (sha256 x)) made (sym own-leaf)
+        ∙ complete sha256 (shape n) (j - 1) (leafStrings n shares) inside-tree
+        ∙ sym (tree-root n shares fine (even .low) (even .high)) in
+        passes-same n j share (pathOf n j (leavesOf n shares)) (length (sidesOf n j)) top refl
+        ∙ ap (λ (x : List ℕ). same x top) leads
+        ∙ same-refl top
+
+    -- so the check says yes
+    pub path-checks : checkOf n j (take (length shares / n) (drop ((j - 1) * (length shares / n)) shares))
+        (pathOf n j (leavesOf n shares)) (length (sidesOf n j)) (rootOf n (leavesOf n shares)) ≡ Yes
+    path-checks =
+        let short : 2 + length (shareAt (length shares / n) shares (j - 1)) ≤ maxHashed = omega (arith, own-length, even .short) in
+        check-judged n j (shareAt (length shares / n) shares (j - 1)) (pathOf n j (leavesOf n shares)) (length (sidesOf n j))
+        (rootOf n (leavesOf n shares)) (even .low) (even .high) one last short length-root
+        ∙ ap told path-passes
+
+    -- a path that passes is that of the tree's own share
+    pub passes-sound : (share : List ℕ) (hashes : List (List ℕ)) (count : ℕ)
+        → ((i : ℕ) → i < count → length (getD hashes i []) ≡ 32)
+        → passes n j share hashes count (rootOf n (leavesOf n shares)) ≡ true
+        → (share ≡ take (length shares / n) (drop ((j - 1) * (length shares / n)) shares))
+        ⊎ Collision sha256 (stringsOf n j share hashes count) (codingStrings n shares)
+    unfolding codingStrings stringsOf
+    passes-sound share hashes count there p =
+        let t = passes-true n j share hashes count (rootOf n (leavesOf n shares)) p in
+        rw (eq-eqb count (length (sidesOf n j)) (t .0))
+        (go (sound sha256 32 sha256-length (shape n) (j - 1) (leafStrings n shares) (leafString j share) (take count hashes) inside-tree
+        (length-take-le count hashes (enough 31 count hashes there) ∙ t .0) (wide-there 31 count hashes there)
+        (t .1 ∙ tree-root n shares fine (even .low) (even .high))))
+      where
+        go : (leafString j share ≡ getD (leafStrings n shares) (j - 1) [])
+            ⊎ Collision sha256 (checkStrings sha256 (sides (shape n) (j - 1)) (take count hashes) (leafString j share))
+            (treeStrings sha256 (shape n) (leafStrings n shares))
+            → (share ≡ shareAt (length shares / n) shares (j - 1))
+            ⊎ Collision sha256 (checkStrings sha256 (sidesOf n j) (take count hashes) (leafString j share))
+            (treeStrings sha256 (shape n) (leafStrings n shares))
+        go (inl e) = inl (leafString-injective (e ∙ own-leaf) .1)
+        go (inr k) = inr k
+
+    -- the path depends on SHA-256 only at the strings hashed
+    pub path-hashed : (K : List ℕ → List ℕ) → Agree sha256 K (codingStrings n shares)
+        → pathOf n j (leavesOf n shares)
+        ≡ path K (shape n) (j - 1) (leafStrings n shares) ++ replicate (maxPath - length (sidesOf n j)) blank
+    unfolding codingStrings
+    path-hashed K f =
+        tree-path n shares fine (even .low) (even .high) j one last
+        ∙ ap (λ (p : List (List ℕ)). p ++ replicate (maxPath - length (sidesOf n j)) blank)
+        (path-depends sha256 K (shape n) (j - 1) (leafStrings n shares) f)
+
+-- a check depends on SHA-256 only at the strings hashed
+pub check-hashed : (n j : ℕ) (share : List ℕ) (hashes : List (List ℕ)) (count : ℕ) (K : List ℕ → List ℕ)
+    → count ≡ length (sidesOf n j) → Agree sha256 K (stringsOf n j share hashes count)
+    → folded sha256 (sidesOf n j) (take count hashes) (sha256 (leafString j share))
+    ≡ folded K (sidesOf n j) (take count hashes) (K (leafString j share))
+unfolding stringsOf
+check-hashed n j share hashes count K e f =
+    check-depends sha256 K (sidesOf n j) (take count hashes) (leafString j share) (rw (eq-eqb count (length (sidesOf n j)) e) at f)

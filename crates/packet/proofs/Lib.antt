@@ -1,0 +1,9 @@
+pub mod Path
+pub mod Chain
+pub mod Owned
+pub mod Parts
+pub mod Reading
+pub mod Verdict
+pub mod Writing
+pub mod Inverse
+pub mod Inbox

@@ -1,0 +1,128 @@
+-- `packet::judge_path` meets its contract: the check is of the path that lies behind the share. Assumes nothing.
+use mathlib.Core.Path.{_≡_, refl, sym, ap, ap₂, _∙_}
+use mathlib.Core.Bool.{Bool, true, false, false≢true}
+use mathlib.Core.List.{List}
+use Prim.Native.Nat.{ℕ, _+_, _-_}
+use native.Mathlib.Omega.{arith}
+use lib.ListN.{length, take, drop, length-drop, replicate}
+use lib.Seq.{length-take-le}
+use Rattle.limits.specs.Limits.{maxPath}
+use Rattle.merkle.specs.Shares.{blank, passes, told, checkOf}
+use Rattle.merkle.proofs.Judged.{check-judged}
+use Rattle.packet.specs.Format.{hashes}
+use Rattle.packet.proofs.Path.{padded, path-there, length-hashes}
+use Rattle.packet.proofs.Verdict.{leads, passes-take, told-true, told-false}
+use borrow.Author.Needs.{needs}
+use Rattle.packet.proofs.judge_path.Statement.{statement}
+use Rattle.packet.proofs.judge_path.Tie as tie
+
+-- the function's entry, from where the path is checked
+abbrev Entry : tie.After-check → tie.Start
+Entry k = k .before .before .before .before .before
+
+-- whether the path leads to the root
+abbrev Leads : tie.After-check → Bool
+Leads k =
+    let a = Entry k .args in
+    leads (a .n) (a .j) (a .root .now) (a .s .now) (a .from) (a .len) (a .count)
+
+-- the path read, the bytes of the share, and the part of the bytes that is passed on
+abbrev Path : tie.After-check → List (List ℕ)
+Path k = let a = Entry k .args in padded (a .count) (drop (a .from + a .len) (a .s .now))
+
+there : (k : tie.After-check) → k .before .before .path-at .result ≡ Path k
+there k =
+    let a = Entry k .args in
+    k .before .before .path-at .ensures ∙ path-there (a .s .now) (a .from + a .len) (a .count) (omega arith) (omega arith)
+
+abbrev X : tie.After-check → List ℕ
+X k = let a = Entry k .args in take (a .len) (drop (a .from) (a .s .now))
+
+part : (k : tie.After-check) → let a = Entry k .args in take (a .from + a .len - a .from) (drop (a .from) (a .s .now)) ≡ X k
+part k =
+    let a = Entry k .args in
+    let e : a .from + a .len - a .from ≡ a .len = omega arith in
+    ap (λ (i : ℕ). take i (drop (a .from) (a .s .now))) e
+
+long : (k : tie.After-check) → length (X k) ≡ Entry k .args .len
+long k =
+    let st = Entry k in
+    let a = st .args in
+    length-take-le (a .len) (drop (a .from) (a .s .now)) (omega (arith, length-drop (a .from) (a .s .now), st .pre))
+
+-- what is checked; only the hashes counted matter
+asked : (k : tie.After-check) → let a = Entry k .args in
+    k .check .result
+    ≡ checkOf (a .n) (a .j) (take (a .from + a .len - a .from) (drop (a .from) (a .s .now))) (k .before .before .path-at .result)
+    (a .count) (a .root .now)
+asked k = k .check .ensures
+
+checked : (k : tie.After-check) → let a = Entry k .args in
+    k .check .result ≡ checkOf (a .n) (a .j) (X k) (Path k) (a .count) (a .root .now)
+checked k =
+    let a = Entry k .args in
+    asked k
+    ∙ ap₂ (λ (x : List ℕ) (p : List (List ℕ)). checkOf (a .n) (a .j) x p (a .count) (a .root .now)) (part k) (there k)
+
+judged : (k : tie.After-check) → let a = Entry k .args in
+    checkOf (a .n) (a .j) (X k) (Path k) (a .count) (a .root .now)
+    ≡ told (passes (a .n) (a .j) (X k) (Path k) (a .count) (a .root .now))
+judged k =
+    let a = Entry k .args in
+    check-judged (a .n) (a .j) (X k) (Path k) (a .count) (a .root .now)
+    (omega arith) (omega arith) (omega arith) (omega arith) (omega (arith, long k)) (omega arith)
+
+answer : (k : tie.After-check) → k .check .result ≡ told (Leads k)
+answer k =
+    let a = Entry k .args in
+    let r = drop (a .from + a .len) (a .s .now) in
+    checked k ∙ judged k
+    ∙ ap told (passes-take (a .n) (a .j) (X k) (hashes (a .count) r) (replicate (maxPath - a .count) blank)
+    (a .count) (a .root .now) (length-hashes (a .count) r))
+
+add-end : tie.Need-add-end
+add-end c = search needs
+
+path-at-requires : tie.Need-path-at-requires
+path-at-requires c κs = search needs
+
+sub-check : tie.Need-sub-check
+sub-check c = search needs
+
+part-check-start : tie.Need-part-check-start
+part-check-start c = search needs
+
+part-check-end : tie.Need-part-check-end
+part-check-end c = search needs
+
+check-requires : tie.Need-check-requires
+check-requires c κs = search needs
+
+enum-told : tie.Need-enum-told
+enum-told c = search needs
+
+returns : tie.Need-returns
+returns c =
+    let k = c .before .before in
+    let yes : Leads k ≡ true = told-true (Leads k) (sym (answer k) ∙ c .enum-told .given .1) in
+    (λ t. refl, λ f. absurd (false≢true (sym f ∙ yes)))
+
+returns-2 : tie.Need-returns-2
+returns-2 c =
+    let k = c .before in
+    let no : Leads k ≡ false = told-false (k .check .result) (Leads k) (answer k) (c .match .keys2) in
+    (λ t. absurd (false≢true (sym no ∙ t)), λ f. refl)
+
+pub judge-path-spec : {M : Type 1} → statement M
+judge-path-spec =
+    tie.close
+    (tie.spec
+    add-end
+    path-at-requires
+    sub-check
+    part-check-start
+    part-check-end
+    check-requires
+    enum-told
+    returns
+    returns-2)

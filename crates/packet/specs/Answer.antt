@@ -1,0 +1,66 @@
+-- The answers of the packet reader, judge and writer, by document 01's numbers. Assumes nothing.
+use mathlib.Core.Bool.{cond, not, _||_}
+use mathlib.Core.List.{List, _++_}
+use Prim.Native.Nat.{ℕ, _+_, _-_, _*_}
+use lib.Dec.{ltb, eqb}
+use lib.ListN.{length, take, drop, replicate}
+use Rattle.limits.specs.Limits.{maxPath, maxShare}
+use Rattle.buffer.specs.Given.{Given, gave, written}
+use Rattle.buffer.specs.declared.Written.the-variants as given
+use Rattle.merkle.specs.Shares.{blank, parties, numbered, sidesOf}
+use Rattle.packet.specs.Format.{Reading, silence, unreadable, shared, hashes, packetOf, entryOf, readOf}
+use Rattle.packet.specs.Class.{Class, silent, faulty, valid, classOf}
+use Rattle.packet.specs.declared.Packet.{Packet}
+use Rattle.packet.specs.declared.Packet.the-variants as packet
+use Rattle.packet.specs.declared.Judged.{Judged}
+use Rattle.packet.specs.declared.Judged.the-variants as verdict
+
+-- the answer for a packet that starts at a place: where its share lies, and how many hashes follow it
+abbrev pub placed : ℕ → Reading → Packet
+placed at silence = packet.Silence
+placed at unreadable = packet.Refused 10
+placed at (shared number share path) = packet.Share number (at + 4) (length share) (length path)
+
+-- the packet that stands from a place on to the end of s, among n parties: cause 1, then 10
+unfoldable pub readAt : ℕ → List ℕ → ℕ → Packet
+readAt n s at = cond (not (parties n)) (packet.Refused 1) (placed at (readOf n (drop at s)))
+
+-- the path of `count` hashes at a place, and blanks past them; all blank where it is longer than any path or runs past the end
+unfoldable pub pathAt : List ℕ → ℕ → ℕ → List (List ℕ)
+pathAt s at count =
+    cond (ltb maxPath count || ltb (length s) (at + 32 * count)) (replicate maxPath blank)
+    (hashes count (drop at s) ++ replicate (maxPath - count) blank)
+
+-- the answer for a packet's class
+abbrev pub told : Class → Judged
+told silent = verdict.Silent
+told faulty = verdict.Faulty
+told (valid share path) = verdict.Valid 4 (length share) (length path)
+
+-- a packet judged: causes 1, 3 and 7, then its class
+unfoldable pub judgeOf : ℕ → ℕ → List ℕ → List ℕ → Judged
+judgeOf n j root p =
+    cond (not (parties n)) (verdict.Refused 1)
+    (cond (not (numbered n j)) (verdict.Refused 3)
+    (cond (not (eqb (length root) 32)) (verdict.Refused 7)
+    (told (classOf n j root p))))
+
+-- why the packet of a share of len bytes with `count` hashes is not written: n or the number out of its range (1, 3), or no packet that
+-- could be read (10); 0: it is
+unfoldable pub writeCause : ℕ → ℕ → ℕ → ℕ → ℕ
+writeCause n number len count =
+    cond (not (parties n)) 1
+    (cond (not (numbered n number)) 3
+    (cond (ltb len 1 || ltb maxShare len || not (eqb count (length (sidesOf n number)))) 10
+    0))
+
+-- a share's packet in a lent buffer, and as an entry with its length: cause 9 where it would be written and the buffer is too short
+unfoldable pub writeOf : ℕ → ℕ → List ℕ → List (List ℕ) → ℕ → List ℕ → Given
+writeOf n number share path count out =
+    cond (not (eqb (writeCause n number (length share) count) 0)) (gave (given.Refused (writeCause n number (length share) count)) out)
+    (written (packetOf number share (take count path)) out)
+
+unfoldable pub writeEntryOf : ℕ → ℕ → List ℕ → List (List ℕ) → ℕ → List ℕ → Given
+writeEntryOf n number share path count out =
+    cond (not (eqb (writeCause n number (length share) count) 0)) (gave (given.Refused (writeCause n number (length share) count)) out)
+    (written (entryOf (packetOf number share (take count path))) out)

@@ -1,0 +1,31 @@
+-- A packet judged against n, the number demanded of it and the agreed root: steps 4 and 5 go by this one definition. Assumes nothing.
+use mathlib.Core.Bool.{cond, _&&_}
+use mathlib.Core.List.{List, []}
+use Prim.Native.Nat.{ℕ}
+use lib.Dec.{eqb}
+use lib.ListN.{length}
+use Rattle.merkle.specs.Shares.{passes, stringsOf}
+use Rattle.packet.specs.Format.{Reading, silence, unreadable, shared, readOf}
+
+-- silent; valid, with its share and path; or faulty: unreadable, of another number, or with a path that does not lead to the root
+pub data Class : Type 0 where
+  silent faulty : Class
+  valid : List ℕ → List (List ℕ) → Class
+
+abbrev pub judged : ℕ → ℕ → List ℕ → Reading → Class
+judged n j root silence = silent
+judged n j root unreadable = faulty
+judged n j root (shared number share path) =
+    cond (eqb number j && passes n j share path (length path) root) (valid share path) faulty
+
+unfoldable pub classOf : ℕ → ℕ → List ℕ → List ℕ → Class
+classOf n j root packet = judged n j root (readOf n packet)
+
+-- the strings hashed in judging a packet: those of the path check, which is made where the number is the one demanded
+abbrev pub checkedStrings : ℕ → ℕ → Reading → List (List ℕ)
+checkedStrings n j silence = []
+checkedStrings n j unreadable = []
+checkedStrings n j (shared number share path) = cond (eqb number j) (stringsOf n j share path (length path)) []
+
+unfoldable pub classStrings : ℕ → ℕ → List ℕ → List (List ℕ)
+classStrings n j packet = checkedStrings n j (readOf n packet)

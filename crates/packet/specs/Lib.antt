@@ -1,0 +1,4 @@
+pub mod Format
+pub mod Inbox
+pub mod Class
+pub mod Answer

@@ -1,0 +1,350 @@
+// Packets: the bytes in which one party sends another a share with its audit path. Reading them, judging them, and writing them.
+ghost use mathlib.Core.Path.{_≡_};
+ghost use mathlib.Core.List.{List};
+ghost use Prim.Native.Nat.{ℕ, _+_, _-_, _*_, _≤_, _<_};
+ghost use lib.ListN.{length, getD, take, drop};
+ghost use Rattle.limits.specs.Limits.{maxParties, maxPath, maxShare};
+ghost use Rattle.buffer.specs.Given.{gave};
+ghost use Rattle.buffer.specs.Splice.{spliced};
+ghost use Rattle.packet.specs.Format.{packetOf, chained, hashes, shareIn};
+ghost use Rattle.merkle.specs.Shares.{passes};
+ghost use mathlib.Core.Bool.{true, false};
+ghost use Rattle.packet.specs.Answer.{readAt, placed, pathAt, judgeOf, writeCause, writeOf, writeEntryOf};
+use buffer::Written;
+use limits::MAX_PARTIES;
+use limits::MAX_PATH;
+use limits::MAX_SHARE;
+use merkle::Checked;
+use merkle::Counted;
+use merkle::Hash;
+
+// What stands at a place.
+pub enum Packet {
+    // Turned away for this cause of document 01: 1, n is out of its range, or 10, neither silence nor readable.
+    Refused(u8),
+    Silence,
+    // A share: its number, where it lies and how long it is, and how many hashes of its path follow it.
+    Share {
+        number: usize,
+        from: usize,
+        len: usize,
+        count: usize,
+    },
+}
+
+// A packet judged against a number and a root.
+pub enum Judged {
+    // Turned away for this cause of document 01: 1, 3 or 7.
+    Refused(u8),
+    Silent,
+    Faulty,
+    // The share of that number: where it lies and how long it is, and how many hashes of its path follow it.
+    Valid {
+        from: usize,
+        len: usize,
+        count: usize,
+    },
+}
+
+// Reads the packet that stands from place at on to the end of s, among n parties.
+pub fn read_at(n: usize, s: &[u8], at: usize) -> Packet
+    ensures { λ r. ⌜ r ≡ readAt n (now (s .entry)) at ⌝ }
+{
+    if n < 1 {
+        return Packet::Refused(1);
+    }
+    if MAX_PARTIES < n {
+        return Packet::Refused(1);
+    }
+    if s.len() <= at {
+        return Packet::Silence;
+    }
+    let map = s[at];
+    if map == 7 {
+        return read_share(n, s, at);
+    }
+    if map != 0 {
+        return Packet::Refused(10);
+    }
+    if s.len() - at == 1 {
+        return Packet::Silence;
+    }
+    Packet::Refused(10)
+}
+
+// The same of a packet whose map is 7. No length that it states is used before the bytes present are found to be as many.
+fn read_share(n: usize, s: &[u8], at: usize) -> Packet
+    requires { ⌜ (1 ≤ n) × (n ≤ maxParties) × (at < length (now s)) ⌝ }
+    ensures { λ r. ⌜ r ≡ placed at (shareIn n (drop at (now (s .entry)))) ⌝ }
+{
+    let size = s.len() - at;
+    if size < 4 {
+        return Packet::Refused(10);
+    }
+    let number = wide(s[at + 1]);
+    let len = buffer::size_at(s, at + 2);
+    if len < 1 {
+        return Packet::Refused(10);
+    }
+    if MAX_SHARE < len {
+        return Packet::Refused(10);
+    }
+    let Counted::Hashes(count) = merkle::path_length(n, number) else {
+        return Packet::Refused(10);
+    };
+    if size != 4 + len + 32 * count {
+        return Packet::Refused(10);
+    }
+    Packet::Share {
+        number,
+        from: at + 4,
+        len,
+        count,
+    }
+}
+
+fn wide(x: u8) -> usize
+    ensures { λ r. ⌜ (r ≡ x) × (r < 256) ⌝ }
+{
+    x as usize
+}
+
+// The path of `count` hashes at a place. Blanks stand past it, and everywhere if it is longer than any path or runs past the end.
+pub fn path_at(s: &[u8], at: usize, count: usize) -> [Hash; MAX_PATH]
+    ensures { λ r. ⌜ r ≡ pathAt (now (s .entry)) at count ⌝ }
+{
+    let mut path = [[0u8; 32]; MAX_PATH];
+    if MAX_PATH < count {
+        return path;
+    }
+    if s.len() < at {
+        return path;
+    }
+    if s.len() - at < 32 * count {
+        return path;
+    }
+    let mut from = at;
+    let mut i: usize = 0;
+    while i < count {
+        let next = from + 32;
+        let hash = hash_at(s, from);
+        path[i] = hash;
+        from = next;
+        i += 1;
+    }
+    path
+}
+
+// The 32 bytes at a place.
+fn hash_at(s: &[u8], at: usize) -> Hash
+    requires { ⌜ at + 32 ≤ length (now s) ⌝ }
+    ensures { λ r. ⌜ r ≡ take 32 (drop at (now (s .entry))) ⌝ }
+{
+    let mut hash = [0u8; 32];
+    let end = at + 32;
+    buffer::put(&mut hash, 0, &s[at..end]);
+    hash
+}
+
+// Judges the packet that is s: whether it bears number j and its path leads to the root.
+pub fn judge(n: usize, j: usize, root: &[u8], s: &[u8]) -> Judged
+    ensures { λ r. ⌜ r ≡ judgeOf n j (now (root .entry)) (now (s .entry)) ⌝ }
+{
+    if n < 1 {
+        return Judged::Refused(1);
+    }
+    if MAX_PARTIES < n {
+        return Judged::Refused(1);
+    }
+    if j < 1 {
+        return Judged::Refused(3);
+    }
+    if n < j {
+        return Judged::Refused(3);
+    }
+    if root.len() != 32 {
+        return Judged::Refused(7);
+    }
+    let packet = read_at(n, s, 0);
+    if let Packet::Silence = packet {
+        return Judged::Silent;
+    }
+    let Packet::Share {
+        number,
+        from,
+        len,
+        count,
+    } = packet
+    else {
+        return Judged::Faulty;
+    };
+    if number != j {
+        return Judged::Faulty;
+    }
+    judge_path(n, j, root, s, from, len, count)
+}
+
+// The same of a packet that bears number j and has its share and path at these places.
+fn judge_path(
+    n: usize,
+    j: usize,
+    root: &[u8],
+    s: &[u8],
+    from: usize,
+    len: usize,
+    count: usize,
+) -> Judged
+    requires { ⌜ (1 ≤ n) × (n ≤ maxParties) × (1 ≤ j) × (j ≤ n) × (length (now root) ≡ 32) × (1 ≤ len) × (len ≤ maxShare)
+        × (from + len + 32 * count ≤ length (now s)) × (count ≤ maxPath) ⌝ }
+    ensures { λ r. ⌜ (passes n j (take len (drop from (now (s .entry)))) (hashes count (drop (from + len) (now (s .entry)))) count
+        (now (root .entry)) ≡ true → r ≡ Judged.Valid from len count)
+        × (passes n j (take len (drop from (now (s .entry)))) (hashes count (drop (from + len) (now (s .entry)))) count
+        (now (root .entry)) ≡ false → r ≡ Judged.Faulty) ⌝ }
+{
+    let end = from + len;
+    let path = path_at(s, end, count);
+    if let Checked::Yes = merkle::check(n, j, &s[from..end], path, count, root) {
+        return Judged::Valid { from, len, count };
+    }
+    Judged::Faulty
+}
+
+// Why the packet of a share of `len` bytes with `count` hashes is not written: cause 1, 3 or 10, or 0.
+fn write_cause(n: usize, number: usize, len: usize, count: usize) -> u8
+    ensures { λ r. ⌜ r ≡ writeCause n number len count ⌝ }
+{
+    if n < 1 {
+        return 1;
+    }
+    if MAX_PARTIES < n {
+        return 1;
+    }
+    let Counted::Hashes(right) = merkle::path_length(n, number) else {
+        return 3;
+    };
+    if len < 1 {
+        return 10;
+    }
+    if MAX_SHARE < len {
+        return 10;
+    }
+    if count != right {
+        return 10;
+    }
+    0
+}
+
+// Writes the packet of a share with its path of `count` hashes to the start of out.
+pub fn write(
+    n: usize,
+    number: usize,
+    share: &[u8],
+    path: [Hash; MAX_PATH],
+    count: usize,
+    out: &mut [u8],
+) -> Written
+    ensures { λ r. ⌜ gave r (now (out .exit)) ≡ writeOf n number (now (share .entry)) path count (now (out .entry)) ⌝ }
+{
+    let cause = write_cause(n, number, share.len(), count);
+    if cause != 0 {
+        return Written::Refused(cause);
+    }
+    let need = 4 + share.len() + 32 * count;
+    if out.len() < need {
+        return Written::Short(need);
+    }
+    write_fields(number, share, path, count, out, 0);
+    Written::Done(need)
+}
+
+// The same as an entry, with the packet's length in front of it.
+pub fn write_entry(
+    n: usize,
+    number: usize,
+    share: &[u8],
+    path: [Hash; MAX_PATH],
+    count: usize,
+    out: &mut [u8],
+) -> Written
+    ensures { λ r. ⌜ gave r (now (out .exit)) ≡ writeEntryOf n number (now (share .entry)) path count (now (out .entry)) ⌝ }
+{
+    let cause = write_cause(n, number, share.len(), count);
+    if cause != 0 {
+        return Written::Refused(cause);
+    }
+    let size = 4 + share.len() + 32 * count;
+    let need = size + 2;
+    if out.len() < need {
+        return Written::Short(need);
+    }
+    let head = [(size / 256 % 256) as u8, (size % 256) as u8];
+    buffer::put(out, 0, &head);
+    write_fields(number, share, path, count, out, 2);
+    Written::Done(need)
+}
+
+// The map, the number, the length and the share, and the path, from place at on.
+fn write_fields(
+    number: usize,
+    share: &[u8],
+    path: [Hash; MAX_PATH],
+    count: usize,
+    out: &mut [u8],
+    at: usize,
+)
+    requires { ⌜ (number < 256) × (length (now share) < 65536) × (count ≤ maxPath) × (at + (4 + length (now share) + 32 * count) ≤ length (now out)) ⌝ }
+    ensures { λ _. ⌜ now (out .exit) ≡ spliced (now (out .entry)) at (packetOf number (now (share .entry)) (take count path)) ⌝ }
+{
+    let len = share.len();
+    let head = [
+        7u8,
+        (number % 256) as u8,
+        (len / 256 % 256) as u8,
+        (len % 256) as u8,
+    ];
+    buffer::put(out, at, &head);
+    buffer::put(out, at + 4, share);
+    write_path(path, count, out, at + 4 + len);
+}
+
+// The first `count` hashes of a path, one behind the other, from place at on.
+fn write_path(path: [Hash; MAX_PATH], count: usize, out: &mut [u8], at: usize)
+    requires { ⌜ (count ≤ maxPath) × (at + 32 * count ≤ length (now out)) ⌝ }
+    ensures { λ _. ⌜ now (out .exit) ≡ spliced (now (out .entry)) at (chained (take count path)) ⌝ }
+{
+    let mut to = at;
+    let mut i: usize = 0;
+    while i < count {
+        let hash = path[i];
+        buffer::put(out, to, &hash);
+        to += 32;
+        i += 1;
+    }
+}
+
+// A packet's bytes, read from a place that it remembers (document 01: the cursor).
+pub struct Reader<'a> {
+    pub src: &'a [u8],
+    pub at: usize,
+}
+
+// A reader at the start of the bytes.
+pub fn start<'a>(src: &'a [u8]) -> Reader<'a>
+    ensures { λ r. ⌜ (r .src ≡ src .entry) × (r .at ≡ 0) ⌝ }
+{
+    Reader { src, at: 0 }
+}
+
+// The packet at the reader's place, among n parties.
+pub fn next<'a>(r: Reader<'a>, n: usize) -> Packet
+    ensures { λ p. ⌜ p ≡ readAt n (now (r .entry .src)) (r .entry .at) ⌝ }
+{
+    read_at(n, r.src, r.at)
+}
+
+// The packet that the bytes are, among n parties: for callers that have no reader.
+pub fn read(s: &[u8], n: usize) -> Packet
+    ensures { λ r. ⌜ r ≡ readAt n (now (s .entry)) 0 ⌝ }
+{
+    next(start(s), n)
+}
