@@ -5,7 +5,7 @@ ghost use mathlib.Core.Path.{_≡_};
 ghost use mathlib.Core.Bool.{true, false, _&&_};
 ghost use Prim.Native.Nat.{_≤_, _<_};
 ghost use lib.Dec.{eqb};
-ghost use lib.ListN.{length};
+ghost use lib.ListN.{length, drop, replicate};
 ghost use Rattle.stream.specs.Number.{spelled};
 ghost use Rattle.stream.specs.Tally.{_⊞_, countedOf, cutOf};
 use std::num::wrapping_add_u64;
@@ -110,6 +110,28 @@ pub fn read(buffer: &mut [u8]) -> bool
 {
     let got = io::read_full(IN, buffer);
     got == buffer.len()
+}
+
+// Fills the first bytes of a buffer from the stream and leaves the others; tells whether the buffer and the stream had as many.
+pub fn read_start(buffer: &mut [u8], len: usize) -> bool
+    ensures { λ _. ⌜ (length (now (buffer .exit)) ≡ length (now (buffer .entry)))
+        × (drop len (now (buffer .exit)) ≡ drop len (now (buffer .entry))) ⌝ }
+{
+    if buffer.len() < len {
+        return false;
+    }
+    read(&mut buffer[..len])
+}
+
+// Sets each byte of a buffer to a value.
+pub fn fill(buffer: &mut [u8], value: u8)
+    ensures { λ _. ⌜ now (buffer .exit) ≡ replicate (length (now (buffer .entry))) value ⌝ }
+{
+    let mut i = 0;
+    while i < buffer.len() {
+        buffer[i] = value;
+        i += 1;
+    }
 }
 
 // The number that bytes spell, the first the highest, modulo 2^64.

@@ -162,7 +162,7 @@ fn run_paths(tally: Tally, n: usize, leaves: &[Hash; MAX_PARTIES], right: bool) 
             return tally.cut();
         }
         let told = stream::wide(count[0]);
-        if !read_path(&mut hashes, told) {
+        if !stream::read_start(&mut hashes, told * 32) {
             return tally.cut();
         }
         if !path_agrees(n, j, leaves, told, hashes) {
@@ -170,15 +170,6 @@ fn run_paths(tally: Tally, n: usize, leaves: &[Hash; MAX_PARTIES], right: bool) 
         }
     }
     tally.counted(good)
-}
-
-// Reads hashes to the start of a buffer; tells whether it could take and the stream had as many.
-fn read_path(hashes: &mut [u8], count: usize) -> bool {
-    if hashes.len() / 32 < count {
-        return false;
-    }
-    let len = count * 32;
-    stream::read(&mut hashes[..len])
 }
 
 // The hashes of a path.
@@ -232,7 +223,7 @@ fn same_path(path: [Hash; MAX_PATH], told: [Hash; MAX_PATH]) -> bool {
     true
 }
 
-// The numbers at the start of a check: the arguments' numbers and lengths, and the answer.
+// The numbers at the start of a check: the arguments' numbers and lengths in bytes, and the answer.
 struct Head {
     n: usize,
     j: usize,
@@ -250,7 +241,7 @@ impl Head {
             j: stream::number(&bytes[2..4]),
             len: stream::number(&bytes[4..8]),
             count: stream::wide(bytes[8]),
-            stored: stream::wide(bytes[9]),
+            stored: stream::wide(bytes[9]) * 32,
             root: stream::wide(bytes[10]),
             answer: stream::wide(bytes[11]),
         }
@@ -281,7 +272,7 @@ fn run_path_check(tally: Tally, head: Head, share: &mut [u8], root: &mut [u8]) -
     if !stream::read(share) {
         return tally.cut();
     }
-    if !read_path(&mut hashes, head.stored) {
+    if !stream::read_start(&mut hashes, head.stored) {
         return tally.cut();
     }
     if !stream::read(root) {

@@ -207,15 +207,11 @@ fn run_call(
     expected: &mut [u8],
     out: &mut [u8],
 ) -> Tally {
-    let written = head.written();
-    if expected.len() < written {
-        return tally.cut();
-    }
-    fill(expected);
+    stream::fill(expected, UNTOUCHED);
     if !stream::read(input) {
         return tally.cut();
     }
-    if !stream::read(&mut expected[..written]) {
+    if !stream::read_start(expected, head.written()) {
         return tally.cut();
     }
     tally.counted(agrees(encodes, head, input, expected, out))
@@ -223,7 +219,7 @@ fn run_call(
 
 // Whether the call answers as the head says, and leaves out as it should.
 fn agrees(encodes: bool, head: Head, input: &[u8], expected: &[u8], out: &mut [u8]) -> bool {
-    fill(out);
+    stream::fill(out, UNTOUCHED);
     let got = call(encodes, head.n, head.t, input, out);
     same_answer(got, head.answer, head.value) && check::same(out, expected)
 }
@@ -243,14 +239,6 @@ fn same_answer(got: Written, answer: usize, value: usize) -> bool {
         Written::Refused(cause) => answer == 0 && value == stream::wide(cause),
         Written::Short(length) => answer == 1 && value == length,
         Written::Done(length) => answer == 2 && value == length,
-    }
-}
-
-fn fill(out: &mut [u8]) {
-    let mut i = 0;
-    while i < out.len() {
-        out[i] = UNTOUCHED;
-        i += 1;
     }
 }
 

@@ -34,11 +34,14 @@ array-read-wide c = search needs
 wide-requires : tie.Need-wide-requires Inv-loop μ-loop
 wide-requires c κs = search needs
 
-slice-aggregate-read-path : tie.Need-slice-aggregate-read-path Inv-loop μ-loop
-slice-aggregate-read-path c = search needs
+slice-aggregate-read-start : tie.Need-slice-aggregate-read-start Inv-loop μ-loop
+slice-aggregate-read-start c = search needs
 
-read-path-requires : tie.Need-read-path-requires Inv-loop μ-loop
-read-path-requires c κs = search needs
+mul-read-start : tie.Need-mul-read-start Inv-loop μ-loop
+mul-read-start c = search needs
+
+read-start-requires : tie.Need-read-start-requires Inv-loop μ-loop
+read-start-requires c κs = search needs
 
 cut-requires-2 : tie.Need-cut-requires-2 Inv-loop μ-loop
 cut-requires-2 c κs = search needs
@@ -81,8 +84,9 @@ run-paths-spec =
     returns
     array-read-wide
     wide-requires
-    slice-aggregate-read-path
-    read-path-requires
+    slice-aggregate-read-start
+    mul-read-start
+    read-start-requires
     cut-requires-2
     returns-2
     path-agrees-requires
