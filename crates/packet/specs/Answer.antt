@@ -21,11 +21,13 @@ placed at silence = packet.Silence
 placed at unreadable = packet.Refused 10
 placed at (shared number share path) = packet.Share number (at + 4) (length share) (length path)
 
--- the packet that stands from a place on to the end of s, among n parties: cause 1, then 10
+-- the packet that stands from a place on to the end of s, among n parties: cause 1, then 10. A number out of its range inside the packet
+-- is 10, since causes 1 to 4 judge arguments; from the end on there are no bytes, which is silence
 unfoldable pub readAt : ℕ → List ℕ → ℕ → Packet
 readAt n s at = cond (not (parties n)) (packet.Refused 1) (placed at (readOf n (drop at s)))
 
--- the path of `count` hashes at a place, and blanks past them; all blank where it is longer than any path or runs past the end
+-- the path of `count` hashes at a place, as the reader tells it, and blanks past them; all blank where it is longer than any path or
+-- runs past the end
 unfoldable pub pathAt : List ℕ → ℕ → ℕ → List (List ℕ)
 pathAt s at count =
     cond (ltb maxPath count || ltb (length s) (at + 32 * count)) (replicate maxPath blank)
@@ -45,8 +47,8 @@ judgeOf n j root p =
     (cond (not (eqb (length root) 32)) (verdict.Refused 7)
     (told (classOf n j root p))))
 
--- why the packet of a share of len bytes with `count` hashes is not written: n or the number out of its range (1, 3), or no packet that
--- could be read (10); 0: it is
+-- why the packet of a share of len bytes with `count` hashes is not written: n or the number out of its range (1, 3), or a packet that
+-- no reader would take (10, here by our own choice); 0: it is
 unfoldable pub writeCause : ℕ → ℕ → ℕ → ℕ → ℕ
 writeCause n number len count =
     cond (not (parties n)) 1
@@ -54,13 +56,15 @@ writeCause n number len count =
     (cond (ltb len 1 || ltb maxShare len || not (eqb count (length (sidesOf n number)))) 10
     0))
 
--- a share's packet in a lent buffer, and as an entry with its length: cause 9 where it would be written and the buffer is too short
+-- turned away for a cause, or the bytes written; cause 9 where they would be written and the buffer is too short
+abbrev pub writtenUnless : ℕ → List ℕ → List ℕ → Given
+writtenUnless cause bs out = cond (not (eqb cause 0)) (gave (given.Refused cause) out) (written bs out)
+
+-- a share's packet in a lent buffer, and the same as an entry with its length; the path has at least `count` hashes
 unfoldable pub writeOf : ℕ → ℕ → List ℕ → List (List ℕ) → ℕ → List ℕ → Given
 writeOf n number share path count out =
-    cond (not (eqb (writeCause n number (length share) count) 0)) (gave (given.Refused (writeCause n number (length share) count)) out)
-    (written (packetOf number share (take count path)) out)
+    writtenUnless (writeCause n number (length share) count) (packetOf number share (take count path)) out
 
 unfoldable pub writeEntryOf : ℕ → ℕ → List ℕ → List (List ℕ) → ℕ → List ℕ → Given
 writeEntryOf n number share path count out =
-    cond (not (eqb (writeCause n number (length share) count) 0)) (gave (given.Refused (writeCause n number (length share) count)) out)
-    (written (entryOf (packetOf number share (take count path))) out)
+    writtenUnless (writeCause n number (length share) count) (entryOf (packetOf number share (take count path))) out

@@ -1,4 +1,5 @@
--- A packet judged against n, the number demanded of it and the agreed root: steps 4 and 5 go by this one definition. Assumes nothing.
+-- A packet judged against n, the number demanded of it and the agreed root. Steps 4 and 5 take valid packets alone: silent and faulty are
+-- alike to them. Assumes nothing.
 use mathlib.Core.Bool.{cond, _&&_}
 use mathlib.Core.List.{List, []}
 use Prim.Native.Nat.{ℕ}

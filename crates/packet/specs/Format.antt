@@ -1,5 +1,7 @@
--- The bytes of a packet (document 01, "Packets and boxes of packets"), and what bytes say as one. Assumes nothing.
-use mathlib.Core.Bool.{Bool, cond, not, _&&_, _||_}
+-- The bytes of a packet (document 01, "Packets and boxes of packets"), and what bytes say as one. Both ways are proved to be inverse: what
+-- `packetOf` gives is read back by `readOf` (`written-read`), and bytes read as a share are `packetOf` of it (`read-written`).
+-- Assumes nothing.
+use mathlib.Core.Bool.{cond, not, _&&_, _||_}
 use mathlib.Core.List.{List, [], _∷_, _++_}
 use Prim.Native.Nat.{ℕ, zero, suc, _+_, _*_, _/_, _%_}
 use lib.Dec.{ltb, eqb}
@@ -7,7 +9,7 @@ use lib.ListN.{length, getD, take, drop}
 use Rattle.limits.specs.Limits.{maxShare}
 use Rattle.merkle.specs.Shares.{numbered, sidesOf}
 
--- hashes one behind the other
+-- lists one behind the other, such as the hashes of a path
 unfoldable pub chained : List (List ℕ) → List ℕ
 chained [] = []
 chained (h ∷ hs) = h ++ chained hs

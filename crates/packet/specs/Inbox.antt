@@ -3,7 +3,8 @@ use mathlib.Core.List.{List, [], _∷_, _++_}
 use Prim.Native.Nat.{ℕ}
 use Rattle.packet.specs.Format.{entryOf}
 
--- the packets of senders (or receivers) 1 to n, one behind the other, each with its length in two bytes before it
+-- a packet of up to 65,535 bytes for each of the senders (or receivers) from 1 on, one behind the other, each with its length in two
+-- bytes before it; no bytes where nothing is sent
 unfoldable pub inboxOf : List (List ℕ) → List ℕ
 inboxOf [] = []
 inboxOf (p ∷ ps) = entryOf p ++ inboxOf ps
