@@ -323,31 +323,19 @@ fn cuts(file: &mut File) {
     file.unreadable(&good, &[&good.bytes[..], &[0]].concat());
 }
 
-/// One bit flipped: every bit of some packets, and of others with long paths those of
-/// header, share, and of the first and last byte of each hash.
+/// Each bit of a packet flipped in turn, for each of the chosen numbers of parties.
 fn flips(file: &mut File) {
-    for (n, j) in [(1, 1), (2, 2), (3, 1), (5, 5)] {
+    for (n, j) in [(1, 1), (2, 2), (3, 1), (5, 5), (16, 11)] {
         let good = file.good(n, j, 1);
         for place in 0..good.bytes.len() {
             flip_byte(file, &good, place);
         }
     }
-    for (n, j) in [(5, 1), (16, 11)] {
-        let good = file.good(n, j, 2);
-        let path = HEADER + 2;
-        for place in 0..good.bytes.len() {
-            if place < path || [0, 31].contains(&((place - path) % 32)) {
-                flip_byte(file, &good, place);
-            }
-        }
-    }
 }
 
 /// Each bit of one byte flipped in turn: a share or path stays readable, map and length do
-/// not, and a number does if its path is as long. All flips are held against the number;
-/// to save space, only one flip of a byte in a path of several hashes is read as well.
+/// not, and a number does if its path is as long.
 fn flip_byte(file: &mut File, good: &Good, place: usize) {
-    let long_path = good.path.len() > 1 && place >= HEADER + good.share.len();
     for bit in 0..8 {
         let mut bytes = good.bytes.clone();
         bytes[place] ^= 1 << bit;
@@ -357,11 +345,8 @@ fn flip_byte(file: &mut File, good: &Good, place: usize) {
             0..HEADER => false,
             _ => true,
         };
-        if !long_path || bit == place % 8 {
-            let reading = if readable { SHARE } else { UNREADABLE };
-            file.read(good.n, &bytes, reading);
-        }
-        file.stands(good.n, good.j, good.root, &bytes, FAULTY);
+        let reading = if readable { SHARE } else { UNREADABLE };
+        file.instead(good, &bytes, reading, FAULTY);
     }
 }
 
