@@ -7,3 +7,4 @@ pub mod Verdict
 pub mod Writing
 pub mod Inverse
 pub mod Inbox
+pub mod Instances
