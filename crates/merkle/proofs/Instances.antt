@@ -10,6 +10,7 @@ use lib.Dec.{lit≤}
 use lib.ListN.{length, take, replicate}
 use Rattle.limits.specs.Limits.{maxPath}
 use Rattle.sha256.specs.Sha256.{sha256}
+use Rattle.sha256.proofs.Laws.{sha256-length}
 use Rattle.merkle.specs.Tree.{splitFrom, split, shapeOf, shape, size, sides, root, path, folded}
 use Rattle.merkle.specs.Strings.{Collision}
 use Rattle.merkle.specs.Shares.{leafString, leafStrings, blank, sharesCause, leavesOf, rootOf, sidesOf, pathOf, passes}
@@ -35,48 +36,48 @@ unfolding splitFrom split shapeOf shape size sides
 two = refl
 
 abbrev made : List (List ℕ)
-made = pathOf 3 2 (leavesOf 3 abc)
+made = pathOf sha256 3 2 (leavesOf sha256 3 abc)
 
 abbrev top : List ℕ
-top = rootOf 3 (leavesOf 3 abc)
+top = rootOf sha256 3 (leavesOf sha256 3 abc)
 
-pub second-passes : passes 3 2 second made 2 top ≡ true
+pub second-passes : passes sha256 3 2 second made 2 top ≡ true
 second-passes =
-    ap (λ (count : ℕ). passes 3 2 second made count top) (sym two) ∙ path-passes 3 abc fine 2 (lit≤ tt) (lit≤ tt)
+    ap (λ (count : ℕ). passes sha256 3 2 second made count top) (sym two) ∙ path-passes sha256 sha256-length 3 abc fine 2 (lit≤ tt) (lit≤ tt)
 
-pub second-checks : checkOf 3 2 second made 2 top ≡ Yes
+pub second-checks : checkOf sha256 3 2 second made 2 top ≡ Yes
 second-checks =
-    ap (λ (count : ℕ). checkOf 3 2 second made count top) (sym two) ∙ path-checks 3 abc fine 2 (lit≤ tt) (lit≤ tt)
+    ap (λ (count : ℕ). checkOf sha256 3 2 second made count top) (sym two) ∙ path-checks sha256 sha256-length 3 abc fine 2 (lit≤ tt) (lit≤ tt)
 
 -- no other share passes with that path
-pub second-only : (share : List ℕ) → passes 3 2 share made 2 top ≡ true
-    → (share ≡ second) ⊎ Collision sha256 (stringsOf 3 2 share made 2) (codingStrings 3 abc)
+pub second-only : (share : List ℕ) → passes sha256 3 2 share made 2 top ≡ true
+    → (share ≡ second) ⊎ Collision sha256 (stringsOf sha256 3 2 share made 2) (codingStrings sha256 3 abc)
 second-only share =
-    passes-sound 3 abc fine 2 (lit≤ tt) (lit≤ tt) share made 2
-    (λ i h. path-wide 3 abc fine 2 (lit≤ tt) (lit≤ tt) i (omega (arith, two)))
+    passes-sound sha256 sha256-length 3 abc fine 2 (lit≤ tt) (lit≤ tt) share made 2
+    (λ i h. path-wide sha256 sha256-length 3 abc fine 2 (lit≤ tt) (lit≤ tt) i (omega (arith, two)))
 
-pub second-itself : (second ≡ second) ⊎ Collision sha256 (stringsOf 3 2 second made 2) (codingStrings 3 abc)
+pub second-itself : (second ≡ second) ⊎ Collision sha256 (stringsOf sha256 3 2 second made 2) (codingStrings sha256 3 abc)
 second-itself = second-only second second-passes
 
 -- no other three bytes have that root
-pub abc-only : (others : List ℕ) → length others ≡ 3 → rootOf 3 (leavesOf 3 others) ≡ top
-    → (others ≡ abc) ⊎ Collision sha256 (codingStrings 3 others) (codingStrings 3 abc)
-abc-only others e = roots-differ 3 abc fine others (ap (sharesCause 3) e ∙ fine) e
+pub abc-only : (others : List ℕ) → length others ≡ 3 → rootOf sha256 3 (leavesOf sha256 3 others) ≡ top
+    → (others ≡ abc) ⊎ Collision sha256 (codingStrings sha256 3 others) (codingStrings sha256 3 abc)
+abc-only others e = roots-differ sha256 sha256-length 3 abc fine others (ap (sharesCause 3) e ∙ fine) e
 
-pub abc-itself : (abc ≡ abc) ⊎ Collision sha256 (codingStrings 3 abc) (codingStrings 3 abc)
+pub abc-itself : (abc ≡ abc) ⊎ Collision sha256 (codingStrings sha256 3 abc) (codingStrings sha256 3 abc)
 abc-itself = abc-only abc refl refl
 
 -- what another hash gives that agrees with SHA-256 on the strings hashed
-pub abc-root : (K : List ℕ → List ℕ) → Agree sha256 K (codingStrings 3 abc) → top ≡ root K (shape 3) (leafStrings 3 abc)
-abc-root = root-hashed 3 abc fine
+pub abc-root : (K : List ℕ → List ℕ) → Agree sha256 K (codingStrings sha256 3 abc) → top ≡ root K (shape 3) (leafStrings 3 abc)
+abc-root = root-hashed sha256 sha256-length 3 abc fine
 
-pub second-path : (K : List ℕ → List ℕ) → Agree sha256 K (codingStrings 3 abc)
+pub second-path : (K : List ℕ → List ℕ) → Agree sha256 K (codingStrings sha256 3 abc)
     → made ≡ path K (shape 3) 1 (leafStrings 3 abc) ++ replicate 2 blank
 second-path K f =
-    path-hashed 3 abc fine 2 (lit≤ tt) (lit≤ tt) K f
+    path-hashed sha256 sha256-length 3 abc fine 2 (lit≤ tt) (lit≤ tt) K f
     ∙ ap (λ (count : ℕ). path K (shape 3) 1 (leafStrings 3 abc) ++ replicate (maxPath - count) blank) two
 
-pub second-fold : (K : List ℕ → List ℕ) → Agree sha256 K (stringsOf 3 2 second made 2)
+pub second-fold : (K : List ℕ → List ℕ) → Agree sha256 K (stringsOf sha256 3 2 second made 2)
     → folded sha256 (sidesOf 3 2) (take 2 made) (sha256 (leafString 2 second))
     ≡ folded K (sidesOf 3 2) (take 2 made) (K (leafString 2 second))
-second-fold K f = check-hashed 3 2 second made 2 K (sym two) f
+second-fold K f = check-hashed sha256 3 2 second made 2 K (sym two) f

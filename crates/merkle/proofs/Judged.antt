@@ -12,7 +12,6 @@ use lib.Dec.{ltb, eqb}
 use lib.ListN.{length, getD, take, drop, replicate, drop-of-length-le}
 use lib.Seq.{drop-cons}
 use Rattle.limits.specs.Limits.{maxParties, maxHashed}
-use Rattle.sha256.specs.Sha256.{sha256}
 use Rattle.merkle.specs.Tree.{folded}
 use Rattle.merkle.specs.Shares.{leafString, leafStrings, blank, sharesCause, leavesOf, sidesOf, same, passes, told, checkOf}
 use Rattle.merkle.specs.Shares.{parties, numbered}
@@ -74,38 +73,38 @@ even-of n len e =
 pub even-whole : (n len : ℕ) → Even n len → n * (len / n) ≡ len
 even-whole n len v = omega (arith, div-add-mod len n, v .whole)
 
-module _ (n : ℕ) (shares : List ℕ) where
-  pub leaves-none : (sharesCause n (length shares) ≡ 0 → ⊥) → leavesOf n shares ≡ replicate maxParties blank
+module _ (H : List ℕ → List ℕ) (n : ℕ) (shares : List ℕ) where
+  pub leaves-none : (sharesCause n (length shares) ≡ 0 → ⊥) → leavesOf H n shares ≡ replicate maxParties blank
   unfolding leavesOf
   leaves-none h = rw (ne-eqb (sharesCause n (length shares)) 0 h)
 
   pub leaves-fine : sharesCause n (length shares) ≡ 0
-      → leavesOf n shares ≡ map sha256 (leafStrings n shares) ++ replicate (maxParties - n) blank
+      → leavesOf H n shares ≡ map H (leafStrings n shares) ++ replicate (maxParties - n) blank
   unfolding leavesOf
   leaves-fine h = rw (eq-eqb (sharesCause n (length shares)) 0 h)
 
-module _ (n j : ℕ) (share : List ℕ) (path : List (List ℕ)) (count : ℕ) (root : List ℕ) where
-  pub check-none : n < 1 → checkOf n j share path count root ≡ Refused 1
+module _ (H : List ℕ → List ℕ) (n j : ℕ) (share : List ℕ) (path : List (List ℕ)) (count : ℕ) (root : List ℕ) where
+  pub check-none : n < 1 → checkOf H n j share path count root ≡ Refused 1
   unfolding checkOf
   check-none h = rw (lt-ltb n 1 h)
 
   module _ (low : 1 ≤ n) where
-    pub check-many : maxParties < n → checkOf n j share path count root ≡ Refused 1
+    pub check-many : maxParties < n → checkOf H n j share path count root ≡ Refused 1
     unfolding checkOf
     check-many h = rw (le-ltb n 1 low, lt-ltb maxParties n h)
 
     module _ (high : n ≤ maxParties) where
-      pub check-zero : j < 1 → checkOf n j share path count root ≡ Refused 3
+      pub check-zero : j < 1 → checkOf H n j share path count root ≡ Refused 3
       unfolding checkOf
       check-zero h = rw (le-ltb n 1 low, le-ltb maxParties n high, lt-ltb j 1 h)
 
       module _ (first : 1 ≤ j) where
-        pub check-past : n < j → checkOf n j share path count root ≡ Refused 3
+        pub check-past : n < j → checkOf H n j share path count root ≡ Refused 3
         unfolding checkOf
         check-past h = rw (le-ltb n 1 low, le-ltb maxParties n high, le-ltb j 1 first, lt-ltb n j h)
 
         module _ (last : j ≤ n) where
-          pub check-long : maxHashed < 2 + length share → checkOf n j share path count root ≡ Refused 4
+          pub check-long : maxHashed < 2 + length share → checkOf H n j share path count root ≡ Refused 4
           unfolding checkOf
           check-long h =
               rw (
@@ -117,7 +116,7 @@ module _ (n j : ℕ) (share : List ℕ) (path : List (List ℕ)) (count : ℕ) (
               )
 
           module _ (short : 2 + length share ≤ maxHashed) where
-            pub check-root : (length root ≡ 32 → ⊥) → checkOf n j share path count root ≡ Refused 7
+            pub check-root : (length root ≡ 32 → ⊥) → checkOf H n j share path count root ≡ Refused 7
             unfolding checkOf
             check-root h =
                 rw (
@@ -129,7 +128,7 @@ module _ (n j : ℕ) (share : List ℕ) (path : List (List ℕ)) (count : ℕ) (
                   ne-eqb (length root) 32 h,
                 )
 
-            pub check-judged : length root ≡ 32 → checkOf n j share path count root ≡ told (passes n j share path count root)
+            pub check-judged : length root ≡ 32 → checkOf H n j share path count root ≡ told (passes H n j share path count root)
             unfolding checkOf
             check-judged h =
                 rw (
@@ -141,12 +140,12 @@ module _ (n j : ℕ) (share : List ℕ) (path : List (List ℕ)) (count : ℕ) (
                   eq-eqb (length root) 32 h,
                 )
 
-  pub passes-miscount : (count ≡ length (sidesOf n j) → ⊥) → passes n j share path count root ≡ false
+  pub passes-miscount : (count ≡ length (sidesOf n j) → ⊥) → passes H n j share path count root ≡ false
   unfolding passes
   passes-miscount h = rw (ne-eqb count (length (sidesOf n j)) h)
 
-  pub passes-same : count ≡ length (sidesOf n j) → passes n j share path count root
-      ≡ same (folded sha256 (sidesOf n j) (take count path) (sha256 (leafString j share))) root
+  pub passes-same : count ≡ length (sidesOf n j) → passes H n j share path count root
+      ≡ same (folded H (sidesOf n j) (take count path) (H (leafString j share))) root
   unfolding passes
   passes-same h = rw (eq-eqb count (length (sidesOf n j)) h)
 
@@ -194,12 +193,12 @@ module _ (a b : List ℕ) (i : ℕ) where
         ∙ ap (λ (t : Bool). t && same (drop (suc i) a) (drop (suc i) b)) (ne-eqb (getD a i 0) (getD b i 0) e)
 
 -- a path passes only where its count is right and it leads to the root
-pub passes-true : (n j : ℕ) (share : List ℕ) (path : List (List ℕ)) (count : ℕ) (root : List ℕ)
-    → passes n j share path count root ≡ true → (count ≡ length (sidesOf n j))
-    × (folded sha256 (sidesOf n j) (take count path) (sha256 (leafString j share)) ≡ root)
+pub passes-true : (H : List ℕ → List ℕ) (n j : ℕ) (share : List ℕ) (path : List (List ℕ)) (count : ℕ) (root : List ℕ)
+    → passes H n j share path count root ≡ true → (count ≡ length (sidesOf n j))
+    × (folded H (sidesOf n j) (take count path) (H (leafString j share)) ≡ root)
 unfolding passes
-passes-true n j share path count root e =
-    let top : List ℕ = folded sha256 (sidesOf n j) (take count path) (sha256 (leafString j share)) in
+passes-true H n j share path count root e =
+    let top : List ℕ = folded H (sidesOf n j) (take count path) (H (leafString j share)) in
     let h = both (eqb count (length (sidesOf n j))) (same top root) e in
     (eqb-true count (length (sidesOf n j)) (h .0), same-true top root (h .1))
 
@@ -219,9 +218,9 @@ yes-only false false false true p e = absurd (refused-yes 7 e)
 yes-only false false false false true e = refl
 yes-only false false false false false e = absurd (no-yes e)
 
-pub check-yes : (n j : ℕ) (share : List ℕ) (path : List (List ℕ)) (count : ℕ) (root : List ℕ)
-    → checkOf n j share path count root ≡ Yes → passes n j share path count root ≡ true
+pub check-yes : (H : List ℕ → List ℕ) (n j : ℕ) (share : List ℕ) (path : List (List ℕ)) (count : ℕ) (root : List ℕ)
+    → checkOf H n j share path count root ≡ Yes → passes H n j share path count root ≡ true
 unfolding checkOf
-check-yes n j share path count root e =
+check-yes H n j share path count root e =
     yes-only (not (parties n)) (not (numbered n j)) (ltb maxHashed (2 + length share)) (not (eqb (length root) 32))
-    (passes n j share path count root) e
+    (passes H n j share path count root) e

@@ -8,7 +8,6 @@ use native.Mathlib.Omega.{arith}
 use lib.ListN.{length, getD, take, drop, replicate, length-map, List·getD-append}
 use Rattle.limits.specs.Limits.{maxParties, maxPath}
 use Rattle.buffer.proofs.Tabulate.{length-tabulate, getD-tabulate}
-use Rattle.sha256.specs.Sha256.{sha256}
 use Rattle.merkle.specs.Tree.{shape, size, root, path}
 use Rattle.merkle.specs.Shares.{leafString, leafStrings, blank, sharesCause, leavesOf, rootOf, sidesOf, pathOf}
 use Rattle.merkle.proofs.Shape.{size-shape}
@@ -38,31 +37,31 @@ getD-mapped f [] k h = absurd (omega arith)
 getD-mapped f (x ∷ l) zero h = refl
 getD-mapped f (x ∷ l) (suc k) h = getD-mapped f l k (omega arith)
 
-module _ (n : ℕ) (shares : List ℕ) (fine : sharesCause n (length shares) ≡ 0) where
+module _ (H : List ℕ → List ℕ) (n : ℕ) (shares : List ℕ) (fine : sharesCause n (length shares) ≡ 0) where
   -- entry k of the leaf hashes is the hash of leaf string k
-  pub leaves-hashed : (k : ℕ) → k < n → getD (leavesOf n shares) k [] ≡ sha256 (getD (leafStrings n shares) k [])
+  pub leaves-hashed : (k : ℕ) → k < n → getD (leavesOf H n shares) k [] ≡ H (getD (leafStrings n shares) k [])
   leaves-hashed k h =
       let few : k < length (leafStrings n shares) = omega (arith, length-leafStrings n shares) in
-      let inside : k < length (map sha256 (leafStrings n shares)) = rw (length-map (leafStrings n shares) sha256) few in
-      ap (λ (l : List (List ℕ)). getD l k []) (leaves-fine n shares fine)
-      ∙ List·getD-append (map sha256 (leafStrings n shares)) (replicate (maxParties - n) blank) [] k inside
-      ∙ getD-mapped sha256 (leafStrings n shares) k few
+      let inside : k < length (map H (leafStrings n shares)) = rw (length-map (leafStrings n shares) H) few in
+      ap (λ (l : List (List ℕ)). getD l k []) (leaves-fine H n shares fine)
+      ∙ List·getD-append (map H (leafStrings n shares)) (replicate (maxParties - n) blank) [] k inside
+      ∙ getD-mapped H (leafStrings n shares) k few
 
   module _ (some : 1 ≤ n) (few : n ≤ maxParties) where
-    hashed : Hashed sha256 (size (shape n)) 0 (leavesOf n shares) (leafStrings n shares)
+    hashed : Hashed H (size (shape n)) 0 (leavesOf H n shares) (leafStrings n shares)
     hashed k h =
         let i : k < n = omega (arith, size-shape n some) in
         rw zero-add (leaves-hashed k i)
 
     -- the root
-    pub tree-root : rootOf n (leavesOf n shares) ≡ root sha256 (shape n) (leafStrings n shares)
+    pub tree-root : rootOf H n (leavesOf H n shares) ≡ root H (shape n) (leafStrings n shares)
     tree-root =
-        root-top n (leavesOf n shares) some few ∙ topHash-root sha256 (shape n) 0 (leavesOf n shares) (leafStrings n shares) hashed
+        root-top H n (leavesOf H n shares) some few ∙ topHash-root H (shape n) 0 (leavesOf H n shares) (leafStrings n shares) hashed
 
     -- the audit path of share j, and blanks
-    pub tree-path : (j : ℕ) → 1 ≤ j → j ≤ n → pathOf n j (leavesOf n shares)
-        ≡ path sha256 (shape n) (j - 1) (leafStrings n shares) ++ replicate (maxPath - length (sidesOf n j)) blank
+    pub tree-path : (j : ℕ) → 1 ≤ j → j ≤ n → pathOf H n j (leavesOf H n shares)
+        ≡ path H (shape n) (j - 1) (leafStrings n shares) ++ replicate (maxPath - length (sidesOf n j)) blank
     tree-path j one last =
-        path-hashes n j (leavesOf n shares) some few one last (length (sidesOf n j)) refl
+        path-hashes H n j (leavesOf H n shares) some few one last (length (sidesOf n j)) refl
         ∙ ap (λ (p : List (List ℕ)). p ++ replicate (maxPath - length (sidesOf n j)) blank)
-        (pathHashes-path sha256 (shape n) (j - 1) 0 (leavesOf n shares) (leafStrings n shares) hashed)
+        (pathHashes-path H (shape n) (j - 1) 0 (leavesOf H n shares) (leafStrings n shares) hashed)

@@ -1,6 +1,6 @@
--- What the tree over n shares gives at SHA-256: the path made for a share passes, a path that passes is that of the tree's own share,
+-- What the tree over n shares gives, for any hash of 32 bytes: the path made for a share passes, a path that passes is that of the tree's own share,
 -- two lists of shares with one root are one, each unless two different strings with one hash are among those hashed; and roots, paths
--- and checks depend on SHA-256 only at the strings hashed. By the laws for all shapes and hashes. Assumes nothing.
+-- and checks depend on the hash only at the strings hashed. By the laws for all shapes and hashes. Assumes nothing.
 use mathlib.Core.Path.{_≡_, refl, sym, ap, ap₂, _∙_}
 use mathlib.Core.Logic.{_⊎_, inl, inr}
 use mathlib.Core.Bool.{Bool, true, false}
@@ -14,8 +14,6 @@ use lib.ListN.{length, getD, take, drop, replicate, length-append, length-drop, 
 use lib.Seq.{getD-take, getD-at, take-at, take-add, take-all, length-take-le}
 use Rattle.limits.specs.Limits.{maxPath, maxHashed}
 use Rattle.buffer.proofs.Rows.{row-inside}
-use Rattle.sha256.specs.Sha256.{sha256}
-use Rattle.sha256.proofs.Laws.{sha256-length}
 use Rattle.merkle.specs.Tree.{Shape, leaf, node, shape, size, sides, root, path, folded}
 use Rattle.merkle.specs.Strings.{treeStrings, checkStrings, Collision}
 use Rattle.merkle.specs.Shares.{leafString, leafStrings, blank, sharesCause, leavesOf, rootOf, sidesOf, pathOf, same, passes}
@@ -79,7 +77,8 @@ rows-same (suc k) s a b f =
     rw (suc-mul k s, take-add (k * s) s a, take-add (k * s) s b)
     (ap₂ (λ (u v : List ℕ). u ++ v) (rows-same k s a b (λ i h. f i (omega arith))) (f k (omega arith)))
 
-module _ (n : ℕ) (shares : List ℕ) (fine : sharesCause n (length shares) ≡ 0) where
+module _ (H : List ℕ → List ℕ) (wide : (s : List ℕ) → length (H s) ≡ 32)
+    (n : ℕ) (shares : List ℕ) (fine : sharesCause n (length shares) ≡ 0) where
   abbrev even : Even n (length shares)
   even = even-of n (length shares) fine
 
@@ -96,33 +95,33 @@ module _ (n : ℕ) (shares : List ℕ) (fine : sharesCause n (length shares) ≡
       sym (take-all (n * s) others (omega arith)) ∙ rows-same n s others shares rows ∙ take-all (n * s) shares (omega arith)
 
   -- the root's length
-  length-root : length (rootOf n (leavesOf n shares)) ≡ 32
+  length-root : length (rootOf H n (leavesOf H n shares)) ≡ 32
   length-root =
-      ap length (tree-root n shares fine (even .low) (even .high))
-      ∙ root-length sha256 32 sha256-length (shape n) (leafStrings n shares)
+      ap length (tree-root H n shares fine (even .low) (even .high))
+      ∙ root-length H 32 wide (shape n) (leafStrings n shares)
 
   -- one root, one list of shares
   pub roots-differ : (others : List ℕ) → sharesCause n (length others) ≡ 0 → length others ≡ length shares
-      → rootOf n (leavesOf n others) ≡ rootOf n (leavesOf n shares)
-      → (others ≡ shares) ⊎ Collision sha256 (codingStrings n others) (codingStrings n shares)
+      → rootOf H n (leavesOf H n others) ≡ rootOf H n (leavesOf H n shares)
+      → (others ≡ shares) ⊎ Collision H (codingStrings H n others) (codingStrings H n shares)
   unfolding codingStrings
   roots-differ others g e r =
-      go (same-roots sha256 32 sha256-length (shape n) (leafStrings n others) (leafStrings n shares)
+      go (same-roots H 32 wide (shape n) (leafStrings n others) (leafStrings n shares)
       (length-leafStrings n others ∙ sym (size-shape n (even .low)))
       (length-leafStrings n shares ∙ sym (size-shape n (even .low)))
-      (sym (tree-root n others g (even .low) (even .high)) ∙ r ∙ tree-root n shares fine (even .low) (even .high)))
+      (sym (tree-root H n others g (even .low) (even .high)) ∙ r ∙ tree-root H n shares fine (even .low) (even .high)))
     where
-      go : (leafStrings n others ≡ leafStrings n shares) ⊎ Collision sha256 (codingStrings n others) (codingStrings n shares)
-          → (others ≡ shares) ⊎ Collision sha256 (codingStrings n others) (codingStrings n shares)
+      go : (leafStrings n others ≡ leafStrings n shares) ⊎ Collision H (codingStrings H n others) (codingStrings H n shares)
+          → (others ≡ shares) ⊎ Collision H (codingStrings H n others) (codingStrings H n shares)
       go (inl f) = inl (shares-same others e f)
       go (inr k) = inr k
 
-  -- the root depends on SHA-256 only at the strings hashed
-  pub root-hashed : (K : List ℕ → List ℕ) → Agree sha256 K (codingStrings n shares)
-      → rootOf n (leavesOf n shares) ≡ root K (shape n) (leafStrings n shares)
+  -- the root depends on the hash only at the strings hashed
+  pub root-hashed : (K : List ℕ → List ℕ) → Agree H K (codingStrings H n shares)
+      → rootOf H n (leavesOf H n shares) ≡ root K (shape n) (leafStrings n shares)
   unfolding codingStrings
   root-hashed K f =
-      tree-root n shares fine (even .low) (even .high) ∙ root-depends sha256 K (shape n) (leafStrings n shares) f
+      tree-root H n shares fine (even .low) (even .high) ∙ root-depends H K (shape n) (leafStrings n shares) f
 
   module _ (j : ℕ) (one : 1 ≤ j) (last : j ≤ n) where
     -- the leaf string of share j
@@ -143,82 +142,82 @@ module _ (n : ℕ) (shares : List ℕ) (fine : sharesCause n (length shares) ≡
         (omega (arith, row-inside n (j - 1) s (omega arith), even-whole n (length shares) even, length-drop ((j - 1) * s) shares))
 
     -- the path made, without its blanks
-    made : take (length (sidesOf n j)) (pathOf n j (leavesOf n shares)) ≡ path sha256 (shape n) (j - 1) (leafStrings n shares)
+    made : take (length (sidesOf n j)) (pathOf H n j (leavesOf H n shares)) ≡ path H (shape n) (j - 1) (leafStrings n shares)
     made =
-        ap (take (length (sidesOf n j))) (tree-path n shares fine (even .low) (even .high) j one last)
-        ∙ take-at (path sha256 (shape n) (j - 1) (leafStrings n shares)) (replicate (maxPath - length (sidesOf n j)) blank)
-        (length (sidesOf n j)) (sym (length-path sha256 (shape n) (j - 1) (leafStrings n shares)))
+        ap (take (length (sidesOf n j))) (tree-path H n shares fine (even .low) (even .high) j one last)
+        ∙ take-at (path H (shape n) (j - 1) (leafStrings n shares)) (replicate (maxPath - length (sidesOf n j)) blank)
+        (length (sidesOf n j)) (sym (length-path H (shape n) (j - 1) (leafStrings n shares)))
 
     -- its hashes have 32 bytes
-    pub path-wide : (i : ℕ) → i < length (sidesOf n j) → length (getD (pathOf n j (leavesOf n shares)) i []) ≡ 32
+    pub path-wide : (i : ℕ) → i < length (sidesOf n j) → length (getD (pathOf H n j (leavesOf H n shares)) i []) ≡ 32
     path-wide i h =
-        ap length (sym (getD-take (length (sidesOf n j)) (pathOf n j (leavesOf n shares)) i [] h)
+        ap length (sym (getD-take (length (sidesOf n j)) (pathOf H n j (leavesOf H n shares)) i [] h)
         ∙ ap (λ (p : List (List ℕ)). getD p i []) made)
-        ∙ wide-path sha256 32 sha256-length (shape n) (j - 1) (leafStrings n shares) i
-        (omega (arith, length-path sha256 (shape n) (j - 1) (leafStrings n shares)))
+        ∙ wide-path H 32 wide (shape n) (j - 1) (leafStrings n shares) i
+        (omega (arith, length-path H (shape n) (j - 1) (leafStrings n shares)))
 
     -- the path made passes
-    pub path-passes : passes n j (take (length shares / n) (drop ((j - 1) * (length shares / n)) shares))
-        (pathOf n j (leavesOf n shares)) (length (sidesOf n j)) (rootOf n (leavesOf n shares)) ≡ true
+    pub path-passes : passes H n j (take (length shares / n) (drop ((j - 1) * (length shares / n)) shares))
+        (pathOf H n j (leavesOf H n shares)) (length (sidesOf n j)) (rootOf H n (leavesOf H n shares)) ≡ true
     path-passes =
         let share : List ℕ = shareAt (length shares / n) shares (j - 1) in
-        let top : List ℕ = rootOf n (leavesOf n shares) in
-        let leads : folded sha256 (sidesOf n j) (take (length (sidesOf n j)) (pathOf n j (leavesOf n shares)))
-        (sha256 (leafString j share)) ≡ top =
-        ap₂ (λ (p : List (List ℕ)) (x : List ℕ). folded sha256 (sidesOf n j) p (sha256 x)) made (sym own-leaf)
-        ∙ complete sha256 (shape n) (j - 1) (leafStrings n shares) inside-tree
-        ∙ sym (tree-root n shares fine (even .low) (even .high)) in
-        passes-same n j share (pathOf n j (leavesOf n shares)) (length (sidesOf n j)) top refl
+        let top : List ℕ = rootOf H n (leavesOf H n shares) in
+        let leads : folded H (sidesOf n j) (take (length (sidesOf n j)) (pathOf H n j (leavesOf H n shares)))
+        (H (leafString j share)) ≡ top =
+        ap₂ (λ (p : List (List ℕ)) (x : List ℕ). folded H (sidesOf n j) p (H x)) made (sym own-leaf)
+        ∙ complete H (shape n) (j - 1) (leafStrings n shares) inside-tree
+        ∙ sym (tree-root H n shares fine (even .low) (even .high)) in
+        passes-same H n j share (pathOf H n j (leavesOf H n shares)) (length (sidesOf n j)) top refl
         ∙ ap (λ (x : List ℕ). same x top) leads
         ∙ same-refl top
 
     -- so the check says yes
-    pub path-checks : checkOf n j (take (length shares / n) (drop ((j - 1) * (length shares / n)) shares))
-        (pathOf n j (leavesOf n shares)) (length (sidesOf n j)) (rootOf n (leavesOf n shares)) ≡ Yes
+    pub path-checks : checkOf H n j (take (length shares / n) (drop ((j - 1) * (length shares / n)) shares))
+        (pathOf H n j (leavesOf H n shares)) (length (sidesOf n j)) (rootOf H n (leavesOf H n shares)) ≡ Yes
     path-checks =
         let short : 2 + length (shareAt (length shares / n) shares (j - 1)) ≤ maxHashed = omega (arith, own-length, even .short) in
-        check-judged n j (shareAt (length shares / n) shares (j - 1)) (pathOf n j (leavesOf n shares)) (length (sidesOf n j))
-        (rootOf n (leavesOf n shares)) (even .low) (even .high) one last short length-root
+        check-judged H n j (shareAt (length shares / n) shares (j - 1)) (pathOf H n j (leavesOf H n shares)) (length (sidesOf n j))
+        (rootOf H n (leavesOf H n shares)) (even .low) (even .high) one last short length-root
         ∙ ap told path-passes
 
     -- a path that passes is that of the tree's own share
     pub passes-sound : (share : List ℕ) (hashes : List (List ℕ)) (count : ℕ)
         → ((i : ℕ) → i < count → length (getD hashes i []) ≡ 32)
-        → passes n j share hashes count (rootOf n (leavesOf n shares)) ≡ true
+        → passes H n j share hashes count (rootOf H n (leavesOf H n shares)) ≡ true
         → (share ≡ take (length shares / n) (drop ((j - 1) * (length shares / n)) shares))
-        ⊎ Collision sha256 (stringsOf n j share hashes count) (codingStrings n shares)
+        ⊎ Collision H (stringsOf H n j share hashes count) (codingStrings H n shares)
     unfolding codingStrings stringsOf
     passes-sound share hashes count there p =
-        let t = passes-true n j share hashes count (rootOf n (leavesOf n shares)) p in
+        let t = passes-true H n j share hashes count (rootOf H n (leavesOf H n shares)) p in
         rw (eq-eqb count (length (sidesOf n j)) (t .0))
-        (go (sound sha256 32 sha256-length (shape n) (j - 1) (leafStrings n shares) (leafString j share) (take count hashes) inside-tree
+        (go (sound H 32 wide (shape n) (j - 1) (leafStrings n shares) (leafString j share) (take count hashes) inside-tree
         (length-take-le count hashes (enough 31 count hashes there) ∙ t .0) (wide-there 31 count hashes there)
-        (t .1 ∙ tree-root n shares fine (even .low) (even .high))))
+        (t .1 ∙ tree-root H n shares fine (even .low) (even .high))))
       where
         go : (leafString j share ≡ getD (leafStrings n shares) (j - 1) [])
-            ⊎ Collision sha256 (checkStrings sha256 (sides (shape n) (j - 1)) (take count hashes) (leafString j share))
-            (treeStrings sha256 (shape n) (leafStrings n shares))
+            ⊎ Collision H (checkStrings H (sides (shape n) (j - 1)) (take count hashes) (leafString j share))
+            (treeStrings H (shape n) (leafStrings n shares))
             → (share ≡ shareAt (length shares / n) shares (j - 1))
-            ⊎ Collision sha256 (checkStrings sha256 (sidesOf n j) (take count hashes) (leafString j share))
-            (treeStrings sha256 (shape n) (leafStrings n shares))
+            ⊎ Collision H (checkStrings H (sidesOf n j) (take count hashes) (leafString j share))
+            (treeStrings H (shape n) (leafStrings n shares))
         go (inl e) = inl (leafString-injective (e ∙ own-leaf) .1)
         go (inr k) = inr k
 
-    -- the path depends on SHA-256 only at the strings hashed
-    pub path-hashed : (K : List ℕ → List ℕ) → Agree sha256 K (codingStrings n shares)
-        → pathOf n j (leavesOf n shares)
+    -- the path depends on the hash only at the strings hashed
+    pub path-hashed : (K : List ℕ → List ℕ) → Agree H K (codingStrings H n shares)
+        → pathOf H n j (leavesOf H n shares)
         ≡ path K (shape n) (j - 1) (leafStrings n shares) ++ replicate (maxPath - length (sidesOf n j)) blank
     unfolding codingStrings
     path-hashed K f =
-        tree-path n shares fine (even .low) (even .high) j one last
+        tree-path H n shares fine (even .low) (even .high) j one last
         ∙ ap (λ (p : List (List ℕ)). p ++ replicate (maxPath - length (sidesOf n j)) blank)
-        (path-depends sha256 K (shape n) (j - 1) (leafStrings n shares) f)
+        (path-depends H K (shape n) (j - 1) (leafStrings n shares) f)
 
--- a check depends on SHA-256 only at the strings hashed
-pub check-hashed : (n j : ℕ) (share : List ℕ) (hashes : List (List ℕ)) (count : ℕ) (K : List ℕ → List ℕ)
-    → count ≡ length (sidesOf n j) → Agree sha256 K (stringsOf n j share hashes count)
-    → folded sha256 (sidesOf n j) (take count hashes) (sha256 (leafString j share))
+-- a check depends on the hash only at the strings hashed
+pub check-hashed : (H : List ℕ → List ℕ) (n j : ℕ) (share : List ℕ) (hashes : List (List ℕ)) (count : ℕ) (K : List ℕ → List ℕ)
+    → count ≡ length (sidesOf n j) → Agree H K (stringsOf H n j share hashes count)
+    → folded H (sidesOf n j) (take count hashes) (H (leafString j share))
     ≡ folded K (sidesOf n j) (take count hashes) (K (leafString j share))
 unfolding stringsOf
-check-hashed n j share hashes count K e f =
-    check-depends sha256 K (sidesOf n j) (take count hashes) (leafString j share) (rw (eq-eqb count (length (sidesOf n j)) e) at f)
+check-hashed H n j share hashes count K e f =
+    check-depends H K (sidesOf n j) (take count hashes) (leafString j share) (rw (eq-eqb count (length (sidesOf n j)) e) at f)

@@ -1,5 +1,5 @@
--- The tree over the shares of a message, by SHA-256 (document 01, "Field, shares, tree"): leaf strings, root, audit path and path check.
--- Assumes nothing.
+-- The tree over the shares of a message (document 01, "Field, shares, tree"): leaf strings, root, audit path and path check. The hash is a
+-- parameter; document 01's is SHA-256, at which the contracts cite these. Assumes nothing.
 use mathlib.Core.Bool.{Bool, true, false, cond, not, _&&_, _||_}
 use mathlib.Core.List.{List, [], _∷_, _++_, map}
 use Prim.Native.Nat.{ℕ, _+_, _-_, _*_, _/_, _%_}
@@ -7,7 +7,6 @@ use lib.Dec.{ltb, eqb}
 use lib.ListN.{length, take, drop, replicate}
 use Rattle.limits.specs.Limits.{maxParties, maxPath, maxHashed}
 use Rattle.buffer.specs.Splice.{tabulate}
-use Rattle.sha256.specs.Sha256.{sha256}
 use Rattle.merkle.specs.Tree.{Side, shape, sides, folded}
 use Rattle.merkle.specs.Strings.{treeStrings, checkStrings}
 use Rattle.merkle.specs.Hashes.{topHash, pathHashes}
@@ -37,12 +36,6 @@ sharesCause n len =
     (cond (not (eqb (len % n) 0)) 8
     0))
 
--- the leaf hashes, and blanks up to the greatest number of parties; all blank where a cause applies
-unfoldable pub leavesOf : ℕ → List ℕ → List (List ℕ)
-leavesOf n shares =
-    cond (eqb (sharesCause n (length shares)) 0) (map sha256 (leafStrings n shares) ++ replicate (maxParties - n) blank)
-    (replicate maxParties blank)
-
 -- n is within its range
 abbrev pub parties : ℕ → Bool
 parties n = not (ltb n 1 || ltb maxParties n)
@@ -50,10 +43,6 @@ parties n = not (ltb n 1 || ltb maxParties n)
 -- j is the number of one of n parties
 abbrev pub numbered : ℕ → ℕ → Bool
 numbered n j = not (ltb j 1 || ltb n j)
-
--- the root over the first n leaf hashes; blank where n is out of its range
-unfoldable pub rootOf : ℕ → List (List ℕ) → List ℕ
-rootOf n leaves = cond (parties n) (topHash sha256 (shape n) 0 leaves) blank
 
 -- the sides of the siblings of share j of n, from the leaf upward
 abbrev pub sidesOf : ℕ → ℕ → List Side
@@ -64,13 +53,6 @@ unfoldable pub pathLengthOf : ℕ → ℕ → Counted
 pathLengthOf n j =
     cond (not (parties n)) (counted.Refused 1) (cond (not (numbered n j)) (counted.Refused 3) (counted.Hashes (length (sidesOf n j))))
 
--- the audit path of share j, and blanks up to the greatest length of a path; all blank where n or j is out of its range
-unfoldable pub pathOf : ℕ → ℕ → List (List ℕ) → List (List ℕ)
-pathOf n j leaves =
-    cond (parties n && numbered n j)
-    (pathHashes sha256 (shape n) (j - 1) 0 leaves ++ replicate (maxPath - length (sidesOf n j)) blank)
-    (replicate maxPath blank)
-
 -- the two lists are equal
 unfoldable pub same : List ℕ → List ℕ → Bool
 same [] [] = true
@@ -78,29 +60,47 @@ same [] (b ∷ bs) = false
 same (a ∷ as') [] = false
 same (a ∷ as') (b ∷ bs) = eqb a b && same as' bs
 
--- the path check: of a path of at least `count` hashes the first `count` are as many as n and j give, and fold to the root
-unfoldable pub passes : ℕ → ℕ → List ℕ → List (List ℕ) → ℕ → List ℕ → Bool
-passes n j share path count root =
-    eqb count (length (sidesOf n j)) && same (folded sha256 (sidesOf n j) (take count path) (sha256 (leafString j share))) root
-
--- the strings hashed in coding n shares: their leaf strings and the node strings
-unfoldable pub codingStrings : ℕ → List ℕ → List (List ℕ)
-codingStrings n shares = treeStrings sha256 (shape n) (leafStrings n shares)
-
--- the strings hashed in a check that is not refused: none where the path's length is wrong
-unfoldable pub stringsOf : ℕ → ℕ → List ℕ → List (List ℕ) → ℕ → List (List ℕ)
-stringsOf n j share path count =
-    cond (eqb count (length (sidesOf n j))) (checkStrings sha256 (sidesOf n j) (take count path) (leafString j share)) []
-
 abbrev pub told : Bool → Checked
 told true = checked.Yes
 told false = checked.No
 
--- the public check: causes 1, 3, 4 and 7, else yes or no
-unfoldable pub checkOf : ℕ → ℕ → List ℕ → List (List ℕ) → ℕ → List ℕ → Checked
-checkOf n j share path count root =
-    cond (not (parties n)) (checked.Refused 1)
-    (cond (not (numbered n j)) (checked.Refused 3)
-    (cond (ltb maxHashed (2 + length share)) (checked.Refused 4)
-    (cond (not (eqb (length root) 32)) (checked.Refused 7)
-    (told (passes n j share path count root)))))
+module _ (H : List ℕ → List ℕ) where
+  -- the leaf hashes, and blanks up to the greatest number of parties; all blank where a cause applies
+  unfoldable pub leavesOf : ℕ → List ℕ → List (List ℕ)
+  leavesOf n shares =
+      cond (eqb (sharesCause n (length shares)) 0) (map H (leafStrings n shares) ++ replicate (maxParties - n) blank)
+      (replicate maxParties blank)
+
+  -- the root over the first n leaf hashes; blank where n is out of its range
+  unfoldable pub rootOf : ℕ → List (List ℕ) → List ℕ
+  rootOf n leaves = cond (parties n) (topHash H (shape n) 0 leaves) blank
+
+  -- the audit path of share j, and blanks up to the greatest length of a path; all blank where n or j is out of its range
+  unfoldable pub pathOf : ℕ → ℕ → List (List ℕ) → List (List ℕ)
+  pathOf n j leaves =
+      cond (parties n && numbered n j)
+      (pathHashes H (shape n) (j - 1) 0 leaves ++ replicate (maxPath - length (sidesOf n j)) blank)
+      (replicate maxPath blank)
+
+  -- the path check: of a path of at least `count` hashes the first `count` are as many as n and j give, and fold to the root
+  unfoldable pub passes : ℕ → ℕ → List ℕ → List (List ℕ) → ℕ → List ℕ → Bool
+  passes n j share path count root =
+      eqb count (length (sidesOf n j)) && same (folded H (sidesOf n j) (take count path) (H (leafString j share))) root
+
+  -- the strings hashed in coding n shares: their leaf strings and the node strings
+  unfoldable pub codingStrings : ℕ → List ℕ → List (List ℕ)
+  codingStrings n shares = treeStrings H (shape n) (leafStrings n shares)
+
+  -- the strings hashed in a check that is not refused: none where the path's length is wrong
+  unfoldable pub stringsOf : ℕ → ℕ → List ℕ → List (List ℕ) → ℕ → List (List ℕ)
+  stringsOf n j share path count =
+      cond (eqb count (length (sidesOf n j))) (checkStrings H (sidesOf n j) (take count path) (leafString j share)) []
+
+  -- the public check: causes 1, 3, 4 and 7, else yes or no
+  unfoldable pub checkOf : ℕ → ℕ → List ℕ → List (List ℕ) → ℕ → List ℕ → Checked
+  checkOf n j share path count root =
+      cond (not (parties n)) (checked.Refused 1)
+      (cond (not (numbered n j)) (checked.Refused 3)
+      (cond (ltb maxHashed (2 + length share)) (checked.Refused 4)
+      (cond (not (eqb (length root) 32)) (checked.Refused 7)
+      (told (passes n j share path count root)))))

@@ -54,7 +54,7 @@ pub fn shares_cause(n: usize, len: usize) -> u8
 
 // The leaf hashes of n shares that lie one behind the other. Blanks stand past them, and everywhere if there is a cause.
 pub fn leaves(n: usize, shares: &[u8]) -> [Hash; MAX_PARTIES]
-    ensures { λ r. ⌜ r ≡ leavesOf n (now (shares .entry)) ⌝ }
+    ensures { λ r. ⌜ r ≡ leavesOf sha256 n (now (shares .entry)) ⌝ }
 {
     let mut hashes = [[0u8; 32]; MAX_PARTIES];
     if shares_cause(n, shares.len()) != 0 {
@@ -75,7 +75,7 @@ pub fn leaves(n: usize, shares: &[u8]) -> [Hash; MAX_PARTIES]
 
 // The root over the first n leaf hashes; blank if n is out of its range.
 pub fn root(n: usize, leaves: &[Hash; MAX_PARTIES]) -> Hash
-    ensures { λ r. ⌜ r ≡ rootOf n (now (leaves .entry)) ⌝ }
+    ensures { λ r. ⌜ r ≡ rootOf sha256 n (now (leaves .entry)) ⌝ }
 {
     if n < 1 {
         return [0; 32];
@@ -108,7 +108,7 @@ pub fn path_length(n: usize, j: usize) -> Counted
 
 // The audit path of share j, from the leaf upward. Blanks stand past it, and everywhere if n or j is out of its range.
 pub fn path(n: usize, j: usize, leaves: &[Hash; MAX_PARTIES]) -> [Hash; MAX_PATH]
-    ensures { λ r. ⌜ r ≡ pathOf n j (now (leaves .entry)) ⌝ }
+    ensures { λ r. ⌜ r ≡ pathOf sha256 n j (now (leaves .entry)) ⌝ }
 {
     if n < 1 {
         return [[0; 32]; MAX_PATH];
@@ -135,7 +135,7 @@ pub fn check(
     count: usize,
     root: &[u8],
 ) -> Checked
-    ensures { λ r. ⌜ r ≡ checkOf n j (now (share .entry)) path count (now (root .entry)) ⌝ }
+    ensures { λ r. ⌜ r ≡ checkOf sha256 n j (now (share .entry)) path count (now (root .entry)) ⌝ }
 {
     if n < 1 {
         return Checked::Refused(1);

@@ -10,6 +10,7 @@ use types.Run.{OneOf, miss}
 use denote.Enum.Declared.{tagOf}
 use lib.ListN.{length, take, drop}
 use lib.Seq.{take-at, take-all}
+use Rattle.sha256.specs.Sha256.{sha256}
 use Rattle.limits.specs.Limits.{maxParties}
 use Rattle.merkle.specs.Shares.{passes}
 use Rattle.merkle.specs.Shares as shares
@@ -28,65 +29,65 @@ use Rattle.packet.proofs.Reading.{fields-of}
 
 -- what stands behind the hashes that are counted does not matter
 pub passes-take : (n j : ℕ) (x : List ℕ) (p r : List (List ℕ)) (c : ℕ) (z : List ℕ) → length p ≡ c
-    → passes n j x (p ++ r) c z ≡ passes n j x p c z
+    → passes sha256 n j x (p ++ r) c z ≡ passes sha256 n j x p c z
 unfolding passes
 passes-take n j x p r c z e =
     let h : length p ≤ c = omega (arith, e) in
     rw (take-at p r c e, take-all c p h)
 
 module _ (n j : ℕ) (root p : List ℕ) where
-  pub judge-none : n < 1 → judgeOf n j root p ≡ Refused 1
+  pub judge-none : n < 1 → judgeOf sha256 n j root p ≡ Refused 1
   unfolding judgeOf
   judge-none h = rw (lt-ltb n 1 h)
 
   module _ (low : 1 ≤ n) where
-    pub judge-many : maxParties < n → judgeOf n j root p ≡ Refused 1
+    pub judge-many : maxParties < n → judgeOf sha256 n j root p ≡ Refused 1
     unfolding judgeOf
     judge-many h = rw (le-ltb n 1 low, lt-ltb maxParties n h)
 
     module _ (high : n ≤ maxParties) where
-      pub judge-zero : j < 1 → judgeOf n j root p ≡ Refused 3
+      pub judge-zero : j < 1 → judgeOf sha256 n j root p ≡ Refused 3
       unfolding judgeOf
       judge-zero h = rw (le-ltb n 1 low, le-ltb maxParties n high, lt-ltb j 1 h)
 
       module _ (first : 1 ≤ j) where
-        pub judge-past : n < j → judgeOf n j root p ≡ Refused 3
+        pub judge-past : n < j → judgeOf sha256 n j root p ≡ Refused 3
         unfolding judgeOf
         judge-past h = rw (le-ltb n 1 low, le-ltb maxParties n high, le-ltb j 1 first, lt-ltb n j h)
 
         module _ (last : j ≤ n) where
-          pub judge-root : (length root ≡ 32 → ⊥) → judgeOf n j root p ≡ Refused 7
+          pub judge-root : (length root ≡ 32 → ⊥) → judgeOf sha256 n j root p ≡ Refused 7
           unfolding judgeOf
           judge-root h =
               rw (le-ltb n 1 low, le-ltb maxParties n high, le-ltb j 1 first, le-ltb n j last, ne-eqb (length root) 32 h)
 
-          pub judge-told : length root ≡ 32 → judgeOf n j root p ≡ told (classOf n j root p)
+          pub judge-told : length root ≡ 32 → judgeOf sha256 n j root p ≡ told (classOf sha256 n j root p)
           unfolding judgeOf
           judge-told h =
               rw (le-ltb n 1 low, le-ltb maxParties n high, le-ltb j 1 first, le-ltb n j last, eq-eqb (length root) 32 h)
 
   -- whether the path of a share that lies there leads to the root
   abbrev pub leads : ℕ → ℕ → ℕ → Bool
-  leads from len c = passes n j (take len (drop from p)) (hashes c (drop (from + len) p)) c root
+  leads from len c = passes sha256 n j (take len (drop from p)) (hashes c (drop (from + len) p)) c root
 
   -- what the reader's answer says of the class
   abbrev ClassIn : Packet → Type 0
-  ClassIn (packet.Refused k) = told (classOf n j root p) ≡ Faulty
-  ClassIn packet.Silence = told (classOf n j root p) ≡ Silent
+  ClassIn (packet.Refused k) = told (classOf sha256 n j root p) ≡ Faulty
+  ClassIn packet.Silence = told (classOf sha256 n j root p) ≡ Silent
   ClassIn (packet.Share number from len c) =
-      ((number ≡ j → ⊥) → told (classOf n j root p) ≡ Faulty)
-      × (number ≡ j → leads from len c ≡ true → told (classOf n j root p) ≡ Valid from len c)
-      × (number ≡ j → leads from len c ≡ false → told (classOf n j root p) ≡ Faulty)
+      ((number ≡ j → ⊥) → told (classOf sha256 n j root p) ≡ Faulty)
+      × (number ≡ j → leads from len c ≡ true → told (classOf sha256 n j root p) ≡ Valid from len c)
+      × (number ≡ j → leads from len c ≡ false → told (classOf sha256 n j root p) ≡ Faulty)
 
   class-in : (r : Reading) → readOf n p ≡ r → ClassIn (placed 0 r)
   unfolding classOf
-  class-in silence e = ap (λ (r : Reading). told (judged n j root r)) e
-  class-in unreadable e = ap (λ (r : Reading). told (judged n j root r)) e
+  class-in silence e = ap (λ (r : Reading). told (judged sha256 n j root r)) e
+  class-in unreadable e = ap (λ (r : Reading). told (judged sha256 n j root r)) e
   class-in (shared number share path) e =
-      let g : classOf n j root p ≡ judged n j root (shared number share path) = ap (judged n j root) e in
-      let h : passes n j share path (length path) root ≡ leads 4 (length share) (length path) =
+      let g : classOf sha256 n j root p ≡ judged sha256 n j root (shared number share path) = ap (judged sha256 n j root) e in
+      let h : passes sha256 n j share path (length path) root ≡ leads 4 (length share) (length path) =
       let b = fields-of n p number share path e in
-      ap₂ (λ (x : List ℕ) (y : List (List ℕ)). passes n j x y (length path) root) (b .share-lies) (b .path-lies) in (
+      ap₂ (λ (x : List ℕ) (y : List (List ℕ)). passes sha256 n j x y (length path) root) (b .share-lies) (b .path-lies) in (
         λ d. ap told g ∙ rw (ne-eqb number j d),
         λ d t. ap told g ∙ rw (eq-eqb number j d, h ∙ t),
         λ d t. ap told g ∙ rw (eq-eqb number j d, h ∙ t),
@@ -94,7 +95,7 @@ module _ (n j : ℕ) (root p : List ℕ) where
 
   -- neither silence nor a share
   not-share : (x : Packet) → ClassIn x → OneOf (0 ∷ 2 ∷ []) (tagOf the-type x) → OneOf (0 ∷ 1 ∷ []) (tagOf the-type x)
-      → told (classOf n j root p) ≡ Faulty
+      → told (classOf sha256 n j root p) ≡ Faulty
   not-share (packet.Refused k) h a b = h
   not-share packet.Silence h a b = absurd (miss (0 ∷ 2 ∷ []) 1 tt a)
   not-share (packet.Share number from len c) h a b = absurd (miss (0 ∷ 1 ∷ []) 2 tt b)
@@ -104,29 +105,29 @@ module _ (n j : ℕ) (root p : List ℕ) where
     by-answer : ClassIn x
     by-answer = subst ClassIn (sym e) (class-in (readOf n p) refl)
 
-    pub class-silent : x ≡ packet.Silence → told (classOf n j root p) ≡ Silent
+    pub class-silent : x ≡ packet.Silence → told (classOf sha256 n j root p) ≡ Silent
     class-silent q = subst ClassIn q by-answer
 
     pub class-refused : OneOf (0 ∷ 2 ∷ []) (tagOf the-type x) → OneOf (0 ∷ 1 ∷ []) (tagOf the-type x)
-        → told (classOf n j root p) ≡ Faulty
+        → told (classOf sha256 n j root p) ≡ Faulty
     class-refused a b = not-share x by-answer a b
 
     module _ (number from len c : ℕ) (q : x ≡ packet.Share number from len c) where
-      pub class-other : (number ≡ j → ⊥) → told (classOf n j root p) ≡ Faulty
+      pub class-other : (number ≡ j → ⊥) → told (classOf sha256 n j root p) ≡ Faulty
       class-other = subst ClassIn q by-answer .0
 
-      class-valid : number ≡ j → leads from len c ≡ true → told (classOf n j root p) ≡ Valid from len c
+      class-valid : number ≡ j → leads from len c ≡ true → told (classOf sha256 n j root p) ≡ Valid from len c
       class-valid = subst ClassIn q by-answer .1
 
-      class-faulty : number ≡ j → leads from len c ≡ false → told (classOf n j root p) ≡ Faulty
+      class-faulty : number ≡ j → leads from len c ≡ false → told (classOf sha256 n j root p) ≡ Faulty
       class-faulty = subst ClassIn q by-answer .2
 
       -- an answer that goes by the path is the class
       pub class-checked : number ≡ j → (r : Judged) → (leads from len c ≡ true → r ≡ Valid from len c)
-          → (leads from len c ≡ false → r ≡ Faulty) → told (classOf n j root p) ≡ r
+          → (leads from len c ≡ false → r ≡ Faulty) → told (classOf sha256 n j root p) ≡ r
       class-checked d r f g = go (leads from len c) refl
         where
-          go : (t : Bool) → leads from len c ≡ t → told (classOf n j root p) ≡ r
+          go : (t : Bool) → leads from len c ≡ t → told (classOf sha256 n j root p) ≡ r
           go true h = class-valid d h ∙ sym (f h)
           go false h = class-faulty d h ∙ sym (g h)
 

@@ -39,13 +39,13 @@ told silent = verdict.Silent
 told faulty = verdict.Faulty
 told (valid share path) = verdict.Valid 4 (length share) (length path)
 
--- a packet judged: causes 1, 3 and 7, then its class
-unfoldable pub judgeOf : ℕ → ℕ → List ℕ → List ℕ → Judged
-judgeOf n j root p =
+-- a packet judged by the hash H: causes 1, 3 and 7, then its class
+unfoldable pub judgeOf : (List ℕ → List ℕ) → ℕ → ℕ → List ℕ → List ℕ → Judged
+judgeOf H n j root p =
     cond (not (parties n)) (verdict.Refused 1)
     (cond (not (numbered n j)) (verdict.Refused 3)
     (cond (not (eqb (length root) 32)) (verdict.Refused 7)
-    (told (classOf n j root p))))
+    (told (classOf H n j root p))))
 
 -- why the packet of a share of len bytes with `count` hashes is not written: n or the number out of its range (1, 3), or a packet that
 -- no reader would take (10, here by our own choice); 0: it is

@@ -9,6 +9,7 @@ ghost use Rattle.buffer.specs.Splice.{spliced};
 ghost use Rattle.packet.specs.Format.{packetOf, chained, hashes, shareIn};
 ghost use Rattle.merkle.specs.Shares.{passes};
 ghost use mathlib.Core.Bool.{true, false};
+ghost use Rattle.sha256.specs.Sha256.{sha256};
 ghost use Rattle.packet.specs.Answer.{readAt, placed, pathAt, judgeOf, writeCause, writeOf, writeEntryOf};
 use buffer::Written;
 use limits::MAX_PARTIES;
@@ -148,7 +149,7 @@ fn hash_at(s: &[u8], at: usize) -> Hash
 
 // Judges the packet that is s: whether it bears number j and its path leads to the root.
 pub fn judge(n: usize, j: usize, root: &[u8], s: &[u8]) -> Judged
-    ensures { λ r. ⌜ r ≡ judgeOf n j (now (root .entry)) (now (s .entry)) ⌝ }
+    ensures { λ r. ⌜ r ≡ judgeOf sha256 n j (now (root .entry)) (now (s .entry)) ⌝ }
 {
     if n < 1 {
         return Judged::Refused(1);
@@ -196,9 +197,9 @@ fn judge_path(
 ) -> Judged
     requires { ⌜ (1 ≤ n) × (n ≤ maxParties) × (1 ≤ j) × (j ≤ n) × (length (now root) ≡ 32) × (1 ≤ len) × (len ≤ maxShare)
         × (from + len + 32 * count ≤ length (now s)) × (count ≤ maxPath) ⌝ }
-    ensures { λ r. ⌜ (passes n j (take len (drop from (now (s .entry)))) (hashes count (drop (from + len) (now (s .entry)))) count
+    ensures { λ r. ⌜ (passes sha256 n j (take len (drop from (now (s .entry)))) (hashes count (drop (from + len) (now (s .entry)))) count
         (now (root .entry)) ≡ true → r ≡ Judged.Valid from len count)
-        × (passes n j (take len (drop from (now (s .entry)))) (hashes count (drop (from + len) (now (s .entry)))) count
+        × (passes sha256 n j (take len (drop from (now (s .entry)))) (hashes count (drop (from + len) (now (s .entry)))) count
         (now (root .entry)) ≡ false → r ≡ Judged.Faulty) ⌝ }
 {
     let end = from + len;

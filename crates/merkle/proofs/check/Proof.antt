@@ -20,11 +20,11 @@ abbrev Entry : tie.Else6 → tie.Start
 Entry e = e .before .before .before .before .before .before .before .before
 
 judged : (e : tie.Else6) → let a = Entry e .args in
-    checkOf (a .n) (a .j) (a .share .now) (a .path) (a .count) (a .root .now)
-    ≡ told (passes (a .n) (a .j) (a .share .now) (a .path) (a .count) (a .root .now))
+    checkOf sha256 (a .n) (a .j) (a .share .now) (a .path) (a .count) (a .root .now)
+    ≡ told (passes sha256 (a .n) (a .j) (a .share .now) (a .path) (a .count) (a .root .now))
 judged e =
     let a = Entry e .args in
-    check-judged (a .n) (a .j) (a .share .now) (a .path) (a .count) (a .root .now)
+    check-judged sha256 (a .n) (a .j) (a .share .now) (a .path) (a .count) (a .root .now)
     (omega arith) (omega arith) (omega arith) (omega arith) (omega arith) (e .if6 .left)
 
 -- the fold along the turns is the fold along the sides of the definition
@@ -40,38 +40,38 @@ top f =
     folded-same sha256 (a .path) (f .fold-path .ensures) (w .way-down .ensures .2) counted (h .leaf-hash .ensures)
 
 answer : (q : tie.After-equal) → let a = Entry (q .before .before .before .before .before .before .before) .args in
-    passes (a .n) (a .j) (a .share .now) (a .path) (a .count) (a .root .now) ≡ q .equal .result
+    passes sha256 (a .n) (a .j) (a .share .now) (a .path) (a .count) (a .root .now) ≡ q .equal .result
 answer q =
     let f = q .before .before in
     let k = f .before .before in
     let w = k .before .before in
     let a = Entry (w .before) .args in
     let counted : a .count ≡ w .way-down .result .count = omega arith in
-    passes-same (a .n) (a .j) (a .share .now) (a .path) (a .count) (a .root .now) (counted ∙ w .way-down .ensures .1)
+    passes-same sha256 (a .n) (a .j) (a .share .now) (a .path) (a .count) (a .root .now) (counted ∙ w .way-down .ensures .1)
     ∙ ap (λ (x : List ℕ). same x (a .root .now)) (top f) ∙ sym (q .equal .ensures)
 
 returns : tie.Need-returns
 returns c =
     let a = c .before .before .before .args in
-    sym (check-none (a .n) (a .j) (a .share .now) (a .path) (a .count) (a .root .now)
+    sym (check-none sha256 (a .n) (a .j) (a .share .now) (a .path) (a .count) (a .root .now)
     (omega arith))
 
 returns-2 : tie.Need-returns-2
 returns-2 c =
     let a = c .before .before .before .before .args in
-    sym (check-many (a .n) (a .j) (a .share .now) (a .path) (a .count) (a .root .now)
+    sym (check-many sha256 (a .n) (a .j) (a .share .now) (a .path) (a .count) (a .root .now)
     (omega arith) (omega arith))
 
 returns-3 : tie.Need-returns-3
 returns-3 c =
     let a = c .before .before .before .before .before .args in
-    sym (check-zero (a .n) (a .j) (a .share .now) (a .path) (a .count) (a .root .now)
+    sym (check-zero sha256 (a .n) (a .j) (a .share .now) (a .path) (a .count) (a .root .now)
     (omega arith) (omega arith) (omega arith))
 
 returns-4 : tie.Need-returns-4
 returns-4 c =
     let a = c .before .before .before .before .before .before .args in
-    sym (check-past (a .n) (a .j) (a .share .now) (a .path) (a .count) (a .root .now)
+    sym (check-past sha256 (a .n) (a .j) (a .share .now) (a .path) (a .count) (a .root .now)
     (omega arith) (omega arith) (omega arith) (omega arith))
 
 sub-if5 : tie.Need-sub-if5
@@ -80,13 +80,13 @@ sub-if5 c = search needs
 returns-5 : tie.Need-returns-5
 returns-5 c =
     let a = c .before .before .before .before .before .before .before .args in
-    sym (check-long (a .n) (a .j) (a .share .now) (a .path) (a .count) (a .root .now)
+    sym (check-long sha256 (a .n) (a .j) (a .share .now) (a .path) (a .count) (a .root .now)
     (omega arith) (omega arith) (omega arith) (omega arith) (omega arith))
 
 returns-6 : tie.Need-returns-6
 returns-6 c =
     let a = c .before .before .before .before .before .before .before .before .args in
-    sym (check-root (a .n) (a .j) (a .share .now) (a .path) (a .count) (a .root .now)
+    sym (check-root sha256 (a .n) (a .j) (a .share .now) (a .path) (a .count) (a .root .now)
     (omega arith) (omega arith) (omega arith) (omega arith) (omega arith) (c .if6 .taken))
 
 way-down-requires : tie.Need-way-down-requires
@@ -97,7 +97,7 @@ returns-7 c =
     let w = c .before .before in
     let a = Entry (w .before) .args in
     sym (judged (w .before)
-    ∙ ap told (passes-miscount (a .n) (a .j) (a .share .now) (a .path) (a .count) (a .root .now)
+    ∙ ap told (passes-miscount sha256 (a .n) (a .j) (a .share .now) (a .path) (a .count) (a .root .now)
     (λ q. c .if7 .taken (q ∙ sym (w .way-down .ensures .1)))))
 
 leaf-hash-requires : tie.Need-leaf-hash-requires

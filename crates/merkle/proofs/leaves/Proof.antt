@@ -72,7 +72,7 @@ shares-cause-requires c κs = search needs
 returns : tie.Need-returns Inv-loop μ-loop
 returns c =
     let a = c .before .before .before .args in
-    sym (leaves-none (a .n) (a .shares .now) (λ q. c .if1 .taken (c .before .shares-cause .ensures ∙ q)))
+    sym (leaves-none sha256 (a .n) (a .shares .now) (λ q. c .if1 .taken (c .before .shares-cause .ensures ∙ q)))
 
 div-s : tie.Need-div-s Inv-loop μ-loop
 div-s c = omega (arith, even c)
@@ -136,7 +136,7 @@ returns-2 c =
     let done : l .j ≡ n = omega arith in
     l .inv .2 ∙ ap (λ (k : ℕ). leafHashes (S e) (All e) k ++ replicate (maxParties - k) blank) done
     ∙ ap (λ (hs : List (List ℕ)). hs ++ replicate (maxParties - n) blank) (hashes-all (S e) (All e) n refl)
-    ∙ sym (leaves-fine n (All e) (fine e))
+    ∙ sym (leaves-fine sha256 n (All e) (fine e))
 
 pub leaves-spec : {M : Type 1} → statement M
 leaves-spec =

@@ -12,6 +12,7 @@ use Rattle.packet.proofs.Reading.{Lies, lies-of, at-read}
 use Rattle.packet.proofs.Verdict.{judge-none, judge-many, judge-zero, judge-past, judge-root, judge-told}
 use Rattle.packet.proofs.Verdict.{class-silent, class-refused, class-other, class-checked}
 use borrow.Author.Needs.{needs}
+use Rattle.sha256.specs.Sha256.{sha256}
 use Rattle.packet.proofs.judge.Statement.{statement}
 use Rattle.packet.proofs.judge.Tie as tie
 
@@ -27,7 +28,7 @@ S st = st .args .s .now
 
 -- the answer is the packet's class
 judged : (d : tie.After-read-at) → let st = Entry d in
-    judgeOf (st .args .n) (st .args .j) (Root st) (S st) ≡ told (classOf (st .args .n) (st .args .j) (Root st) (S st))
+    judgeOf sha256 (st .args .n) (st .args .j) (Root st) (S st) ≡ told (classOf sha256 (st .args .n) (st .args .j) (Root st) (S st))
 judged d =
     let st = Entry d in
     judge-told (st .args .n) (st .args .j) (Root st) (S st) (omega arith) (omega arith) (omega arith) (omega arith)

@@ -13,6 +13,7 @@ use Rattle.packet.specs.Format.{hashes}
 use Rattle.packet.proofs.Path.{padded, path-there, length-hashes}
 use Rattle.packet.proofs.Verdict.{leads, passes-take, told-true, told-false}
 use borrow.Author.Needs.{needs}
+use Rattle.sha256.specs.Sha256.{sha256}
 use Rattle.packet.proofs.judge_path.Statement.{statement}
 use Rattle.packet.proofs.judge_path.Tie as tie
 
@@ -53,23 +54,23 @@ long k =
 -- what is checked; only the hashes counted matter
 asked : (k : tie.After-check) → let a = Entry k .args in
     k .check .result
-    ≡ checkOf (a .n) (a .j) (take (a .from + a .len - a .from) (drop (a .from) (a .s .now))) (k .before .before .path-at .result)
+    ≡ checkOf sha256 (a .n) (a .j) (take (a .from + a .len - a .from) (drop (a .from) (a .s .now))) (k .before .before .path-at .result)
     (a .count) (a .root .now)
 asked k = k .check .ensures
 
 checked : (k : tie.After-check) → let a = Entry k .args in
-    k .check .result ≡ checkOf (a .n) (a .j) (X k) (Path k) (a .count) (a .root .now)
+    k .check .result ≡ checkOf sha256 (a .n) (a .j) (X k) (Path k) (a .count) (a .root .now)
 checked k =
     let a = Entry k .args in
     asked k
-    ∙ ap₂ (λ (x : List ℕ) (p : List (List ℕ)). checkOf (a .n) (a .j) x p (a .count) (a .root .now)) (part k) (there k)
+    ∙ ap₂ (λ (x : List ℕ) (p : List (List ℕ)). checkOf sha256 (a .n) (a .j) x p (a .count) (a .root .now)) (part k) (there k)
 
 judged : (k : tie.After-check) → let a = Entry k .args in
-    checkOf (a .n) (a .j) (X k) (Path k) (a .count) (a .root .now)
-    ≡ told (passes (a .n) (a .j) (X k) (Path k) (a .count) (a .root .now))
+    checkOf sha256 (a .n) (a .j) (X k) (Path k) (a .count) (a .root .now)
+    ≡ told (passes sha256 (a .n) (a .j) (X k) (Path k) (a .count) (a .root .now))
 judged k =
     let a = Entry k .args in
-    check-judged (a .n) (a .j) (X k) (Path k) (a .count) (a .root .now)
+    check-judged sha256 (a .n) (a .j) (X k) (Path k) (a .count) (a .root .now)
     (omega arith) (omega arith) (omega arith) (omega arith) (omega (arith, long k)) (omega arith)
 
 answer : (k : tie.After-check) → k .check .result ≡ told (Leads k)
