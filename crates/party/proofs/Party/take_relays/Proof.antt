@@ -1,0 +1,244 @@
+-- `party::Party::take_relays` meets its contract: each return is one outcome of step 5, by the cause, by whether the party is
+-- happy and by the answer of rebuilding, which takes the entries that were gathered apart again. Assumes nothing.
+use mathlib.Core.Path.{_≡_, sym, ap, _∙_}
+use mathlib.Core.List.{List}
+use Prim.Native.Nat.{ℕ, zero, _+_, _-_, _*_, _≤_}
+use native.Mathlib.Omega.{arith}
+use lib.ListN.{length, take, replicate, length-replicate}
+use lib.Seq.{length-take-le}
+use Rattle.limits.specs.Limits.{maxMessage, maxShare, maxParties}
+use Rattle.buffer.specs.Entries.{bodies}
+use Rattle.buffer.specs.Given.{gave}
+use Rattle.erasure.specs.Rebuild.{Recovered, present, recovered, answered, rebuildOf}
+use Rattle.merkle.specs.Shares.{blank}
+use Rattle.party.specs.State.{Result, nothing, settled, messageIn, atEnd, happy}
+use Rattle.party.specs.Steps.{inboxCause, gathered, rebuilt, Ending, givesEnd, ending, takeRelaysOf}
+use Rattle.party.specs.Private.{Fit}
+use Rattle.party.specs.declared.Party.{Party}
+use Rattle.party.specs.declared.Outcome.the-variants.{Nothing}
+use Rattle.party.specs.declared.Stage.the-variants as stage
+use Rattle.party.specs.declared.Settled.the-variants as answer
+use Rattle.party.proofs.Taking.{taken-fit, taken-fills, relays-refused, relays-happy, relays-rebuilt, rebuilt-of}
+use Rattle.party.proofs.Taking.{short-recovered}
+use Rattle.party.proofs.Taking.{Short, rebuilt-done, rebuilt-none}
+use borrow.Author.Needs.{needs}
+use Rattle.sha256.specs.Sha256.{sha256}
+use Rattle.party.proofs.Party.take_relays.Statement.{statement}
+use Rattle.party.proofs.Party.take_relays.Tie as tie
+
+-- the function's entry, from where no cause applies
+abbrev Entry : tie.Else1 → tie.Start
+Entry e = e .before .before .before .before
+
+abbrev X : tie.Start → Party
+X st = st .args .self
+
+abbrev S : tie.Start → List ℕ
+S st = st .args .inbox .now
+
+abbrev Out : tie.Start → List ℕ
+Out st = st .args .out .now
+
+fine : (e : tie.Else1) → inboxCause 4 (X (Entry e)) (S (Entry e)) ≡ 0
+fine e = sym (e .before .inbox-cause .ensures) ∙ e .if1 .left
+
+fit : (e : tie.Else1) → Fit (X (Entry e))
+fit e = taken-fit 4 (X (Entry e)) (S (Entry e)) (fine e)
+
+long : (st : tie.Start) → length (X st .message) ≡ maxMessage
+long st = search needs
+
+-- the message held
+held : (e : tie.Else1) → length (messageIn (X (Entry e))) ≡ X (Entry e) .len
+held e =
+    let x = X (Entry e) in
+    length-take-le (x .len) (x .message) (omega (arith, long (Entry e), fit e .short))
+
+-- a party that is not happy: what is recovered of the shares gathered
+abbrev E : tie.After-rebuild → tie.Else1
+E d = d .before .before .before .before .before .before .before .before
+
+abbrev A : tie.Start → Recovered
+A st = recovered (X st .n - X st .t) (present 1 (gathered sha256 (X st) 1 (bodies (X st .n) (S st))))
+
+rebuilding : (d : tie.After-rebuild) → let st = Entry (E d) in
+    takeRelaysOf sha256 (X st) (S st) (Out st) ≡ ending (X st) (rebuilt (A st)) (Out st)
+rebuilding d =
+    let e = E d in
+    let st = Entry e in
+    let u = d .before .before .before .before .before .before in
+    relays-rebuilt (X st) (S st) (Out st) (fine e) (sym (u .before .happy .ensures) ∙ u .if2 .left)
+
+-- the entries, the buffer after rebuilding, and what the answer says
+abbrev O : tie.After-rebuild → List ℕ
+O d = d .rebuild .last .1 .1 .1 .0
+
+abbrev Zeros : List ℕ
+Zeros = replicate maxMessage 0
+
+abbrev Es : tie.After-rebuild → List ℕ
+Es d = let g = d .before .before .before .before .gather in take (g .result) (g .last .1 .1 .0)
+
+asked : (d : tie.After-rebuild) → let x = X (Entry (E d)) in gave (d .rebuild .result) (O d)
+    ≡ rebuildOf (x .n) (x .t) (Es d) Zeros
+asked d = d .rebuild .ensures
+
+told : (d : tie.After-rebuild) → gave (d .rebuild .result) (O d) ≡ answered (A (Entry (E d))) Zeros
+told d =
+    let st = Entry (E d) in
+    asked d ∙ rebuilt-of (X st) (S st) (Es d) Zeros (fit (E d)) (d .before .before .before .before .gather .ensures .1)
+
+short : (st : tie.Start) → Short (A st)
+short st = short-recovered (X st .n - X st .t) (present 1 (gathered sha256 (X st) 1 (bodies (X st .n) (S st))))
+
+found : (k : tie.After-len) → let d = k .before .before .before in let l = k .len .given .0 .0 in
+    (rebuilt (A (Entry (E d))) ≡ settled (take l (O d))) × (l ≤ maxMessage) × (l ≤ length (O d))
+found k =
+    let d = k .before .before .before in
+    rebuilt-done (O d) Zeros (d .rebuild .result) (length-replicate maxMessage zero) (A (Entry (E d))) (short (Entry (E d)))
+    (told d)
+    (k .len .given .0 .0) (k .len .given .1)
+
+exact : (k : tie.After-len) → let d = k .before .before .before in let l = k .len .given .0 .0 in length (take l (O d)) ≡ l
+exact k = let d = k .before .before .before in length-take-le (k .len .given .0 .0) (O d) (found k .2)
+
+-- the state that an ended party without a message has
+at-end : (x y : Party) (out : List ℕ)
+    → y ≡ record {
+      n = x .n;
+      t = x .t;
+      own = x .own;
+      stage = stage.Ended Nothing;
+      message = replicate maxMessage 0;
+      len = 0;
+      root = blank;
+      share = replicate maxShare 0;
+      held = 0;
+    }
+    → _≡_ {A = Ending} (givesEnd y answer.Nothing out) (ending x nothing out)
+unfolding atEnd
+at-end x y out e = ap {B = Ending} (λ (w : Party). givesEnd w answer.Nothing out) e
+
+inbox-cause-requires : tie.Need-inbox-cause-requires
+inbox-cause-requires c κs = search needs
+
+returns : tie.Need-returns
+returns c =
+    let st = c .before .before .before .before in
+    let k = c .before .inbox-cause .ensures in
+    sym (relays-refused (X st) (S st) (Out st) (λ q. c .if1 .taken (k ∙ q))
+    ∙ ap {B = Ending} (λ (i : ℕ). givesEnd (X st) (answer.Refused i) (Out st)) (sym k))
+
+happy-requires : tie.Need-happy-requires
+happy-requires c κs = fit c
+
+array-share-prefix-message : tie.Need-array-share-prefix-message
+array-share-prefix-message c =
+    let e = c .before .before .before in
+    omega (arith, long (Entry e), fit e .short)
+
+slice-aggregate-settle : tie.Need-slice-aggregate-settle
+slice-aggregate-settle c = sym (held (c .before .before .before .before))
+
+settle-requires : tie.Need-settle-requires
+settle-requires c κs =
+    let e = c .before .before .before .before .before in
+    omega (arith, held e, fit e .short)
+
+same-length : tie.Need-same-length
+same-length c = search needs
+
+returns-2 : tie.Need-returns-2
+returns-2 c =
+    let w = c .before .before in
+    let u = w .before .before .before .before in
+    let e = u .before .before in
+    let st = Entry e in
+    w .settle .ensures ∙ sym (relays-happy (X st) (S st) (Out st) (fine e) (sym (u .before .happy .ensures) ∙ u .if2 .taken))
+
+slice-aggregate-gather : tie.Need-slice-aggregate-gather
+slice-aggregate-gather c = search needs
+
+gather-requires : tie.Need-gather-requires
+gather-requires c κs =
+    let e = c .before .before .before in
+    (fit e, taken-fills 4 (X (Entry e)) (S (Entry e)) (fine e), length-replicate (maxParties * (maxShare + 2)) zero)
+
+array-share-prefix-entries : tie.Need-array-share-prefix-entries
+array-share-prefix-entries c = search needs
+
+slice-aggregate-rebuild : tie.Need-slice-aggregate-rebuild
+slice-aggregate-rebuild c =
+    let g = c .before .before .gather .ensures in
+    sym (length-take-le (c .before .before .gather .result) _ (g .0))
+
+slice-aggregate-rebuild-2 : tie.Need-slice-aggregate-rebuild-2
+slice-aggregate-rebuild-2 c = search needs
+
+rebuild-requires : tie.Need-rebuild-requires
+rebuild-requires c κs = search needs
+
+enum-known-len : tie.Need-enum-known-len
+enum-known-len c = search needs
+
+ended-requires : tie.Need-ended-requires
+ended-requires c κs = search needs
+
+returns-3 : tie.Need-returns-3
+returns-3 c =
+    let d = c .before .before .before in
+    let st = Entry (E d) in
+    at-end (X st) (c .ended .result) (Out st) (c .ended .ensures)
+    ∙ sym (rebuilding d ∙ ap (λ (r : Result). ending (X st) r (Out st))
+    (rebuilt-none (O d) Zeros (d .rebuild .result) (length-replicate maxMessage zero) (A st) (short st) (told d)
+    (c .before .match .keys2)))
+
+array-share-prefix-message-2 : tie.Need-array-share-prefix-message-2
+array-share-prefix-message-2 c = found (c .before) .2
+
+slice-aggregate-settle-2 : tie.Need-slice-aggregate-settle-2
+slice-aggregate-settle-2 c = sym (exact (c .before .before))
+
+settle-requires-2 : tie.Need-settle-requires-2
+settle-requires-2 c κs =
+    let k = c .before .before .before in
+    omega (arith, exact k, found k .1)
+
+same-length-2 : tie.Need-same-length-2
+same-length-2 c = search needs
+
+returns-4 : tie.Need-returns-4
+returns-4 c =
+    let w = c .before .before in
+    let k = w .before .before .before .before in
+    let d = k .before .before .before in
+    let st = Entry (E d) in
+    w .settle2 .ensures
+    ∙ sym (rebuilding d ∙ ap (λ (r : Result). ending (X st) r (Out st)) (found k .0))
+
+pub take-relays-spec : {M : Type 1} → statement M
+take-relays-spec =
+    tie.close
+    (tie.spec
+    inbox-cause-requires
+    returns
+    happy-requires
+    array-share-prefix-message
+    slice-aggregate-settle
+    settle-requires
+    same-length
+    returns-2
+    slice-aggregate-gather
+    gather-requires
+    array-share-prefix-entries
+    slice-aggregate-rebuild
+    slice-aggregate-rebuild-2
+    rebuild-requires
+    enum-known-len
+    ended-requires
+    returns-3
+    array-share-prefix-message-2
+    slice-aggregate-settle-2
+    settle-requires-2
+    same-length-2
+    returns-4)

@@ -1,0 +1,335 @@
+-- `party::Party::take_shares` meets its contract: each return is one outcome of step 4, by the cause, by whether the party is
+-- happy, by what was taken from the inbox and by the answer of the packet writer. Assumes nothing.
+use mathlib.Core.Path.{_≡_, refl, sym, ap, ap₂, subst, _∙_}
+use mathlib.Core.List.{List, []}
+use Prim.Native.Nat.{ℕ, _+_, _-_}
+use native.Mathlib.Nat.{add-sub-cancel-left}
+use native.Mathlib.Omega.{arith}
+use lib.ListN.{length, take, drop, replicate, length-drop}
+use lib.Seq.{length-take-le, take-at}
+use Rattle.limits.specs.Limits.{maxMessage, maxShare, maxPath}
+use Rattle.buffer.specs.Splice.{putOf}
+use Rattle.buffer.specs.Entries.{bodies}
+use Rattle.buffer.specs.Given.{gave, written}
+use Rattle.buffer.specs.declared.Written.the-variants as given
+use Rattle.merkle.specs.Shares.{blank}
+use Rattle.packet.specs.Format.{hashes, packetOf}
+use Rattle.packet.specs.Answer.{writeOf}
+use Rattle.packet.proofs.Path.{padded as path-padded, path-there, length-hashes}
+use Rattle.party.specs.State.{messageIn, atSecond, happy}
+use Rattle.party.specs.Steps.{inboxCause, Taken, takenBy, shareTaken, packetTaken, ownRelay, Stepped, gives, stepped, refused}
+use Rattle.party.specs.Steps.{sent, takeSharesOf}
+use Rattle.party.specs.Private.{Fit, TakenIs}
+use Rattle.party.specs.declared.Party.{Party}
+use Rattle.party.specs.declared.Step.{Step}
+use Rattle.party.specs.declared.Placed.{Placed}
+use Rattle.party.specs.declared.Placed.the-variants.{Nowhere, At}
+use Rattle.party.proofs.Taking.{taken-fit, taken-fills, shares-refused, shares-happy, shares-taken, sent-nothing}
+use Rattle.party.proofs.Taking.{sent-done, sent-short}
+use Rattle.party.proofs.Taking.{passed, write-taken, put-zeros, taken-none, Got, got-of, at-second}
+use borrow.Author.Needs.{needs}
+use Rattle.sha256.specs.Sha256.{sha256}
+use Rattle.party.proofs.Party.take_shares.Statement.{statement}
+use Rattle.party.proofs.Party.take_shares.Tie as tie
+
+-- the function's entry, from where no cause applies
+abbrev Entry : tie.Else1 → tie.Start
+Entry e = e .before .before .before .before
+
+abbrev X : tie.Start → Party
+X st = st .args .self
+
+abbrev S : tie.Start → List ℕ
+S st = st .args .inbox .now
+
+abbrev Out : tie.Start → List ℕ
+Out st = st .args .out .now
+
+abbrev T : tie.Start → Taken
+T st = takenBy sha256 (X st) (S st)
+
+-- the state at the next stage, with a share
+abbrev Next : tie.Start → List ℕ → Party
+Next st y = let x = X st in atSecond (x .n) (x .t) (x .own) (messageIn x) (x .root) y
+
+fine : (e : tie.Else1) → inboxCause 3 (X (Entry e)) (S (Entry e)) ≡ 0
+fine e = sym (e .before .inbox-cause .ensures) ∙ e .if1 .left
+
+fit : (e : tie.Else1) → Fit (X (Entry e))
+fit e = taken-fit 3 (X (Entry e)) (S (Entry e)) (fine e)
+
+message-long : (st : tie.Start) → length (X st .message) ≡ maxMessage
+message-long st = search needs
+
+root-long : (st : tie.Start) → length (X st .root) ≡ 32
+root-long st = search needs
+
+held : (e : tie.Else1) → length (messageIn (X (Entry e))) ≡ X (Entry e) .len
+held e =
+    let x = X (Entry e) in
+    length-take-le (x .len) (x .message) (omega (arith, message-long (Entry e), fit e .short))
+
+-- a happy party
+relayed : (w : tie.After-relay-own) → let st = Entry (w .before .before .before .before) in
+    stepped (w .relay-own .result) (w .relay-own .last .1 .0) ≡ sent (X st) (Next st []) (ownRelay sha256 (X st)) (Out st)
+relayed w = w .relay-own .ensures
+
+-- a party that is not happy: what is sent goes by what was taken
+abbrev E : tie.After-first-valid → tie.Else1
+E d = d .before .before .before .before .before
+
+taking : (d : tie.After-first-valid) → let st = Entry (E d) in
+    takeSharesOf sha256 (X st) (S st) (Out st) ≡ sent (X st) (Next st (shareTaken (T st))) (packetTaken (X st) (T st)) (Out st)
+taking d =
+    let u = d .before .before .before in
+    let st = Entry (E d) in
+    shares-taken (X st) (S st) (Out st) (fine (E d)) (sym (u .before .happy .ensures) ∙ u .if2 .left)
+
+took : (d : tie.After-first-valid) (r : Placed) → d .first-valid .result ≡ r → TakenIs r (T (Entry (E d))) (S (Entry (E d)))
+took d r q = let st = Entry (E d) in subst (λ (y : Placed). TakenIs y (T st) (S st)) q (d .first-valid .ensures)
+
+-- where a share was found: its place, length and count of hashes
+abbrev D : tie.After-from → tie.After-first-valid
+D k = k .before .before
+
+abbrev F : tie.After-from → ℕ
+F k = k .from .given .0 .0
+
+abbrev L : tie.After-from → ℕ
+L k = k .from .given .0 .1 .0
+
+abbrev C : tie.After-from → ℕ
+C k = k .from .given .0 .1 .1 .0
+
+got : (k : tie.After-from) → let st = Entry (E (D k)) in
+    Got (X st .n) (X st .own) (X st .root) (S st) (F k) (L k) (C k) (T st)
+got k =
+    let st = Entry (E (D k)) in
+    let x = X st in
+    got-of (x .n) (x .own) (x .root) (S st) (F k) (L k) (C k) (T st) (took (D k) (At (F k) (L k) (C k)) (k .from .given .1))
+    (passed (x .n) (x .own) (x .root) 1 (bodies (x .n) (S st)))
+
+-- the share, the hashes of its path, and the packet
+abbrev Y : tie.After-from → List ℕ
+Y k = take (L k) (drop (F k) (S (Entry (E (D k)))))
+
+abbrev Q : tie.After-from → List ℕ
+Q k = drop (F k + L k) (S (Entry (E (D k))))
+
+abbrev Packet : tie.After-from → List ℕ
+Packet k = packetOf (X (Entry (E (D k))) .own) (Y k) (hashes (C k) (Q k))
+
+size : (k : tie.After-from) → length (Y k) ≡ L k
+size k =
+    let s = S (Entry (E (D k))) in
+    length-take-le (L k) (drop (F k) s) (omega (arith, length-drop (F k) s, got k .inside))
+
+part : (k : tie.After-from) → take (F k + L k - F k) (drop (F k) (S (Entry (E (D k))))) ≡ Y k
+part k = ap (λ (i : ℕ). take i (drop (F k) (S (Entry (E (D k)))))) (add-sub-cancel-left (F k) (L k))
+
+goal : (k : tie.After-from) → let st = Entry (E (D k)) in
+    takeSharesOf sha256 (X st) (S st) (Out st) ≡ sent (X st) (Next st (Y k)) (Packet k) (Out st)
+goal k =
+    let st = Entry (E (D k)) in
+    taking (D k) ∙ ap (λ (t : Taken). sent (X st) (Next st (shareTaken t)) (packetTaken (X st) t) (Out st)) (got k .is)
+
+-- what was written
+abbrev K : tie.After-write → tie.After-from
+K w = w .before .before .before .before .before
+
+abbrev O : tie.After-write → List ℕ
+O w = w .write .last .1 .1 .1 .1 .1 .0
+
+asked : (w : tie.After-write) → let k = K w in let st = Entry (E (D k)) in
+    gave (w .write .result) (O w)
+    ≡ writeOf (X st .n) (X st .own) (take (F k + L k - F k) (drop (F k) (S st))) (w .before .before .before .path-at .result)
+    (C k) (Out st)
+asked w = w .write .ensures
+
+there : (w : tie.After-write) → let k = K w in w .before .before .before .path-at .result ≡ path-padded (C k) (Q k)
+there w =
+    let k = K w in
+    let st = Entry (E (D k)) in
+    w .before .before .before .path-at .ensures ∙ path-there (S st) (F k + L k) (C k) (got k .few) (got k .inside)
+
+wrote : (w : tie.After-write) → let k = K w in gave (w .write .result) (O w) ≡ written (Packet k) (Out (Entry (E (D k))))
+wrote w =
+    let k = K w in
+    let st = Entry (E (D k)) in
+    let x = X st in
+    let f = fit (E (D k)) in
+    let g = got k in
+    asked w
+    ∙ ap₂ (λ (y : List ℕ) (p : List (List ℕ)). writeOf (x .n) (x .own) y p (C k) (Out st)) (part k) (there w)
+    ∙ write-taken (x .n) (x .own) (x .root) (Y k) (hashes (C k) (Q k)) (path-padded (C k) (Q k)) (C k) (Out st)
+    (f .low) (f .high) (f .first) (f .last) (omega (arith, size k, g .some)) (omega (arith, size k, g .most))
+    (length-hashes (C k) (Q k))
+    (take-at (hashes (C k) (Q k)) (replicate (maxPath - C k) blank) (C k) (length-hashes (C k) (Q k))) (g .leads)
+
+inbox-cause-requires : tie.Need-inbox-cause-requires
+inbox-cause-requires c κs = search needs
+
+refused-requires : tie.Need-refused-requires
+refused-requires c κs = search needs
+
+returns : tie.Need-returns
+returns c =
+    let b = c .before in
+    let st = b .before .before .before .before in
+    let k = b .before .inbox-cause .ensures in
+    ap (λ (r : Step). stepped r (Out st)) (c .refused .ensures)
+    ∙ sym (shares-refused (X st) (S st) (Out st) (λ q. b .if1 .taken (k ∙ q)) ∙ ap (λ (i : ℕ). refused (X st) i (Out st)) (sym k))
+
+happy-requires : tie.Need-happy-requires
+happy-requires c κs = fit c
+
+relay-own-requires : tie.Need-relay-own-requires
+relay-own-requires c κs = fit (c .before .before .before)
+
+same-length : tie.Need-same-length
+same-length c = search needs
+
+returns-2 : tie.Need-returns-2
+returns-2 c =
+    let w = c .before .before in
+    let u = w .before .before in
+    let e = u .before .before in
+    let st = Entry e in
+    relayed w ∙ sym (shares-happy (X st) (S st) (Out st) (fine e) (sym (u .before .happy .ensures) ∙ u .if2 .taken))
+
+first-valid-requires : tie.Need-first-valid-requires
+first-valid-requires c κs =
+    let e = c .before .before .before .before in
+    let f = fit e in
+    (f .low, f .high, f .first, f .last, taken-fills 3 (X (Entry e)) (S (Entry e)) (fine e), root-long (Entry e))
+
+enum-known-from : tie.Need-enum-known-from
+enum-known-from c = search needs
+
+enum-told : tie.Need-enum-told
+enum-told c = search needs
+
+waiting-requires : tie.Need-waiting-requires
+waiting-requires c κs = fit (E (c .before .before)) .short
+
+returns-3 : tie.Need-returns-3
+returns-3 c =
+    let b = c .before in
+    let d = b .before .before in
+    let st = Entry (E d) in
+    let x = X st in
+    ap {B = Stepped} (λ (y : Party). gives y (given.Done 0) (Out st))
+    (at-second x (c .waiting .result) (x .root) (replicate maxShare 0) [] 0 (c .waiting .ensures) (held (E d)) refl refl)
+    ∙ sym (taking d
+    ∙ ap (λ (t : Taken). sent x (Next st (shareTaken t)) (packetTaken x t) (Out st))
+    (taken-none (T st) (S st) (took d Nowhere (b .enum-told .given .1)))
+    ∙ sent-nothing x (Next st []) (Out st))
+
+add-end : tie.Need-add-end
+add-end c =
+    let k = c .before in
+    omega (arith, got k .inside, Entry (E (D k)) .good .1 .0 .0)
+
+path-at-requires : tie.Need-path-at-requires
+path-at-requires c κs = search needs
+
+sub-write : tie.Need-sub-write
+sub-write c = search needs
+
+part-write-start : tie.Need-part-write-start
+part-write-start c = search needs
+
+part-write-end : tie.Need-part-write-end
+part-write-end c = omega (arith, got (c .before .before) .inside)
+
+write-requires : tie.Need-write-requires
+write-requires c κs = search needs
+
+enum-told-2 : tie.Need-enum-told-2
+enum-told-2 c = search needs
+
+same-length-2 : tie.Need-same-length-2
+same-length-2 c = search needs
+
+returns-4 : tie.Need-returns-4
+returns-4 c =
+    let w = c .before .before .before in
+    let k = K w in
+    let st = Entry (E (D k)) in
+    sent-short (X st) (Next st (Y k)) (Packet k) (Out st) (O w) (w .write .result) (wrote w) (c .match2 .keys2) ∙ sym (goal k)
+
+slice-aggregate-put : tie.Need-slice-aggregate-put
+slice-aggregate-put c = search needs
+
+sub-put : tie.Need-sub-put
+sub-put c = search needs
+
+part-put-start : tie.Need-part-put-start
+part-put-start c = search needs
+
+part-put-end : tie.Need-part-put-end
+part-put-end c =
+    let w = c .before .before .before .before .before in
+    omega (arith, got (K w) .inside)
+
+put-requires : tie.Need-put-requires
+put-requires c κs = search needs
+
+waiting-requires-2 : tie.Need-waiting-requires-2
+waiting-requires-2 c κs =
+    let w = c .before .before .before .before .before .before .before .before in
+    fit (E (D (K w))) .short
+
+same-length-3 : tie.Need-same-length-3
+same-length-3 c = search needs
+
+returns-5 : tie.Need-returns-5
+returns-5 c =
+    let p = c .before .before in
+    let t = p .before .before .before in
+    let w = t .before .before .before .before in
+    let k = K w in
+    let st = Entry (E (D k)) in
+    let x = X st in
+    let g = got k in
+    ap {B = Stepped} (λ (y : Party). gives y (w .write .result) (O w))
+    (at-second x (c .waiting2 .result) (x .root) _ (Y k) (L k) (c .waiting2 .ensures) (held (E (D k)))
+    (p .put .ensures .1 ∙ ap (putOf (replicate maxShare 0) 0) (part k) ∙ put-zeros maxShare (Y k)
+    (omega (arith, size k, g .most)))
+    (sym (size k)))
+    ∙ sent-done x (Next st (Y k)) (Packet k) (Out st) (O w) (w .write .result) (wrote w) _ (t .enum-told2 .given .1)
+    ∙ sym (goal k)
+
+pub take-shares-spec : {M : Type 1} → statement M
+take-shares-spec =
+    tie.close
+    (tie.spec
+    inbox-cause-requires
+    refused-requires
+    returns
+    happy-requires
+    relay-own-requires
+    same-length
+    returns-2
+    first-valid-requires
+    enum-known-from
+    enum-told
+    waiting-requires
+    returns-3
+    add-end
+    path-at-requires
+    sub-write
+    part-write-start
+    part-write-end
+    write-requires
+    enum-told-2
+    same-length-2
+    returns-4
+    slice-aggregate-put
+    sub-put
+    part-put-start
+    part-put-end
+    put-requires
+    waiting-requires-2
+    same-length-3
+    returns-5)

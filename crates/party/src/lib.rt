@@ -1,0 +1,758 @@
+// One party of a session (document 01: a box): its state, its opening, and the four steps that follow.
+ghost use mathlib.Core.Path.{_≡_};
+ghost use mathlib.Core.Bool.{true};
+ghost use mathlib.Core.List.{[]};
+ghost use Prim.Native.Nat.{_+_, _-_, _*_, _≤_, _<_};
+ghost use lib.ListN.{length, take, drop, replicate};
+ghost use Rattle.sha256.specs.Sha256.{sha256};
+ghost use Rattle.limits.specs.Limits.{maxParties, maxMessage, maxShare};
+ghost use Rattle.buffer.specs.Splice.{spliced};
+ghost use Rattle.buffer.specs.Entries.{fills, bodies};
+ghost use Rattle.erasure.specs.Coding.{shareLength, shares};
+ghost use Rattle.merkle.specs.Shares.{blank};
+ghost use Rattle.packet.specs.Format.{entryOf};
+ghost use Rattle.packet.specs.Inbox.{inboxOf};
+ghost use Rattle.packet.specs.Class.{classOf};
+ghost use Rattle.party.specs.State.{padded, messageIn, settled, atFirst, atSecond, blankState, overlong, broken, happy};
+ghost use Rattle.party.specs.Steps.{turnOf, stateCause, openCause, inboxCause, leavesIn, outboxOf, firstValid, ownRelay, gathered};
+ghost use Rattle.party.specs.Steps.{voted, stepped, sent, ended, ending, openOf, agreeRootOf, agreeBitOf, takeSharesOf, takeRelaysOf};
+ghost use Rattle.party.specs.Private.{Fit, ClassIs, TakenIs, entryFor, entryLength, outboxUpTo, outboxLength};
+use buffer::Written;
+use limits::MAX_MESSAGE;
+use limits::MAX_PARTIES;
+use limits::MAX_PATH;
+use limits::MAX_SHARE;
+use merkle::Checked;
+use merkle::Counted;
+use merkle::Hash;
+use packet::Packet;
+
+// The result of a session: nothing, or a message of so many bytes.
+pub enum Outcome {
+    Nothing,
+    Message(usize),
+}
+
+// What a party waits for, or that it has ended with its result.
+pub enum Stage {
+    Root,
+    Bit,
+    First,
+    Second,
+    Ended(Outcome),
+}
+
+// The state of a party.
+pub struct Party {
+    pub n: usize,
+    pub t: usize,
+    pub own: usize,
+    pub stage: Stage,
+    pub message: [u8; MAX_MESSAGE],
+    pub len: usize,
+    pub root: [u8; 32],
+    pub share: [u8; MAX_SHARE],
+    pub held: usize,
+}
+
+// What the opening gives: a state, and the cause for which it was refused, or 0 and the root of the message's shares.
+pub struct Opened {
+    pub state: Party,
+    pub cause: u8,
+    pub root: [u8; 32],
+}
+
+// The answer of step 2.
+pub enum Vote {
+    Refused(u8),
+    Happy(bool),
+}
+
+pub struct Voted {
+    pub state: Party,
+    pub answer: Vote,
+}
+
+// What steps 3 and 4 give: the state, and how many bytes were written.
+pub struct Step {
+    pub state: Party,
+    pub answer: Written,
+}
+
+// The answer of step 5.
+pub enum Settled {
+    Refused(u8),
+    Short(usize),
+    Nothing,
+    Message(usize),
+}
+
+pub struct Ended {
+    pub state: Party,
+    pub answer: Settled,
+}
+
+// The greatest length of all shares of a message together: n is less than 2·b, and b·s less than the message with its length and b.
+const MAX_SHARES: usize = 2 * (MAX_SHARE + MAX_PARTIES);
+
+// The greatest length of n entries with a share each.
+const MAX_ENTRIES: usize = MAX_PARTIES * (MAX_SHARE + 2);
+
+// A message's shares, one behind the other, and the length of each.
+struct Coded {
+    bytes: [u8; MAX_SHARES],
+    size: usize,
+    len: usize,
+}
+
+impl Party {
+    // These limits belong to the party, not to its caller.
+    pub const MAX_PARTIES: usize = limits::MAX_PARTIES;
+
+    pub const MAX_MESSAGE: usize = limits::MAX_MESSAGE;
+
+    // Step 1: the opening. The root goes to the short agreement.
+    pub fn open(n: usize, t: usize, own: usize, message: &[u8]) -> Opened
+        ensures { λ r. ⌜ r ≡ openOf sha256 n t own (now (message .entry)) ⌝ }
+    {
+        let cause = open_cause(n, t, own, message.len());
+        if cause != 0 {
+            return Opened {
+                state: blank(),
+                cause,
+                root: [0; 32],
+            };
+        }
+        let mut held = [0u8; MAX_MESSAGE];
+        buffer::put(&mut held, 0, message);
+        let state = Party {
+            n,
+            t,
+            own,
+            stage: Stage::Root,
+            message: held,
+            len: message.len(),
+            root: [0; 32],
+            share: [0; MAX_SHARE],
+            held: 0,
+        };
+        let leaves = state.leaves();
+        Opened {
+            state,
+            cause: 0,
+            root: merkle::root(n, &leaves),
+        }
+    }
+
+    // Step 2: the agreed root comes; the answer is this party's bit for the second short agreement.
+    pub fn agree_root(self, root: &[u8]) -> Voted
+        ensures { λ r. ⌜ voted r ≡ agreeRootOf sha256 self (now (root .entry)) ⌝ }
+    {
+        let cause = self.state_cause(1);
+        if cause != 0 {
+            return Voted {
+                state: self,
+                answer: Vote::Refused(cause),
+            };
+        }
+        if root.len() != 32 {
+            return Voted {
+                state: self,
+                answer: Vote::Refused(7),
+            };
+        }
+        let mut agreed = [0u8; 32];
+        buffer::put(&mut agreed, 0, root);
+        let state = self.waiting(Stage::Bit, agreed, [0; MAX_SHARE], 0);
+        Voted {
+            state,
+            answer: Vote::Happy(state.happy()),
+        }
+    }
+
+    // Step 3: the agreed bit comes. On 1 a happy party writes a packet for each other party.
+    pub fn agree_bit(self, bit: u8, out: &mut [u8]) -> Step
+        ensures { λ r. ⌜ stepped r (now (out .exit)) ≡ agreeBitOf sha256 self bit (now (out .entry)) ⌝ }
+    {
+        let cause = self.state_cause(2);
+        if cause != 0 {
+            return self.refused(cause);
+        }
+        if 1 < bit {
+            return self.refused(7);
+        }
+        if bit == 0 {
+            let next = self.ended(Outcome::Nothing, [0; MAX_MESSAGE]);
+            return self.silent(next, out);
+        }
+        if self.happy() {
+            return self.send(out);
+        }
+        let root = self.root;
+        let next = self.waiting(Stage::First, root, [0; MAX_SHARE], 0);
+        self.silent(next, out)
+    }
+
+    // Step 4: the first inbox comes. A happy party relays its own share, another the one it was sent.
+    pub fn take_shares(self, inbox: &[u8], out: &mut [u8]) -> Step
+        ensures { λ r. ⌜ stepped r (now (out .exit)) ≡ takeSharesOf sha256 self (now (inbox .entry)) (now (out .entry)) ⌝ }
+    {
+        let cause = self.inbox_cause(3, inbox);
+        if cause != 0 {
+            return self.refused(cause);
+        }
+        if self.happy() {
+            return self.relay_own(out);
+        }
+        let n = self.n;
+        let own = self.own;
+        let root = self.root;
+        let Placed::At(from, len, count) = first_valid(n, own, &root, inbox) else {
+            return Step {
+                state: self.waiting(Stage::Second, root, [0; MAX_SHARE], 0),
+                answer: Written::Done(0),
+            };
+        };
+        let end = from + len;
+        let path = packet::path_at(inbox, end, count);
+        let answer = packet::write(n, own, &inbox[from..end], path, count, out);
+        let Written::Done(_) = answer else {
+            return Step {
+                state: self,
+                answer,
+            };
+        };
+        let mut share = [0u8; MAX_SHARE];
+        buffer::put(&mut share, 0, &inbox[from..end]);
+        Step {
+            state: self.waiting(Stage::Second, root, share, len),
+            answer,
+        }
+    }
+
+    // Step 5: the second inbox comes. A happy party ends with its message, another with what it rebuilds.
+    pub fn take_relays(self, inbox: &[u8], out: &mut [u8]) -> Ended
+        ensures { λ r. ⌜ ended r (now (out .exit)) ≡ takeRelaysOf sha256 self (now (inbox .entry)) (now (out .entry)) ⌝ }
+    {
+        let cause = self.inbox_cause(4, inbox);
+        if cause != 0 {
+            return Ended {
+                state: self,
+                answer: Settled::Refused(cause),
+            };
+        }
+        if self.happy() {
+            let len = self.len;
+            let message = self.message;
+            return self.settle(&message[..len], out);
+        }
+        let mut entries = [0u8; MAX_ENTRIES];
+        let size = self.gather(inbox, &mut entries);
+        let mut message = [0u8; MAX_MESSAGE];
+        let Written::Done(len) = erasure::rebuild(self.n, self.t, &entries[..size], &mut message)
+        else {
+            return Ended {
+                state: self.ended(Outcome::Nothing, [0; MAX_MESSAGE]),
+                answer: Settled::Nothing,
+            };
+        };
+        self.settle(&message[..len], out)
+    }
+
+    // Cause 5, 6 or 8, or 0.
+    fn inbox_cause(self, turn: usize, inbox: &[u8]) -> u8
+        ensures { λ r. ⌜ r ≡ inboxCause turn self (now (inbox .entry)) ⌝ }
+    {
+        let cause = self.state_cause(turn);
+        if cause != 0 {
+            return cause;
+        }
+        if buffer::laid_out(inbox, self.n) {
+            return 0;
+        }
+        8
+    }
+
+    // The relay of a happy party: its own share, but none where it is alone.
+    fn relay_own(self, out: &mut [u8]) -> Step
+        requires { ⌜ Fit self ⌝ }
+        ensures { λ r. ⌜ stepped r (now (out .exit)) ≡ sent self (atSecond (self .n) (self .t) (self .own) (messageIn self) (self .root) []) (ownRelay sha256 self) (now (out .entry)) ⌝ }
+    {
+        let n = self.n;
+        let own = self.own;
+        let root = self.root;
+        let next = self.waiting(Stage::Second, root, [0; MAX_SHARE], 0);
+        if n == 1 {
+            return Step {
+                state: next,
+                answer: Written::Done(0),
+            };
+        }
+        let coded = self.coded();
+        let len = coded.len;
+        let bytes = coded.bytes;
+        let from = (own - 1) * len;
+        let end = from + len;
+        let Counted::Hashes(count) = merkle::path_length(n, own) else {
+            return self.refused(5);
+        };
+        let leaves = self.leaves();
+        let path = merkle::path(n, own, &leaves);
+        let answer = packet::write(n, own, &bytes[from..end], path, count, out);
+        let Written::Done(_) = answer else {
+            return Step {
+                state: self,
+                answer,
+            };
+        };
+        Step {
+            state: next,
+            answer,
+        }
+    }
+
+    // Ends with a message, which is written to out; cause 9 where out is too short.
+    fn settle(self, message: &[u8], out: &mut [u8]) -> Ended
+        requires { ⌜ length (now message) ≤ maxMessage ⌝ }
+        ensures { λ r. ⌜ ended r (now (out .exit)) ≡ ending self (settled (now (message .entry))) (now (out .entry)) ⌝ }
+    {
+        let len = message.len();
+        if out.len() < len {
+            return Ended {
+                state: self,
+                answer: Settled::Short(len),
+            };
+        }
+        buffer::put(out, 0, message);
+        let mut kept = [0u8; MAX_MESSAGE];
+        buffer::put(&mut kept, 0, message);
+        Ended {
+            state: self.ended(Outcome::Message(len), kept),
+            answer: Settled::Message(len),
+        }
+    }
+
+    // The entries to rebuild from: from each sender j a share numbered j that passes the check, and the own relayed share.
+    fn gather(self, inbox: &[u8], entries: &mut [u8]) -> usize
+        requires { ⌜ Fit self × (fills (self .n) (now inbox) ≡ true) × (length (now entries) ≡ maxParties * (maxShare + 2)) ⌝ }
+        ensures { λ r. ⌜ (r ≤ length (now (entries .exit))) × (take r (now (entries .exit)) ≡ inboxOf (gathered sha256 self 1 (bodies (self .n) (now (inbox .entry))))) ⌝ }
+    {
+        let n = self.n;
+        let own = self.own;
+        let root = self.root;
+        let share = self.share;
+        let held = self.held;
+        let mut at: usize = 0;
+        let mut to: usize = 0;
+        let mut j: usize = 0;
+        while j < n {
+            let size = buffer::size_at(inbox, at);
+            let from = at + 2;
+            at = from + size;
+            j += 1;
+            if j == own {
+                to = put_entry(entries, to, &share[..held]);
+                continue;
+            }
+            let Placed::At(place, len, _) = valid_at(n, j, &root, inbox, from, at) else {
+                to = put_entry(entries, to, &[]);
+                continue;
+            };
+            let end = place + len;
+            to = put_entry(entries, to, &inbox[place..end]);
+        }
+        to
+    }
+
+    // Cause 5 or 6, or 0.
+    fn state_cause(self, turn: usize) -> u8
+        ensures { λ r. ⌜ r ≡ stateCause turn self ⌝ }
+    {
+        if self.broken() {
+            return 5;
+        }
+        let stage = self.stage;
+        if turn_of(stage) != turn {
+            return 6;
+        }
+        0
+    }
+
+    // Whether the state breaks causes 1 to 4 or holds a length over its limit.
+    fn broken(self) -> bool
+        ensures { λ r. ⌜ r ≡ broken self ⌝ }
+    {
+        if limits::group_cause(self.n, self.t) != 0 {
+            return true;
+        }
+        if self.own < 1 {
+            return true;
+        }
+        if self.n < self.own {
+            return true;
+        }
+        if MAX_MESSAGE < self.len {
+            return true;
+        }
+        if MAX_SHARE < self.held {
+            return true;
+        }
+        let stage = self.stage;
+        overlong(stage)
+    }
+
+    // The state at another stage, with its message and with zeros past every length.
+    fn waiting(self, stage: Stage, root: Hash, share: [u8; MAX_SHARE], held: usize) -> Party
+        requires { ⌜ self .len ≤ maxMessage ⌝ }
+        ensures { λ r. ⌜ r ≡ record { n = self .n; t = self .t; own = self .own; stage = stage; message = padded maxMessage (messageIn self); len = self .len; root = root; share = share; held = held } ⌝ }
+    {
+        let len = self.len;
+        let message = self.message;
+        let mut kept = [0u8; MAX_MESSAGE];
+        buffer::put(&mut kept, 0, &message[..len]);
+        Party {
+            n: self.n,
+            t: self.t,
+            own: self.own,
+            stage,
+            message: kept,
+            len,
+            root,
+            share,
+            held,
+        }
+    }
+
+    fn ended(self, outcome: Outcome, message: [u8; MAX_MESSAGE]) -> Party
+        ensures { λ r. ⌜ r ≡ record { n = self .n; t = self .t; own = self .own; stage = Stage.Ended outcome; message = message; len = 0; root = blank; share = replicate maxShare 0; held = 0 } ⌝ }
+    {
+        Party {
+            n: self.n,
+            t: self.t,
+            own: self.own,
+            stage: Stage::Ended(outcome),
+            message,
+            len: 0,
+            root: [0; 32],
+            share: [0; MAX_SHARE],
+            held: 0,
+        }
+    }
+
+    fn refused(self, cause: u8) -> Step
+        ensures { λ r. ⌜ r ≡ record { state = self; answer = Written.Refused cause } ⌝ }
+    {
+        Step {
+            state: self,
+            answer: Written::Refused(cause),
+        }
+    }
+
+    // The shares of the message that the state holds.
+    fn coded(self) -> Coded
+        requires { ⌜ Fit self ⌝ }
+        ensures { λ r. ⌜ (r .size ≤ 2 * (maxShare + maxParties)) × (take (r .size) (r .bytes) ≡ shares (self .n) (self .n - self .t) (messageIn self)) × (r .len ≡ shareLength (self .n - self .t) (self .len)) × (r .size ≡ self .n * r .len) ⌝ }
+    {
+        let mut bytes = [0u8; MAX_SHARES];
+        let len = self.len;
+        let message = self.message;
+        let n = self.n;
+        let Written::Done(size) = erasure::encode(n, self.t, &message[..len], &mut bytes) else {
+            return Coded {
+                bytes: [0; MAX_SHARES],
+                size: 0,
+                len: 0,
+            };
+        };
+        Coded {
+            bytes,
+            size,
+            len: size / n,
+        }
+    }
+
+    fn leaves(self) -> [Hash; MAX_PARTIES]
+        requires { ⌜ Fit self ⌝ }
+        ensures { λ r. ⌜ r ≡ leavesIn sha256 self ⌝ }
+    {
+        let coded = self.coded();
+        let size = coded.size;
+        let bytes = coded.bytes;
+        merkle::leaves(self.n, &bytes[..size])
+    }
+
+    // Whether the agreed root is that of the party's own message.
+    fn happy(self) -> bool
+        requires { ⌜ Fit self ⌝ }
+        ensures { λ r. ⌜ r ≡ happy sha256 self ⌝ }
+    {
+        let leaves = self.leaves();
+        let own = merkle::root(self.n, &leaves);
+        let agreed = self.root;
+        check::same(&own, &agreed)
+    }
+
+    // Lengths of zero for all parties, and the next state; cause 9 where out is too short.
+    fn silent(self, next: Party, out: &mut [u8]) -> Step
+        requires { ⌜ self .n ≤ maxParties ⌝ }
+        ensures { λ r. ⌜ stepped r (now (out .exit)) ≡ sent self next (replicate (2 * self .n) 0) (now (out .entry)) ⌝ }
+    {
+        let need = 2 * self.n;
+        if out.len() < need {
+            return Step {
+                state: self,
+                answer: Written::Short(need),
+            };
+        }
+        write_silence(out, need);
+        Step {
+            state: next,
+            answer: Written::Done(need),
+        }
+    }
+
+    // The outbox of a happy party on bit 1.
+    fn send(self, out: &mut [u8]) -> Step
+        requires { ⌜ Fit self × (happy sha256 self ≡ true) ⌝ }
+        ensures { λ r. ⌜ stepped r (now (out .exit)) ≡ sent self (atFirst (self .n) (self .t) (self .own) (messageIn self) (self .root)) (outboxOf sha256 self 1) (now (out .entry)) ⌝ }
+    {
+        let n = self.n;
+        let own = self.own;
+        let root = self.root;
+        let coded = self.coded();
+        let len = coded.len;
+        let size = coded.size;
+        let bytes = coded.bytes;
+        let need = outbox_len(n, own, len);
+        if out.len() < need {
+            return Step {
+                state: self,
+                answer: Written::Short(need),
+            };
+        }
+        let leaves = self.leaves();
+        write_outbox(n, own, len, &bytes[..size], &leaves, out);
+        Step {
+            state: self.waiting(Stage::First, root, [0; MAX_SHARE], 0),
+            answer: Written::Done(need),
+        }
+    }
+}
+
+// Where a share that passed the check lies, how long it is, and how many hashes follow it.
+enum Placed {
+    Nowhere,
+    At(usize, usize, usize),
+}
+
+// The packet between two places of an inbox, if it bears number j and its path leads to the root.
+fn valid_at(n: usize, j: usize, root: &Hash, inbox: &[u8], from: usize, to: usize) -> Placed
+    requires { ⌜ (1 ≤ n) × (n ≤ maxParties) × (1 ≤ j) × (j ≤ n) × (from ≤ to) × (to ≤ length (now inbox)) × (length (now root) ≡ 32) ⌝ }
+    ensures { λ r. ⌜ ClassIs r (classOf sha256 n j (now (root .entry)) (take (to - from) (drop from (now (inbox .entry))))) (now (inbox .entry)) ⌝ }
+{
+    let bytes = &inbox[from..to];
+    let Packet::Share {
+        number,
+        from: start,
+        len,
+        count,
+    } = packet::read(bytes, n)
+    else {
+        return Placed::Nowhere;
+    };
+    if number != j {
+        return Placed::Nowhere;
+    }
+    let end = start + len;
+    let path = packet::path_at(bytes, end, count);
+    if let Checked::Yes = merkle::check(n, j, &bytes[start..end], path, count, root) {
+        return Placed::At(from + start, len, count);
+    }
+    Placed::Nowhere
+}
+
+// What the lowest-numbered sender gave whose packet bears the own number and passes the check; the own entry is ignored.
+fn first_valid(n: usize, own: usize, root: &Hash, inbox: &[u8]) -> Placed
+    requires { ⌜ (1 ≤ n) × (n ≤ maxParties) × (1 ≤ own) × (own ≤ n) × (fills n (now inbox) ≡ true) × (length (now root) ≡ 32) ⌝ }
+    ensures { λ r. ⌜ TakenIs r (firstValid sha256 n own (now (root .entry)) 1 (bodies n (now (inbox .entry)))) (now (inbox .entry)) ⌝ }
+{
+    let mut at: usize = 0;
+    let mut j: usize = 0;
+    while j < n {
+        let size = buffer::size_at(inbox, at);
+        let from = at + 2;
+        at = from + size;
+        j += 1;
+        if j == own {
+            continue;
+        }
+        let Placed::At(place, len, count) = valid_at(n, own, root, inbox, from, at) else {
+            continue;
+        };
+        return Placed::At(place, len, count);
+    }
+    Placed::Nowhere
+}
+
+// An entry of a share; the place behind it.
+fn put_entry(entries: &mut [u8], at: usize, share: &[u8]) -> usize
+    requires { ⌜ (length (now share) < 65536) × (at + 2 + length (now share) ≤ length (now entries)) ⌝ }
+    ensures { λ r. ⌜ (r ≡ at + 2 + length (now (share .entry))) × (now (entries .exit) ≡ spliced (now (entries .entry)) at (entryOf (now (share .entry)))) ⌝ }
+{
+    let len = share.len();
+    buffer::put(entries, at, &[(len / 256 % 256) as u8, (len % 256) as u8]);
+    buffer::put(entries, at + 2, share);
+    at + 2 + len
+}
+
+fn open_cause(n: usize, t: usize, own: usize, len: usize) -> u8
+    ensures { λ r. ⌜ r ≡ openCause n t own len ⌝ }
+{
+    let cause = limits::group_cause(n, t);
+    if cause != 0 {
+        return cause;
+    }
+    if own < 1 {
+        return 3;
+    }
+    if n < own {
+        return 3;
+    }
+    if MAX_MESSAGE < len {
+        return 4;
+    }
+    0
+}
+
+fn blank() -> Party
+    ensures { λ r. ⌜ r ≡ blankState ⌝ }
+{
+    Party {
+        n: 0,
+        t: 0,
+        own: 0,
+        stage: Stage::Root,
+        message: [0; MAX_MESSAGE],
+        len: 0,
+        root: [0; 32],
+        share: [0; MAX_SHARE],
+        held: 0,
+    }
+}
+
+fn turn_of(stage: Stage) -> usize
+    ensures { λ r. ⌜ r ≡ turnOf stage ⌝ }
+{
+    match stage {
+        Stage::Root => 1,
+        Stage::Bit => 2,
+        Stage::First => 3,
+        Stage::Second => 4,
+        Stage::Ended(_) => 5,
+    }
+}
+
+fn overlong(stage: Stage) -> bool
+    ensures { λ r. ⌜ r ≡ overlong stage ⌝ }
+{
+    let Stage::Ended(outcome) = stage else {
+        return false;
+    };
+    let Outcome::Message(len) = outcome else {
+        return false;
+    };
+    MAX_MESSAGE < len
+}
+
+// Zeros in the first `len` bytes: lengths of zero for all parties.
+fn write_silence(out: &mut [u8], len: usize)
+    requires { ⌜ len ≤ length (now out) ⌝ }
+    ensures { λ _. ⌜ now (out .exit) ≡ spliced (now (out .entry)) 0 (replicate len 0) ⌝ }
+{
+    let mut i: usize = 0;
+    while i < len {
+        out[i] = 0;
+        i += 1;
+    }
+}
+
+// The length of the outbox with packets for all parties but one.
+fn outbox_len(n: usize, own: usize, share: usize) -> usize
+    requires { ⌜ (1 ≤ n) × (n ≤ maxParties) × (share ≤ maxShare) ⌝ }
+    ensures { λ r. ⌜ r ≡ outboxLength n n own share ⌝ }
+{
+    let mut len: usize = 0;
+    let mut j: usize = 0;
+    while j < n {
+        j += 1;
+        len += entry_len(n, own, j, share);
+    }
+    len
+}
+
+fn entry_len(n: usize, own: usize, j: usize, share: usize) -> usize
+    requires { ⌜ (1 ≤ n) × (n ≤ maxParties) × (1 ≤ j) × (j ≤ n) × (share ≤ maxShare) ⌝ }
+    ensures { λ r. ⌜ r ≡ entryLength n own share j ⌝ }
+{
+    if j == own {
+        return 2;
+    }
+    let Counted::Hashes(count) = merkle::path_length(n, j) else {
+        return 2;
+    };
+    2 + 4 + share + 32 * count
+}
+
+// The outbox with packets for all parties but one, each with its share of `len` bytes and the path of that share.
+fn write_outbox(
+    n: usize,
+    own: usize,
+    len: usize,
+    shares: &[u8],
+    leaves: &[Hash; MAX_PARTIES],
+    out: &mut [u8],
+)
+    requires { ⌜ (1 ≤ n) × (n ≤ maxParties) × (1 ≤ len) × (len ≤ maxShare) × (n * len ≤ length (now shares))
+        × (length (outboxUpTo n n own len (now shares) (now leaves)) ≤ length (now out)) ⌝ }
+    ensures { λ _. ⌜ now (out .exit) ≡ spliced (now (out .entry)) 0 (outboxUpTo n n own len (now (shares .entry)) (now (leaves .entry))) ⌝ }
+{
+    let mut at: usize = 0;
+    let mut j: usize = 0;
+    while j < n {
+        j += 1;
+        at = write_entry(n, own, j, len, shares, leaves, out, at);
+    }
+}
+
+// The entry for party j; the place behind it.
+fn write_entry(
+    n: usize,
+    own: usize,
+    j: usize,
+    len: usize,
+    shares: &[u8],
+    leaves: &[Hash; MAX_PARTIES],
+    out: &mut [u8],
+    at: usize,
+) -> usize
+    requires { ⌜ (1 ≤ n) × (n ≤ maxParties) × (1 ≤ j) × (j ≤ n) × (1 ≤ len) × (len ≤ maxShare) × (n * len ≤ length (now shares))
+        × (at + length (entryFor n own len (now shares) (now leaves) j) ≤ length (now out)) ⌝ }
+    ensures { λ r. ⌜ (r ≡ at + length (entryFor n own len (now (shares .entry)) (now (leaves .entry)) j))
+        × (now (out .exit) ≡ spliced (now (out .entry)) at (entryFor n own len (now (shares .entry)) (now (leaves .entry)) j)) ⌝ }
+{
+    if j == own {
+        buffer::put(out, at, &[0, 0]);
+        return at + 2;
+    }
+    let Counted::Hashes(count) = merkle::path_length(n, j) else {
+        return at;
+    };
+    let path = merkle::path(n, j, leaves);
+    let from = (j - 1) * len;
+    let end = from + len;
+    let share = &shares[from..end];
+    let Written::Done(size) = packet::write_entry(n, j, share, path, count, &mut out[at..]) else {
+        return at;
+    };
+    at + size
+}
