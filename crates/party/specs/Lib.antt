@@ -1,3 +1,5 @@
 pub mod State
 pub mod Steps
 pub mod Private
+pub mod Calls
+pub mod Agreement

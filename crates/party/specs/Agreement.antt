@@ -1,0 +1,124 @@
+-- Agreement (demand 3): one claim about all good parties of a session (document 01: good boxes, a sitting) and their lists of calls
+-- together. What is supposed of them, what then holds, and the claim that it does, for a hash H. Assumes nothing.
+use mathlib.Core.Path.{_≡_}
+use mathlib.Core.Logic.{_⊎_, _≢_}
+use mathlib.Core.Bool.{Bool, true, false, cond}
+use mathlib.Core.List.{List, [], _∷_, _++_, map, List·Memᴰ}
+use mathlib.Core.Option.{Option, some}
+use Prim.Native.Nat.{ℕ, zero, suc, _+_, _-_, _*_, _≤_}
+use lib.Dec.{eqb}
+use lib.ListN.{length}
+use Rattle.buffer.specs.Bounds.{Bytes}
+use Rattle.erasure.specs.Coding.{shareLength}
+use Rattle.merkle.specs.Height.{height}
+use Rattle.party.specs.State.{Result, nothing, settled}
+use Rattle.party.specs.Calls.{Call, agreeRoot, agreeBit, Event, heard, wrote, packetTo, bitGiven, resultShown}
+use Rattle.party.specs.Calls.{opening, firstOf, resultAfter, hashed, sentBy}
+
+-- a good party: its number, its message, and the calls that it gets after its opening
+pub record Good : Type 0 where
+  pub own : ℕ
+  pub message : List ℕ
+  pub calls : List Call
+
+-- k is one of these numbers; they are all different
+unfoldable pub among : ℕ → List ℕ → Bool
+among k [] = false
+among k (j ∷ js) = cond (eqb k j) true (among k js)
+
+unfoldable pub different : List ℕ → Bool
+different [] = true
+different (k ∷ ks) = cond (among k ks) false (different ks)
+
+-- how many of the numbers 1 to k are not among these
+unfoldable pub missing : ℕ → List ℕ → ℕ
+missing zero js = 0
+missing (suc k) js = missing k js + cond (among (suc k) js) 0 1
+
+unfoldable pub sumOver : {A : Type 0} → (A → ℕ) → List A → ℕ
+sumOver f [] = 0
+sumOver f (a ∷ l) = f a + sumOver f l
+
+unfoldable pub joinOver : {A : Type 0} → (A → List (List ℕ)) → List A → List (List ℕ)
+joinOver f [] = []
+joinOver f (a ∷ l) = f a ++ joinOver f l
+
+module _ (H : List ℕ → List ℕ) (n t : ℕ) (good : List Good) where
+  -- it holds of every good party
+  abbrev pub Each : (Good → Type 0) → Type 0
+  Each P = (A : Good) → List·Memᴰ A good → P A
+
+  abbrev pub owns : List ℕ
+  owns = map (λ (A : Good). A .own) good
+
+  -- a party's first accepted call of step k
+  abbrev pub step : ℕ → Good → Option Event
+  step k A = firstOf H n t (A .own) (A .message) (A .calls) k
+
+  -- all opened, with one n and t, under different numbers; bad are the numbers up to n that no good party bears, at most t
+  pub record OpenedAll : Type 0 where
+    pub bytes : Each (λ A. Bytes (A .message))
+    pub taken : Each (λ A. opening H n t (A .own) (A .message) .cause ≡ 0)
+    pub apart : different owns ≡ true
+    pub bad : missing n owns ≤ t
+
+  -- steps 2 and 3 were accepted, first with the agreed root z and the agreed bit; on bit 1 also steps 4 and 5
+  pub record CalledAll (z : List ℕ) (bit : ℕ) : Type 0 where
+    pub second : Each (λ A. (e : Event) × (step 2 A ≡ some e) × (e .call ≡ agreeRoot z))
+    pub third : Each (λ A. (e : Event) × (out : List ℕ) × (step 3 A ≡ some e) × (e .call ≡ agreeBit bit out))
+    pub fourth : bit ≡ 1 → Each (λ A. (e : Event) × (step 4 A ≡ some e))
+    pub fifth : bit ≡ 1 → Each (λ A. (e : Event) × (step 5 A ≡ some e))
+
+  -- the rule of the short agreement: if all good parties put in the same value, it is the one that all got
+  abbrev pub Rule : {A : Type 0} → (Good → Option A) → A → Type 0
+  Rule {A} given got = (v : A) → Each (λ P. given P ≡ some v) → got ≡ v
+
+  -- for the root it was given the openings' roots, for the bit the bits of those steps 2
+  pub record Ruled (z : List ℕ) (bit : ℕ) : Type 0 where
+    pub root : Rule (λ A. some (opening H n t (A .own) (A .message) .root)) z
+    pub vote : Rule (λ A. bitGiven (step 2 A)) bit
+
+  -- what a good party B sent to A, and nothing else, stands under B's number in A's inbox. Of bad numbers, and of A's own, nothing is said
+  abbrev pub Delivered : (Good → Good → List ℕ) → (Good → Good → List ℕ) → Type 0
+  Delivered got sent = Each (λ A. Each (λ B. A .own ≢ B .own → got A B ≡ sent B A))
+
+  -- in the first inbox B's packet for A from that step 3, in the second B's relay from that step 4
+  pub record DeliveredAll : Type 0 where
+    pub first : Delivered (λ A B. heard n (B .own) (step 4 A)) (λ B A. packetTo n (A .own) (step 3 B))
+    pub second : Delivered (λ A B. heard n (B .own) (step 5 A)) (λ B A. wrote (step 4 B))
+
+  -- no two different strings that good parties hashed, all taken together, have one hash
+  abbrev pub allHashed : List (List ℕ)
+  allHashed = joinOver (λ (A : Good). hashed H n t (A .own) (A .message) (A .calls)) good
+
+  abbrev pub Clean : Type 0
+  Clean = (x y : List ℕ) → List·Memᴰ x allHashed → List·Memᴰ y allHashed → H x ≡ H y → x ≡ y
+
+  -- what is supposed
+  pub record Premises (z : List ℕ) (bit : ℕ) : Type 0 where
+    pub opened : OpenedAll
+    pub called : CalledAll z bit
+    pub ruled : Ruled z bit
+    pub delivered : bit ≡ 1 → DeliveredAll
+    pub clean : Clean
+
+  -- the bytes that good parties sent
+  abbrev pub sent : ℕ
+  sent = sumOver (λ (A : Good). sentBy H n t (A .own) (A .message) (A .calls)) good
+
+  -- what then holds of one result R: every good party's state holds it after the list, and on bit 1 that step 5 gave it; it is nothing or
+  -- a message that some good party opened with, and the common one where all opened with one; the bytes sent are within the bound, and
+  -- none if the result is nothing
+  pub record Conclusions (bit : ℕ) (R : Result) : Type 0 where
+    pub holds : Each (λ A. resultAfter H n t (A .own) (A .message) (A .calls) ≡ some R)
+    pub gives : bit ≡ 1 → Each (λ A. resultShown (step 5 A) ≡ some R)
+    pub somebodys : (R ≡ nothing) ⊎ ((A : Good) × List·Memᴰ A good × (R ≡ settled (A .message)))
+    pub common : (m : List ℕ) → Each (λ A. A .message ≡ m) → R ≡ settled m
+    pub bound : (m : List ℕ) → R ≡ settled m
+        → sent ≤ 2 * length good * (n - 1) * (4 + shareLength (n - t) (length m) + 32 * height n)
+    pub free : R ≡ nothing → sent ≡ 0
+
+-- demand 3, for all n and t, all good parties, all agreed values
+abbrev pub Agreement : (List ℕ → List ℕ) → Type 0
+Agreement H =
+    (n t : ℕ) (good : List Good) (z : List ℕ) (bit : ℕ) → Premises H n t good z bit → (R : Result) × Conclusions H n t good bit R

@@ -1,0 +1,186 @@
+-- A party's list of calls after its opening (document 01, "A sitting, as demand 3 means it"): what each call gives back, which were
+-- accepted, which strings the party hashed, and how many bytes it sent. The hash of the tree is a parameter H. Assumes nothing.
+use mathlib.Core.Bool.{cond}
+use mathlib.Core.List.{List, [], _∷_, _++_}
+use mathlib.Core.Option.{Option, none, some}
+use Prim.Native.Nat.{ℕ, zero, suc, _+_, _-_, _*_}
+use lib.Dec.{eqb}
+use lib.ListN.{length, getD, take}
+use Rattle.buffer.specs.Entries.{bodies}
+use Rattle.erasure.specs.Coding.{shares}
+use Rattle.merkle.specs.Shares.{codingStrings}
+use Rattle.packet.specs.Class.{Class, silent, faulty, valid, classOf, classStrings}
+use Rattle.party.specs.State.{Result, resultIn, happy}
+use Rattle.party.specs.Steps.{openOf, agreeRootOf, agreeBitOf, takeSharesOf, takeRelaysOf}
+use Rattle.party.specs.declared.Party.{Party}
+use Rattle.party.specs.declared.Opened.{Opened}
+
+-- a call of step 2, 3, 4 or 5, with what it is handed: a root; a bit and the out buffer; an inbox and the out buffer
+pub data Call : Type 0 where
+  agreeRoot : List ℕ → Call
+  agreeBit : ℕ → List ℕ → Call
+  takeShares : List ℕ → List ℕ → Call
+  takeRelays : List ℕ → List ℕ → Call
+
+-- document 01's number of the step
+abbrev pub stepOf : Call → ℕ
+stepOf (agreeRoot z) = 2
+stepOf (agreeBit bit out) = 3
+stepOf (takeShares inbox out) = 4
+stepOf (takeRelays inbox out) = 5
+
+-- the inbox that a call is handed; none at steps 2 and 3
+abbrev pub inboxIn : Call → List ℕ
+inboxIn (agreeRoot z) = []
+inboxIn (agreeBit bit out) = []
+inboxIn (takeShares inbox out) = inbox
+inboxIn (takeRelays inbox out) = inbox
+
+-- what a call gives back, in one form for all steps: the state, document 01's number of the cause (0: accepted), the value with it, the
+-- result (of step 5), and what the out buffer then holds (none at step 2)
+pub record Reply : Type 0 where
+  pub state : Party
+  pub cause : ℕ
+  pub value : ℕ
+  pub result : Option Result
+  pub buffer : List ℕ
+
+-- a call that was made: the state it got, and what it gave back
+pub record Event : Type 0 where
+  pub before : Party
+  pub call : Call
+  pub reply : Reply
+
+-- the accepted ones
+unfoldable pub accepted : List Event → List Event
+accepted [] = []
+accepted (e ∷ es) = cond (eqb (e .reply .cause) 0) (e ∷ accepted es) (accepted es)
+
+-- the first of step k
+unfoldable pub first : ℕ → List Event → Option Event
+first k [] = none
+first k (e ∷ es) = cond (eqb (stepOf (e .call)) k) (some e) (first k es)
+
+-- entry j of n entries; no bytes where there is none
+unfoldable pub entry : ℕ → ℕ → List ℕ → List ℕ
+entry n j s = getD (bodies n s) (j - 1) []
+
+-- what stands under sender j's number in the inbox that a call was handed
+abbrev pub heard : ℕ → ℕ → Option Event → List ℕ
+heard n j none = []
+heard n j (some e) = entry n j (inboxIn (e .call))
+
+-- what steps 3 and 4 wrote: as many bytes of the buffer as the answer says
+abbrev pub writtenBy : Event → List ℕ
+writtenBy e = take (e .reply .value) (e .reply .buffer)
+
+abbrev pub wrote : Option Event → List ℕ
+wrote none = []
+wrote (some e) = writtenBy e
+
+-- the packet for party i in what step 3 wrote
+abbrev pub packetTo : ℕ → ℕ → Option Event → List ℕ
+packetTo n i e = entry n i (wrote e)
+
+-- the bit that step 2 gave, and the result that step 5 gave
+abbrev pub bitGiven : Option Event → Option ℕ
+bitGiven none = none
+bitGiven (some e) = some (e .reply .value)
+
+abbrev pub resultShown : Option Event → Option Result
+resultShown none = none
+resultShown (some e) = e .reply .result
+
+-- the lengths of entries without the two bytes in front of each
+unfoldable pub lengths : List (List ℕ) → ℕ
+lengths [] = 0
+lengths (p ∷ ps) = length p + lengths ps
+
+-- the bytes that an accepted call among n parties sent: the packets of step 3, and the relay of step 4 to the n - 1 others
+abbrev pub sentIn : ℕ → Call → List ℕ → ℕ
+sentIn n (agreeRoot z) bs = 0
+sentIn n (agreeBit bit out) bs = lengths (bodies n bs)
+sentIn n (takeShares inbox out) bs = (n - 1) * length bs
+sentIn n (takeRelays inbox out) bs = 0
+
+unfoldable pub sentOver : ℕ → List Event → ℕ
+sentOver n [] = 0
+sentOver n (e ∷ es) = sentIn n (e .call) (writtenBy e) + sentOver n es
+
+module _ (H : List ℕ → List ℕ) where
+  unfoldable pub made : Party → Call → Reply
+  made x (agreeRoot z) =
+      let r = agreeRootOf H x z in record { state = r .state; cause = r .cause; value = r .bit; result = none; buffer = [] }
+  made x (agreeBit bit out) =
+      let r = agreeBitOf H x bit out in
+      record { state = r .state; cause = r .cause; value = r .value; result = none; buffer = r .buffer }
+  made x (takeShares inbox out) =
+      let r = takeSharesOf H x inbox out in
+      record { state = r .state; cause = r .cause; value = r .value; result = none; buffer = r .buffer }
+  made x (takeRelays inbox out) =
+      let r = takeRelaysOf H x inbox out in
+      record { state = r .state; cause = r .cause; value = r .value; result = r .result; buffer = r .buffer }
+
+  -- each call gets the state that the last one gave back
+  unfoldable pub events : Party → List Call → List Event
+  events x [] = []
+  events x (c ∷ cs) = record { before = x; call = c; reply = made x c } ∷ events (made x c .state) cs
+
+  unfoldable pub final : Party → List Call → Party
+  final x [] = x
+  final x (c ∷ cs) = final (made x c .state) cs
+
+  -- step 4 checks the packets that bear the own number, up to the first that passes; of senders numbered from j on
+  abbrev pub unlessValid : Class → List (List ℕ) → List (List ℕ)
+  unlessValid silent ss = ss
+  unlessValid faulty ss = ss
+  unlessValid (valid x p) ss = []
+
+  unfoldable pub shareStrings : ℕ → ℕ → List ℕ → ℕ → List (List ℕ) → List (List ℕ)
+  shareStrings n own z j [] = []
+  shareStrings n own z j (p ∷ ps) =
+      cond (eqb j own) (shareStrings n own z (j + 1) ps)
+      (classStrings H n own p ++ unlessValid (classOf H n own z p) (shareStrings n own z (j + 1) ps))
+
+  -- step 5 checks each other sender's packet that bears the sender's number
+  unfoldable pub relayStrings : ℕ → ℕ → ℕ → List (List ℕ) → List (List ℕ)
+  relayStrings n own j [] = []
+  relayStrings n own j (p ∷ ps) = cond (eqb j own) [] (classStrings H n j p) ++ relayStrings n own (j + 1) ps
+
+  -- the strings of the path checks that an accepted call makes; a happy party makes none
+  unfoldable pub checkedIn : Party → Call → List (List ℕ)
+  checkedIn x (agreeRoot z) = []
+  checkedIn x (agreeBit bit out) = []
+  checkedIn x (takeShares inbox out) =
+      cond (happy H x) [] (shareStrings (x .n) (x .own) (x .root) 1 (bodies (x .n) inbox))
+  checkedIn x (takeRelays inbox out) = cond (happy H x) [] (relayStrings (x .n) (x .own) 1 (bodies (x .n) inbox))
+
+  unfoldable pub checkedOver : List Event → List (List ℕ)
+  checkedOver [] = []
+  checkedOver (e ∷ es) = checkedIn (e .before) (e .call) ++ checkedOver es
+
+  -- a party that opened with n, t, its number and a message
+  module _ (n t own : ℕ) (m : List ℕ) where
+    abbrev pub opening : Opened
+    opening = openOf H n t own m
+
+    -- and then got these calls
+    module _ (calls : List Call) where
+      -- its accepted calls, and the first of step k among them
+      unfoldable pub did : List Event
+      did = accepted (events (opening .state) calls)
+
+      abbrev pub firstOf : ℕ → Option Event
+      firstOf k = first k did
+
+      -- the result that its state holds after the list
+      abbrev pub resultAfter : Option Result
+      resultAfter = resultIn (final (opening .state) calls)
+
+      -- the strings it hashed: the leaf and node strings of the message it coded, and those of the path checks it made
+      unfoldable pub hashed : List (List ℕ)
+      hashed = codingStrings H n (shares n (n - t) m) ++ checkedOver did
+
+      -- the bytes it sent
+      unfoldable pub sentBy : ℕ
+      sentBy = sentOver n did
