@@ -8,3 +8,5 @@ pub mod Valid
 pub mod Walk
 pub mod Taking
 pub mod Relay
+pub mod Run
+pub mod Ran

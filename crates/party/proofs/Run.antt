@@ -1,0 +1,303 @@
+-- The accepted calls of a party, one after the other: a refused call keeps the state, an accepted one is the step that the stage awaits
+-- and gives what its definition says, and once the party has ended its result is kept and nothing more is sent. By the tests of
+-- the steps, and by one induction over the list of calls. Assumes nothing.
+use mathlib.Core.Path.{_≡_, refl, sym, ap, ap₂, _∙_, subst}
+use mathlib.Core.Logic.{_⊎_, inl, inr, _≢_}
+use mathlib.Core.Bool.{Bool, true, false, cond, not, true≢false, false≢true}
+use mathlib.Core.List.{List, [], _∷_, _++_}
+use mathlib.Core.Option.{Option, none, some}
+use Prim.Native.Nat.{ℕ, zero, suc, _+_, _-_, _*_, _≤_, _<_}
+use native.Mathlib.Omega.{arith}
+use borrow.Author.Tests.{ltb-false, eqb-true, eqb-false, eq-eqb, ne-eqb}
+use lib.Dec.{eqb, ltb}
+use lib.ListN.{length, take, drop}
+use Rattle.buffer.specs.Splice.{spliced}
+use Rattle.buffer.specs.Entries.{fills}
+use Rattle.buffer.specs.declared.Written.{Written}
+use Rattle.buffer.specs.declared.Written.the-variants as written
+use Rattle.party.specs.State.{Result, nothing, settled, bytesOf, messageIn, atBit, atFirst, atSecond, atEnd, broken, resultIn, happy}
+use Rattle.party.specs.Steps.{turnOf, stateCause, rootCause, withRoot, ballot, agreeRootOf, Stepped, gives, refused, sent, bitCause, outboxOf}
+use Rattle.party.specs.Steps.{agreeBitOf, inboxCause, relayOf, relayedOf, takeSharesOf, resultOf, Ending, givesEnd, ending, takeRelaysOf}
+use Rattle.party.specs.Calls.{Call, agreeRoot, agreeBit, takeShares, takeRelays, stepOf, Reply, Event, accepted, first, writtenBy, sentIn, sentOver}
+use Rattle.party.specs.Calls.{made, events, final}
+use Rattle.party.specs.declared.Party.{Party}
+use Rattle.party.specs.declared.Vote.the-variants as vote
+use Rattle.party.specs.declared.Settled.the-variants as answer
+use Rattle.party.proofs.Causes.{state-sound}
+use Rattle.party.proofs.Kept.{take-spliced}
+
+-- a test, and which way it went
+pub data Way (b : Bool) : Type 0 where
+  on : b ≡ true → Way b
+  off : b ≡ false → Way b
+
+pub way : (b : Bool) → Way b
+way true = on refl
+way false = off refl
+
+pub clash : {A : Type 0} {b : Bool} → b ≡ true → b ≡ false → A
+clash e f = absurd (true≢false (sym e ∙ f))
+
+-- either of two, with the first changed
+first-of : {A B C : Type 0} → (A → B) → A ⊎ C → B ⊎ C
+first-of f (inl a) = inl (f a)
+first-of f (inr c) = inr c
+
+none-some : {A : Type 0} {x : A} → _≡_ {A = Option A} none (some x) → ⊥
+none-some p = let z : _≡_ {A = ℕ} 0 1 = cc in omega arith
+
+same-some : {x y : Event} → _≡_ {A = Option Event} (some x) (some y) → x ≡ y
+same-some p = cc
+
+-- a call of a step that writes: taken with what it writes, or turned away with the state kept
+abbrev reply : Stepped → Reply
+reply s = record { state = s .state; cause = s .cause; value = s .value; result = none; buffer = s .buffer }
+
+abbrev Turned : Party → Reply → Type 0
+Turned x r = (r .cause ≢ 0) × (r .state ≡ x)
+
+nine : _≡_ {A = ℕ} 9 0 → ⊥
+nine e = omega arith
+
+written-or : (k : ℕ) (x next : Party) (bs out : List ℕ)
+    → ((k ≡ 0) × (cond (not (eqb k 0)) (refused x k out) (sent x next bs out)
+    ≡ gives next (written.Done (length bs)) (spliced out 0 bs)))
+    ⊎ Turned x (reply (cond (not (eqb k 0)) (refused x k out) (sent x next bs out)))
+written-or k x next bs out = go (way (eqb k 0)) (way (ltb (length out) (length bs)))
+  where
+    go : Way (eqb k 0) → Way (ltb (length out) (length bs))
+        → ((k ≡ 0) × (cond (not (eqb k 0)) (refused x k out) (sent x next bs out)
+        ≡ gives next (written.Done (length bs)) (spliced out 0 bs)))
+        ⊎ Turned x (reply (cond (not (eqb k 0)) (refused x k out) (sent x next bs out)))
+    go (on e) (off f) = inl (eqb-true k 0 e, rw (e, f))
+    go (on e) (on f) = inr (rw (e, f) (nine, refl))
+    go (off e) w = inr (rw e (eqb-false k 0 e, refl))
+
+-- what a result leaves in the buffer
+abbrev pub left : Result → List ℕ → List ℕ
+left nothing out = out
+left (settled m) out = spliced out 0 m
+
+abbrev ended-reply : Ending → Reply
+ended-reply s = record { state = s .state; cause = s .cause; value = s .value; result = s .result; buffer = s .buffer }
+
+abbrev pub made5 : Party → Result → List ℕ → Reply
+made5 x r out =
+    record {
+      state = atEnd (x .n) (x .t) (x .own) r;
+      cause = 0;
+      value = length (bytesOf r);
+      result = some r;
+      buffer = left r out;
+    }
+
+ending-or : (x : Party) (r : Result) (out : List ℕ)
+    → (ended-reply (ending x r out) ≡ made5 x r out) ⊎ Turned x (ended-reply (ending x r out))
+ending-or x nothing out = inl refl
+ending-or x (settled m) out = go (way (ltb (length out) (length m)))
+  where
+    go : Way (ltb (length out) (length m))
+        → (ended-reply (ending x (settled m) out) ≡ made5 x (settled m) out) ⊎ Turned x (ended-reply (ending x (settled m) out))
+    go (on f) = inr (rw f (nine, refl))
+    go (off f) = inl (rw (f, take-spliced out m))
+
+ended-or : (k : ℕ) (x : Party) (r : Result) (out : List ℕ)
+    → ((k ≡ 0) × (ended-reply (cond (not (eqb k 0)) (givesEnd x (answer.Refused k) out) (ending x r out)) ≡ made5 x r out))
+    ⊎ Turned x (ended-reply (cond (not (eqb k 0)) (givesEnd x (answer.Refused k) out) (ending x r out)))
+ended-or k x r out = go (way (eqb k 0)) (ending-or x r out)
+  where
+    go : Way (eqb k 0) → (ended-reply (ending x r out) ≡ made5 x r out) ⊎ Turned x (ended-reply (ending x r out))
+        → ((k ≡ 0) × (ended-reply (cond (not (eqb k 0)) (givesEnd x (answer.Refused k) out) (ending x r out)) ≡ made5 x r out))
+        ⊎ Turned x (ended-reply (cond (not (eqb k 0)) (givesEnd x (answer.Refused k) out) (ending x r out)))
+    go (on e) (inl f) = inl (eqb-true k 0 e, rw e f)
+    go (on e) (inr f) = inr (rw e f)
+    go (off e) f = inr (rw e (eqb-false k 0 e, refl))
+
+-- of the two, by the cause
+keeps : {A : Type 0} {x : Party} (r : Reply) → (A → r .cause ≡ 0) → r .cause ≢ 0 → A ⊎ Turned x r → r .state ≡ x
+keeps r f d (inl a) = absurd (d (f a))
+keeps r f d (inr b) = b .1
+
+taken : {A : Type 0} {x : Party} (r : Reply) → r .cause ≡ 0 → A ⊎ Turned x r → A
+taken r e (inl a) = a
+taken r e (inr b) = absurd (b .0 e)
+
+-- a step that no cause turns away is in turn
+root-turn : (x : Party) (z : List ℕ) → rootCause x z ≡ 0 → turnOf (x .stage) ≡ 1
+unfolding rootCause
+root-turn x z e = go (way (eqb (stateCause 1 x) 0))
+  where
+    go : Way (eqb (stateCause 1 x) 0) → turnOf (x .stage) ≡ 1
+    go (on q) = state-sound 1 x (eqb-true (stateCause 1 x) 0 q) .1
+    go (off q) = absurd (eqb-false (stateCause 1 x) 0 q (rw q at e))
+
+bit-turn : (x : Party) (bit : ℕ) → bitCause x bit ≡ 0 → (turnOf (x .stage) ≡ 2) × (bit ≤ 1)
+unfolding bitCause
+bit-turn x bit e = go (way (eqb (stateCause 2 x) 0)) (way (ltb 1 bit))
+  where
+    go : Way (eqb (stateCause 2 x) 0) → Way (ltb 1 bit) → (turnOf (x .stage) ≡ 2) × (bit ≤ 1)
+    go (on q) (off r) = (state-sound 2 x (eqb-true (stateCause 2 x) 0 q) .1, ltb-false 1 bit r)
+    go (on q) (on r) = let z : _≡_ {A = ℕ} 7 0 = rw (q, r) at e in absurd (omega arith)
+    go (off q) r = absurd (eqb-false (stateCause 2 x) 0 q (rw q at e))
+
+inbox-turn : (turn : ℕ) (x : Party) (inbox : List ℕ) → inboxCause turn x inbox ≡ 0 → turnOf (x .stage) ≡ turn
+unfolding inboxCause
+inbox-turn turn x inbox e = go (way (eqb (stateCause turn x) 0))
+  where
+    go : Way (eqb (stateCause turn x) 0) → turnOf (x .stage) ≡ turn
+    go (on q) = state-sound turn x (eqb-true (stateCause turn x) 0 q) .1
+    go (off q) = absurd (eqb-false (stateCause turn x) 0 q (rw q at e))
+
+module _ (H : List ℕ → List ℕ) where
+  -- what an accepted call gives, from the state it got
+  abbrev pub made2 : Party → List ℕ → Reply
+  made2 x z =
+      record { state = withRoot x z; cause = 0; value = cond (happy H (withRoot x z)) 1 0; result = none; buffer = [] }
+
+  abbrev pub made3 : Party → ℕ → List ℕ → Reply
+  made3 x bit out =
+      record {
+        state = cond (eqb bit 0) (atEnd (x .n) (x .t) (x .own) nothing) (atFirst (x .n) (x .t) (x .own) (messageIn x) (x .root));
+        cause = 0;
+        value = length (outboxOf H x bit);
+        result = none;
+        buffer = spliced out 0 (outboxOf H x bit);
+      }
+
+  abbrev pub made4 : Party → List ℕ → List ℕ → Reply
+  made4 x inbox out =
+      record {
+        state = atSecond (x .n) (x .t) (x .own) (messageIn x) (x .root) (relayedOf H x inbox);
+        cause = 0;
+        value = length (relayOf H x inbox);
+        result = none;
+        buffer = spliced out 0 (relayOf H x inbox);
+      }
+
+  -- each step, taken or turned away
+  root-or : (x : Party) (z : List ℕ)
+      → ((rootCause x z ≡ 0) × (made H x (agreeRoot z) ≡ made2 x z)) ⊎ Turned x (made H x (agreeRoot z))
+  unfolding made agreeRootOf
+  root-or x z = go (way (eqb (rootCause x z) 0))
+    where
+      go : Way (eqb (rootCause x z) 0) → ((rootCause x z ≡ 0) × (made H x (agreeRoot z) ≡ made2 x z)) ⊎ Turned x (made H x (agreeRoot z))
+      go (on e) = inl (eqb-true (rootCause x z) 0 e, rw e)
+      go (off e) = inr (rw e (eqb-false (rootCause x z) 0 e, refl))
+
+  bit-or : (x : Party) (bit : ℕ) (out : List ℕ)
+      → ((bitCause x bit ≡ 0) × (made H x (agreeBit bit out) ≡ made3 x bit out)) ⊎ Turned x (made H x (agreeBit bit out))
+  unfolding made agreeBitOf
+  bit-or x bit out =
+      first-of (λ e. (e .0, ap reply (e .1)))
+      (written-or (bitCause x bit) x
+      (cond (eqb bit 0) (atEnd (x .n) (x .t) (x .own) nothing) (atFirst (x .n) (x .t) (x .own) (messageIn x) (x .root)))
+      (outboxOf H x bit) out)
+
+  shares-or : (x : Party) (inbox out : List ℕ)
+      → ((inboxCause 3 x inbox ≡ 0) × (made H x (takeShares inbox out) ≡ made4 x inbox out)) ⊎ Turned x (made H x (takeShares inbox out))
+  unfolding made takeSharesOf
+  shares-or x inbox out =
+      first-of (λ e. (e .0, ap reply (e .1)))
+      (written-or (inboxCause 3 x inbox) x (atSecond (x .n) (x .t) (x .own) (messageIn x) (x .root) (relayedOf H x inbox))
+      (relayOf H x inbox) out)
+
+  relays-or : (x : Party) (inbox out : List ℕ)
+      → ((inboxCause 4 x inbox ≡ 0) × (made H x (takeRelays inbox out) ≡ made5 x (resultOf H x inbox) out))
+      ⊎ Turned x (made H x (takeRelays inbox out))
+  unfolding made takeRelaysOf
+  relays-or x inbox out = ended-or (inboxCause 4 x inbox) x (resultOf H x inbox) out
+
+  -- a call that is turned away keeps the state
+  pub refused-keeps : (x : Party) (c : Call) → made H x c .cause ≢ 0 → made H x c .state ≡ x
+  refused-keeps x (agreeRoot z) d = keeps (made H x (agreeRoot z)) (λ e. ap (λ (r : Reply). r .cause) (e .1)) d (root-or x z)
+  refused-keeps x (agreeBit bit out) d = keeps (made H x (agreeBit bit out)) (λ e. ap (λ (r : Reply). r .cause) (e .1)) d (bit-or x bit out)
+  refused-keeps x (takeShares inbox out) d =
+      keeps (made H x (takeShares inbox out)) (λ e. ap (λ (r : Reply). r .cause) (e .1)) d (shares-or x inbox out)
+  refused-keeps x (takeRelays inbox out) d =
+      keeps (made H x (takeRelays inbox out)) (λ e. ap (λ (r : Reply). r .cause) (e .1)) d (relays-or x inbox out)
+
+  -- what an accepted call is: in turn, and what it gives
+  pub did2 : (x : Party) (z : List ℕ) → made H x (agreeRoot z) .cause ≡ 0
+      → (turnOf (x .stage) ≡ 1) × (made H x (agreeRoot z) ≡ made2 x z)
+  did2 x z a =
+      let t = taken (made H x (agreeRoot z)) a (root-or x z) in
+      (root-turn x z (t .0), t .1)
+
+  pub did3 : (x : Party) (bit : ℕ) (out : List ℕ) → made H x (agreeBit bit out) .cause ≡ 0
+      → (turnOf (x .stage) ≡ 2) × (bit ≤ 1) × (made H x (agreeBit bit out) ≡ made3 x bit out)
+  did3 x bit out a =
+      let t = taken (made H x (agreeBit bit out)) a (bit-or x bit out) in
+      let b = bit-turn x bit (t .0) in
+      (b .0, b .1, t .1)
+
+  pub did4 : (x : Party) (inbox out : List ℕ) → made H x (takeShares inbox out) .cause ≡ 0
+      → (turnOf (x .stage) ≡ 3) × (made H x (takeShares inbox out) ≡ made4 x inbox out)
+  did4 x inbox out a =
+      let t = taken (made H x (takeShares inbox out)) a (shares-or x inbox out) in
+      (inbox-turn 3 x inbox (t .0), t .1)
+
+  pub did5 : (x : Party) (inbox out : List ℕ) → made H x (takeRelays inbox out) .cause ≡ 0
+      → (turnOf (x .stage) ≡ 4) × (made H x (takeRelays inbox out) ≡ made5 x (resultOf H x inbox) out)
+  did5 x inbox out a =
+      let t = taken (made H x (takeRelays inbox out)) a (relays-or x inbox out) in
+      (inbox-turn 4 x inbox (t .0), t .1)
+
+  -- the step that a stage awaits has the number after the stage's
+  pub in-turn : (x : Party) (c : Call) → made H x c .cause ≡ 0 → suc (turnOf (x .stage)) ≡ stepOf c
+  in-turn x (agreeRoot z) a = ap suc (did2 x z a .0)
+  in-turn x (agreeBit bit out) a = ap suc (did3 x bit out a .0)
+  in-turn x (takeShares inbox out) a = ap suc (did4 x inbox out a .0)
+  in-turn x (takeRelays inbox out) a = ap suc (did5 x inbox out a .0)
+
+  abbrev pub event : Party → Call → Event
+  event x c = record { before = x; call = c; reply = made H x c }
+
+  -- accepted calls, each on the state that the one before gave back
+  abbrev pub Chain : Party → List Event → Party → Type 0
+  Chain x [] fin = fin ≡ x
+  Chain x (e ∷ es) fin = (e ≡ event x (e .call)) × (e .reply .cause ≡ 0) × Chain (e .reply .state) es fin
+
+  pub chain : (x : Party) (cs : List Call) → Chain x (accepted (events H x cs)) (final H x cs)
+  unfolding accepted events final
+  chain x [] = refl
+  chain x (c ∷ cs) = go (way (eqb (made H x c .cause) 0)) (chain (made H x c .state) cs)
+    where
+      go : Way (eqb (made H x c .cause) 0)
+          → Chain (made H x c .state) (accepted (events H (made H x c .state) cs)) (final H (made H x c .state) cs)
+          → Chain x (accepted (events H x (c ∷ cs))) (final H x (c ∷ cs))
+      go (on y) r = rw y (refl, eqb-true (made H x c .cause) 0 y, r)
+      go (off y) r =
+          rw y (subst (λ (s : Party). Chain s (accepted (events H (made H x c .state) cs)) (final H (made H x c .state) cs))
+          (refused-keeps x c (eqb-false (made H x c .cause) 0 y)) r)
+
+  -- the next accepted call is the one that the stage awaits
+  pub next : (k : ℕ) (x fin : Party) (es : List Event) (e : Event) → suc (turnOf (x .stage)) ≡ k → Chain x es fin → first k es ≡ some e
+      → (rest : List Event) × (es ≡ e ∷ rest) × (e ≡ event x (e .call)) × (e .reply .cause ≡ 0) × Chain (e .reply .state) rest fin
+  unfolding first
+  next k x fin [] e a h q = absurd (none-some q)
+  next k x fin (d ∷ es) e a h q =
+      let s : eqb (stepOf (d .call)) k ≡ true =
+      eq-eqb (stepOf (d .call)) k (sym (in-turn x (d .call) (subst (λ (v : Event). v .reply .cause ≡ 0) (h .0) (h .1))) ∙ a) in
+      let w : d ≡ e = same-some (rw s at q) in (
+        es,
+        ap (λ (v : Event). v ∷ es) w,
+        subst (λ (v : Event). v ≡ event x (v .call)) w (h .0),
+        subst (λ (v : Event). v .reply .cause ≡ 0) w (h .1),
+        subst (λ (v : Event). Chain (v .reply .state) es fin) w (h .2),
+      )
+
+  -- once ended, the result is kept, and nothing is sent
+  abbrev pub Still : ℕ → Party → List Event → Party → Type 0
+  Still n x es fin = (resultIn fin ≡ resultIn x) × (sentOver n es ≡ 0)
+
+  pub still : (n : ℕ) (x fin : Party) (es : List Event) → turnOf (x .stage) ≡ 5 → Chain x es fin → Still n x es fin
+  unfolding sentOver
+  still n x fin [] a h = (ap resultIn h, refl)
+  still n x fin (d ∷ es) a h =
+      absurd (late (d .call) (sym (in-turn x (d .call) (subst (λ (v : Event). v .reply .cause ≡ 0) (h .0) (h .1))) ∙ ap suc a))
+    where
+      late : (c : Call) → stepOf c ≡ 6 → ⊥
+      late (agreeRoot z) e = omega arith
+      late (agreeBit bit out) e = omega arith
+      late (takeShares inbox out) e = omega arith
+      late (takeRelays inbox out) e = omega arith
