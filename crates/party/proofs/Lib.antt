@@ -10,3 +10,6 @@ pub mod Taking
 pub mod Relay
 pub mod Run
 pub mod Ran
+pub mod Checks
+pub mod Tree
+pub mod Lists

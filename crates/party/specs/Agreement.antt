@@ -30,10 +30,10 @@ unfoldable pub different : List ℕ → Bool
 different [] = true
 different (k ∷ ks) = cond (among k ks) false (different ks)
 
--- how many of the numbers 1 to k are not among these
-unfoldable pub missing : ℕ → List ℕ → ℕ
-missing zero js = 0
-missing (suc k) js = missing k js + cond (among (suc k) js) 0 1
+-- how many of the k numbers from j on are not among these
+unfoldable pub absent : ℕ → ℕ → List ℕ → ℕ
+absent zero j js = 0
+absent (suc k) j js = cond (among j js) 0 1 + absent k (j + 1) js
 
 unfoldable pub sumOver : {A : Type 0} → (A → ℕ) → List A → ℕ
 sumOver f [] = 0
@@ -60,7 +60,7 @@ module _ (H : List ℕ → List ℕ) (n t : ℕ) (good : List Good) where
     pub bytes : Each (λ A. Bytes (A .message))
     pub taken : Each (λ A. opening H n t (A .own) (A .message) .cause ≡ 0)
     pub apart : different owns ≡ true
-    pub bad : missing n owns ≤ t
+    pub bad : absent n 1 owns ≤ t
 
   -- steps 2 and 3 were accepted, first with the agreed root z and the agreed bit; on bit 1 also steps 4 and 5
   pub record CalledAll (z : List ℕ) (bit : ℕ) : Type 0 where

@@ -107,6 +107,12 @@ unfoldable pub sentOver : ℕ → List Event → ℕ
 sentOver n [] = 0
 sentOver n (e ∷ es) = sentIn n (e .call) (writtenBy e) + sentOver n es
 
+-- these strings, unless a packet of this class ends the search
+abbrev pub unlessValid : Class → List (List ℕ) → List (List ℕ)
+unlessValid silent ss = ss
+unlessValid faulty ss = ss
+unlessValid (valid x p) ss = []
+
 module _ (H : List ℕ → List ℕ) where
   unfoldable pub made : Party → Call → Reply
   made x (agreeRoot z) =
@@ -131,11 +137,6 @@ module _ (H : List ℕ → List ℕ) where
   final x (c ∷ cs) = final (made x c .state) cs
 
   -- step 4 checks the packets that bear the own number, up to the first that passes; of senders numbered from j on
-  abbrev pub unlessValid : Class → List (List ℕ) → List (List ℕ)
-  unlessValid silent ss = ss
-  unlessValid faulty ss = ss
-  unlessValid (valid x p) ss = []
-
   unfoldable pub shareStrings : ℕ → ℕ → List ℕ → ℕ → List (List ℕ) → List (List ℕ)
   shareStrings n own z j [] = []
   shareStrings n own z j (p ∷ ps) =

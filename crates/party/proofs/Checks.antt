@@ -1,0 +1,173 @@
+-- Packets that pass: what was read of them, that the strings of their check are among those hashed, that step 4 finds one where there is
+-- one, and what step 5 gathers. By cases of a packet's class, and by induction along an inbox. Assumes nothing.
+use mathlib.Core.Path.{_≡_, refl, sym, ap, ap₂, _∙_, subst}
+use mathlib.Core.Logic.{_≢_}
+use mathlib.Core.Bool.{Bool, true, false, cond, _&&_}
+use mathlib.Core.List.{List, [], _∷_, _++_, List·Memᴰ, Memᴰ·append-left, Memᴰ·append-right}
+use Prim.Native.Nat.{ℕ, zero, suc, _+_, _<_}
+use native.Mathlib.Nat.{add-zero}
+use native.Mathlib.Omega.{arith}
+use borrow.Author.Tests.{eqb-true, eqb-false, eq-eqb, ne-eqb}
+use lib.Dec.{eqb}
+use lib.ListN.{length, getD}
+use Rattle.merkle.specs.Shares.{passes, stringsOf}
+use Rattle.packet.specs.Format.{Reading, silence, unreadable, shared, readOf}
+use Rattle.packet.specs.Class.{Class, silent, faulty, valid, judged, classOf, checkedStrings, classStrings}
+use Rattle.party.specs.State.{shareHeld}
+use Rattle.party.specs.Steps.{Taken, missing, found, orLater, firstValid, shareFrom, gathered}
+use Rattle.party.specs.Calls.{unlessValid, shareStrings, relayStrings}
+use Rattle.party.specs.declared.Party.{Party}
+use Rattle.party.proofs.Run.{Way, on, off, way}
+
+module _ (H : List ℕ → List ℕ) (n : ℕ) where
+  -- a packet under number k that passes, with the strings of its check
+  pub record Passing (k : ℕ) (z w x : List ℕ) (p : List (List ℕ)) : Type 0 where
+    pub reads : readOf n w ≡ shared k x p
+    pub leads : passes H n k x p (length p) z ≡ true
+    pub strings : classStrings H n k w ≡ stringsOf H n k x p (length p)
+
+  -- a class is one thing only
+  not-silent : {x : List ℕ} {p : List (List ℕ)} → silent ≡ valid x p → ⊥
+  not-silent e = let q : _≡_ {A = ℕ} 0 1 = cc in omega arith
+
+  not-faulty : {x : List ℕ} {p : List (List ℕ)} → faulty ≡ valid x p → ⊥
+  not-faulty e = let q : _≡_ {A = ℕ} 0 1 = cc in omega arith
+
+  same-share : {x y : List ℕ} {p q : List (List ℕ)} → valid x p ≡ valid y q → (x ≡ y) × (p ≡ q)
+  same-share e = (cc, cc)
+
+  judged-valid : (k : ℕ) (z x : List ℕ) (p : List (List ℕ)) (r : Reading) → judged H n k z r ≡ valid x p
+      → (r ≡ shared k x p) × (passes H n k x p (length p) z ≡ true)
+  judged-valid k z x p silence e = absurd (not-silent e)
+  judged-valid k z x p unreadable e = absurd (not-faulty e)
+  judged-valid k z x p (shared j y q) e = go (way (eqb j k)) (way (passes H n k y q (length q) z))
+    where
+      go : Way (eqb j k) → Way (passes H n k y q (length q) z)
+          → (shared j y q ≡ shared k x p) × (passes H n k x p (length p) z ≡ true)
+      go (on a) (on c) =
+          let s = same-share (rw (a, c) at e) in (
+            rw (eqb-true j k a, s .0, s .1),
+            subst (λ (u : List ℕ). passes H n k u p (length p) z ≡ true) (s .0)
+            (subst (λ (v : List (List ℕ)). passes H n k y v (length v) z ≡ true) (s .1) c),
+          )
+      go (on a) (off c) = absurd (not-faulty (rw (a, c) at e))
+      go (off a) c = absurd (not-faulty (rw a at e))
+
+  strings-shared : (k : ℕ) (x : List ℕ) (p : List (List ℕ)) → checkedStrings H n k (shared k x p) ≡ stringsOf H n k x p (length p)
+  strings-shared k x p = rw (eq-eqb k k refl)
+
+  pub passing : (k : ℕ) (z w x : List ℕ) (p : List (List ℕ)) → classOf H n k z w ≡ valid x p → Passing k z w x p
+  unfolding classOf classStrings
+  passing k z w x p e =
+      let j = judged-valid k z x p (readOf n w) e in
+      record { reads = j .0; leads = j .1; strings = ap (checkedStrings H n k) (j .0) ∙ strings-shared k x p }
+
+  pub passes-valid : (k : ℕ) (z w x : List ℕ) (p : List (List ℕ)) → readOf n w ≡ shared k x p → passes H n k x p (length p) z ≡ true
+      → classOf H n k z w ≡ valid x p
+  unfolding classOf
+  passes-valid k z w x p e c = rw (e, eq-eqb k k refl, c)
+
+  -- the packet that step 4 takes from senders numbered from j on
+  pub record Took (i : ℕ) (z : List ℕ) (j : ℕ) (ps : List (List ℕ)) (x : List ℕ) (p : List (List ℕ)) : Type 0 where
+    pub packet : List ℕ
+    pub good : classOf H n i z packet ≡ valid x p
+    pub hashed : (s : List ℕ) → List·Memᴰ s (classStrings H n i packet) → List·Memᴰ s (shareStrings H n i z j ps)
+
+  not-missing : {x : List ℕ} {p : List (List ℕ)} → missing ≡ found x p → ⊥
+  not-missing e = let q : _≡_ {A = ℕ} 0 1 = cc in omega arith
+
+  same-found : {x y : List ℕ} {p q : List (List ℕ)} → found x p ≡ found y q → (x ≡ y) × (p ≡ q)
+  same-found e = (cc, cc)
+
+  pub took : (i : ℕ) (z : List ℕ) (j : ℕ) (ps : List (List ℕ)) (x : List ℕ) (p : List (List ℕ)) → firstValid H n i z j ps ≡ found x p
+      → Took i z j ps x p
+  unfolding firstValid shareStrings
+  took i z j [] x p e = absurd (not-missing e)
+  took i z j (w ∷ ps) x p e = go (way (eqb j i)) (classOf H n i z w) refl (took i z (j + 1) ps x p)
+    where
+      later : Way (eqb j i) → Took i z (j + 1) ps x p → (s : List ℕ)
+          → List·Memᴰ s (shareStrings H n i z (j + 1) ps)
+          → unlessValid (classOf H n i z w) (shareStrings H n i z (j + 1) ps) ≡ shareStrings H n i z (j + 1) ps
+          → List·Memᴰ s (shareStrings H n i z j (w ∷ ps))
+      later (on a) t s h u = rw a h
+      later (off a) t s h u =
+          rw a (Memᴰ·append-right (classStrings H n i w)
+          (subst (λ (l : List (List ℕ)). List·Memᴰ s l) (sym u) h))
+
+      go : Way (eqb j i) → (c : Class) → classOf H n i z w ≡ c → (firstValid H n i z (j + 1) ps ≡ found x p → Took i z (j + 1) ps x p)
+          → Took i z j (w ∷ ps) x p
+      go (on a) c q r =
+          let t = r (rw a at e) in
+          record { packet = t .packet; good = t .good; hashed = λ s h. rw a (t .hashed s h) }
+      go (off a) silent q r =
+          let t = r (rw (a, q) at e) in
+          record {
+            packet = t .packet;
+            good = t .good;
+            hashed = λ s h. later (off a) t s (t .hashed s h) (ap (λ (c : Class). unlessValid c (shareStrings H n i z (j + 1) ps)) q);
+          }
+      go (off a) faulty q r =
+          let t = r (rw (a, q) at e) in
+          record {
+            packet = t .packet;
+            good = t .good;
+            hashed = λ s h. later (off a) t s (t .hashed s h) (ap (λ (c : Class). unlessValid c (shareStrings H n i z (j + 1) ps)) q);
+          }
+      go (off a) (valid y q′) q r =
+          let f = same-found (rw (a, q) at e) in
+          record {
+            packet = w;
+            good = q ∙ ap₂ valid (f .0) (f .1);
+            hashed = λ s h. rw a (Memᴰ·append-left (unlessValid (classOf H n i z w) (shareStrings H n i z (j + 1) ps)) h);
+          }
+
+  -- it finds one where another sender's packet passes
+  pub finds : (i : ℕ) (z : List ℕ) (j : ℕ) (ps : List (List ℕ)) (k : ℕ) (x : List ℕ) (p : List (List ℕ)) → k < length ps → j + k ≢ i
+      → classOf H n i z (getD ps k []) ≡ valid x p → (y : List ℕ) × (q : List (List ℕ)) × (firstValid H n i z j ps ≡ found y q)
+  unfolding firstValid
+  finds i z j [] k x p l d e = absurd (omega arith)
+  finds i z j (w ∷ ps) zero x p l d e = (x, p, rw (ne-eqb j i (λ a. d (add-zero j ∙ a)), e))
+  finds i z j (w ∷ ps) (suc k) x p l d e =
+      go (way (eqb j i)) (classOf H n i z w) refl
+      (finds i z (j + 1) ps k x p (omega arith) (λ a. let b : j + suc k ≡ i = omega (arith, a) in d b) e)
+    where
+      go : Way (eqb j i) → (c : Class) → classOf H n i z w ≡ c
+          → (y : List ℕ) × (q : List (List ℕ)) × (firstValid H n i z (j + 1) ps ≡ found y q)
+          → (y : List ℕ) × (q : List (List ℕ)) × (firstValid H n i z j (w ∷ ps) ≡ found y q)
+      go (on a) c f r = (r .0, r .1, rw a (r .2))
+      go (off a) silent f r = (r .0, r .1, rw (a, f) (r .2))
+      go (off a) faulty f r = (r .0, r .1, rw (a, f) (r .2))
+      go (off a) (valid y q) f r = (y, q, rw (a, f))
+
+  -- the strings of step 5's checks
+  pub in-relays : (i j : ℕ) (ps : List (List ℕ)) (k : ℕ) → k < length ps → j + k ≢ i → (s : List ℕ)
+      → List·Memᴰ s (classStrings H n (j + k) (getD ps k [])) → List·Memᴰ s (relayStrings H n i j ps)
+  unfolding relayStrings
+  in-relays i j [] k l d s h = absurd (omega arith)
+  in-relays i j (w ∷ ps) zero l d s h =
+      let e : j + 0 ≡ j = add-zero j in
+      rw (ne-eqb j i (λ a. d (e ∙ a)))
+      (Memᴰ·append-left (relayStrings H n i (j + 1) ps) (subst (λ (u : ℕ). List·Memᴰ s (classStrings H n u w)) e h))
+  in-relays i j (w ∷ ps) (suc k) l d s h =
+      let e : j + suc k ≡ j + 1 + k = omega arith in
+      Memᴰ·append-right (cond (eqb j i) [] (classStrings H n j w))
+      (in-relays i (j + 1) ps k (omega arith) (λ a. d (e ∙ a)) s
+      (subst (λ (u : ℕ). List·Memᴰ s (classStrings H n u (getD ps k []))) e h))
+
+-- what step 5 gathers under each number
+pub gathered-at : (H : List ℕ → List ℕ) (x : Party) (j : ℕ) (ps : List (List ℕ)) (k : ℕ) → k < length ps
+    → getD (gathered H x j ps) k []
+    ≡ cond (eqb (j + k) (x .own)) (shareHeld x) (shareFrom (classOf H (x .n) (j + k) (x .root) (getD ps k [])))
+unfolding gathered
+gathered-at H x j [] k l = absurd (omega arith)
+gathered-at H x j (w ∷ ps) zero l =
+    ap (λ (u : ℕ). cond (eqb u (x .own)) (shareHeld x) (shareFrom (classOf H (x .n) u (x .root) w))) (sym (add-zero j))
+gathered-at H x j (w ∷ ps) (suc k) l =
+    let e : j + 1 + k ≡ j + suc k = omega arith in
+    gathered-at H x (j + 1) ps k (omega arith)
+    ∙ ap (λ (u : ℕ). cond (eqb u (x .own)) (shareHeld x) (shareFrom (classOf H (x .n) u (x .root) (getD ps k [])))) e
+
+pub gathered-length : (H : List ℕ → List ℕ) (x : Party) (j : ℕ) (ps : List (List ℕ)) → length (gathered H x j ps) ≡ length ps
+unfolding gathered
+gathered-length H x j [] = refl
+gathered-length H x j (w ∷ ps) = ap suc (gathered-length H x (j + 1) ps)
