@@ -48,7 +48,7 @@ module _ (H : List ℕ → List ℕ) (n : ℕ) where
           let s = same-share (rw (a, c) at e) in (
             rw (eqb-true j k a, s .0, s .1),
             subst (λ (u : List ℕ). passes H n k u p (length p) z ≡ true) (s .0)
-            (subst (λ (v : List (List ℕ)). passes H n k y v (length v) z ≡ true) (s .1) c),
+                (subst (λ (v : List (List ℕ)). passes H n k y v (length v) z ≡ true) (s .1) c),
           )
       go (on a) (off c) = absurd (not-faulty (rw (a, c) at e))
       go (off a) c = absurd (not-faulty (rw a at e))

@@ -13,3 +13,4 @@ pub mod Ran
 pub mod Checks
 pub mod Tree
 pub mod Lists
+pub mod Agreement
