@@ -14,3 +14,4 @@ pub mod Checks
 pub mod Tree
 pub mod Lists
 pub mod Agreement
+pub mod Instances

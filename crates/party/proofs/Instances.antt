@@ -1,0 +1,248 @@
+-- Sessions that meet all premises of agreement, so that the theorem is not empty: with a liar that sends one party a good share and the next a
+-- bad one, with unhappy good parties, with refused calls before, between and after the accepted ones; on bit 1 and on bit 0. And what
+-- the two worked plans of document 01 send and hash. Everything is computed, by the tree, the coder, the packets and the steps
+-- themselves, over a small hash of 32 bytes that the checker can work out. Assumes nothing.
+use mathlib.Core.Path.{_≡_, refl, sym, ap, _∙_, subst}
+use mathlib.Core.Logic.{_⊎_, inl, inr, _≢_}
+use mathlib.Core.Bool.{Bool, true, false, cond, false≢true}
+use mathlib.Core.List.{List, [], _∷_, _++_, List·Memᴰ, List·Memᴰ·head, List·Memᴰ·tail, List·Memᴰ·not-nil, List·Memᴰ·cases-cons}
+use mathlib.Core.Option.{Option, none, some}
+use Prim.Native.Nat.{ℕ, zero, suc, _+_, _-_, _*_, _/_, _%_, _^_, _≤_, _<_}
+use native.Mathlib.Nat.{le-refl}
+use native.Mathlib.Omega.{arith}
+use lib.Dec.{lit<}
+use lib.ListN.{length, getD, replicate}
+use Rattle.limits.specs.Limits.{groupCause}
+use Rattle.buffer.specs.Bounds.{Bytes}
+use Rattle.buffer.specs.Splice.{spliced, tabulate}
+use Rattle.buffer.specs.Entries.{size, body, rest, fills, bodies}
+use Rattle.gf256.specs.Field.{timesX, productOf, product, power, inverse}
+use Rattle.polynomial.specs.Polynomial.{sum, pow, value, factor, unit, numerator, denominator, basis, through}
+use Rattle.erasure.specs.Coding.{shareLength, headed, frame, block, shareByte, shareOf, share, shares}
+use Rattle.erasure.specs.Rebuild.{present, point, framed, other, unframed, joined, recovered}
+use Rattle.merkle.specs.Tree.{splitFrom, split, shapeOf, shape, size as leaves, nodeString, sides, beside, root, path, folded}
+use Rattle.merkle.specs.Strings.{treeStrings, foldStrings, checkStrings}
+use Rattle.merkle.specs.Hashes.{topHash, pathHashes}
+use Rattle.merkle.specs.Shares.{leafString, leafStrings, sharesCause, same, leavesOf, rootOf, pathOf, passes, codingStrings, stringsOf}
+use Rattle.merkle.proofs.Judged.{same-true, same-refl}
+use Rattle.packet.specs.Format.{chained, hashes, packetOf, entryOf, shareIn, readOf}
+use Rattle.packet.specs.Inbox.{inboxOf}
+use Rattle.packet.specs.Class.{classOf, classStrings}
+use Rattle.party.specs.State.{Result, nothing, settled, atRoot, atBit, atFirst, atSecond, atEnd, blankState, broken, messageRoot, happy}
+use Rattle.party.specs.Steps.{stateCause, openCause, openOf, rootCause, agreeRootOf, packetFor, bitCause, outboxOf, agreeBitOf, inboxCause, firstValid}
+use Rattle.party.specs.Steps.{relayOf, relayedOf, takeSharesOf, gathered, resultOf, takeRelaysOf}
+use Rattle.party.specs.Calls.{Call, agreeRoot, agreeBit, takeShares, takeRelays, Event, accepted, first, entry, lengths, sentOver, made, events, final}
+use Rattle.party.specs.Calls.{shareStrings, relayStrings, checkedIn, checkedOver, did, hashed, sentBy, heard, packetTo, wrote, opening, bitGiven}
+use Rattle.party.specs.Agreement.{Good, among, different, absent, sumOver, joinOver, step, allHashed, CalledAll, DeliveredAll, Premises, sent, Conclusions}
+use Rattle.party.proofs.Run.{Way, on, off, way, clash}
+use Rattle.party.proofs.Agreement.{agreement}
+
+-- a small hash: a number worked out byte by byte, in eight bytes, and zeros
+unfoldable pub mix : List ℕ → ℕ → ℕ
+mix [] v = v
+mix (a ∷ s) v = mix s ((v * 257 + a + 1) % 2 ^ 61)
+
+unfoldable pub digest : ℕ → List ℕ
+digest v =
+    v % 256 ∷ v / 2 ^ 8 % 256 ∷ v / 2 ^ 16 % 256 ∷ v / 2 ^ 24 % 256 ∷ v / 2 ^ 32 % 256 ∷ v / 2 ^ 40 % 256 ∷ v / 2 ^ 48 % 256
+    ∷ v / 2 ^ 56 % 256 ∷ replicate 24 0
+
+abbrev pub toy : List ℕ → List ℕ
+toy s = digest (mix s 0)
+
+wide : (s : List ℕ) → length (toy s) ≡ 32
+unfolding digest
+wide s = refl
+
+-- strings of which no two different ones have one hash, tested pair by pair
+unfoldable cleanOf : List ℕ → List (List ℕ) → Bool
+cleanOf x [] = true
+cleanOf x (y ∷ l) = cond (same (toy x) (toy y)) (cond (same x y) (cleanOf x l) false) (cleanOf x l)
+
+unfoldable clean : List (List ℕ) → List (List ℕ) → Bool
+clean [] l = true
+clean (x ∷ xs) l = cond (cleanOf x l) (clean xs l) false
+
+cleanOf-sound : (x y : List ℕ) (l : List (List ℕ)) → cleanOf x l ≡ true → List·Memᴰ y l → toy x ≡ toy y → x ≡ y
+unfolding cleanOf
+cleanOf-sound x y [] c h e = absurd (List·Memᴰ·not-nil h)
+cleanOf-sound x y (w ∷ l) c h e = go (way (same (toy x) (toy w))) (way (same x w)) (List·Memᴰ·cases-cons h) (cleanOf-sound x y l)
+  where
+    go : Way (same (toy x) (toy w)) → Way (same x w) → (y ≡ w) ⊎ List·Memᴰ y l
+        → (cleanOf x l ≡ true → List·Memᴰ y l → toy x ≡ toy y → x ≡ y) → x ≡ y
+    go (on p) (on q) (inl k) r = same-true x w q ∙ sym k
+    go (off p) (on q) (inl k) r = same-true x w q ∙ sym k
+    go (on p) (off q) (inl k) r = absurd (false≢true (rw (p, q) at c))
+    go (on p) (off q) (inr k) r = absurd (false≢true (rw (p, q) at c))
+    go (off p) (off q) (inl k) r = clash (subst (λ (v : List ℕ). same (toy x) v ≡ true) (e ∙ ap toy k) (same-refl (toy x))) p
+    go (on p) (on q) (inr k) r = r (rw (p, q) at c) k e
+    go (off p) (on q) (inr k) r = r (rw p at c) k e
+    go (off p) (off q) (inr k) r = r (rw p at c) k e
+
+clean-sound : (x y : List ℕ) (xs l : List (List ℕ)) → clean xs l ≡ true → List·Memᴰ x xs → List·Memᴰ y l → toy x ≡ toy y → x ≡ y
+unfolding clean
+clean-sound x y [] l c h k e = absurd (List·Memᴰ·not-nil h)
+clean-sound x y (w ∷ xs) l c h k e = go (way (cleanOf w l)) (List·Memᴰ·cases-cons h) (clean-sound x y xs l)
+  where
+    go : Way (cleanOf w l) → (x ≡ w) ⊎ List·Memᴰ x xs
+        → (clean xs l ≡ true → List·Memᴰ x xs → List·Memᴰ y l → toy x ≡ toy y → x ≡ y) → x ≡ y
+    go (on p) (inl q) r = q ∙ cleanOf-sound w y l p k (ap toy (sym q) ∙ e)
+    go (on p) (inr q) r = r (rw p at c) q k e
+    go (off p) (inl q) r = absurd (false≢true (rw p at c))
+    go (off p) (inr q) r = absurd (false≢true (rw p at c))
+
+-- an event that is there
+unfoldable there : Option Event → Bool
+there none = false
+there (some e) = true
+
+abbrev pick : (o : Option Event) → there o ≡ true → (e : Event) × (o ≡ some e)
+unfolding there
+pick none p = absurd (false≢true p)
+pick (some e) p = (e, refl)
+
+same-some : {A : Type 0} {x y : A} → _≡_ {A = Option A} (some x) (some y) → x ≡ y
+same-some p = cc
+
+-- short messages are bytes
+one-byte : (a : ℕ) → a < 256 → Bytes (a ∷ [])
+one-byte a h zero = h
+one-byte a h (suc i) = lit< tt
+
+two-bytes : (a b : ℕ) → a < 256 → b < 256 → Bytes (a ∷ b ∷ [])
+two-bytes a b h k zero = h
+two-bytes a b h k (suc i) = one-byte b k i
+
+-- n 3, t 1: party 1 lies, 2 is unhappy, 3 is happy
+abbrev pub M : List ℕ
+M = 0x41 ∷ 0x42 ∷ []
+
+abbrev pub z : List ℕ
+z = messageRoot toy 3 1 M
+
+abbrev pub room : List ℕ
+room = replicate 150 7
+
+-- the packet with share j of M, and a share and paths that are none of M's
+abbrev pub pk : ℕ → List ℕ
+pk j = packetFor toy (atBit 3 1 3 M z) j
+
+abbrev pub forged : ℕ → List (List ℕ) → List ℕ
+forged j p = packetOf j (1 ∷ 77 ∷ []) p
+
+abbrev pub rubbish : List ℕ
+rubbish = 9 ∷ 9 ∷ []
+
+-- the liar sends party 2 a good share and party 3 a forged one, and then party 2 a forged relay; own entries hold what they like
+abbrev pub first2 : List ℕ
+first2 = inboxOf (pk 2 ∷ rubbish ∷ pk 2 ∷ [])
+
+abbrev pub first3 : List ℕ
+first3 = inboxOf (forged 3 (replicate 32 5 ∷ []) ∷ [] ∷ pk 3 ∷ [])
+
+abbrev pub second2 : List ℕ
+second2 = inboxOf (forged 1 (replicate 32 5 ∷ replicate 32 6 ∷ []) ∷ pk 2 ∷ pk 3 ∷ [])
+
+abbrev pub second3 : List ℕ
+second3 = inboxOf (rubbish ∷ pk 2 ∷ rubbish ∷ [])
+
+-- party 2 is called out of turn, with a short root, a wrong bit, a short buffer, a bad inbox, and after its end
+abbrev pub P2 : Good
+P2 = record {
+  own = 2;
+  message = 0x43 ∷ [];
+  calls =
+      agreeBit 1 room ∷ agreeRoot [] ∷ agreeRoot z ∷ agreeBit 2 room ∷ agreeBit 1 [] ∷ agreeBit 1 room ∷ takeShares rubbish room
+      ∷ takeShares first2 [] ∷ takeShares first2 room ∷ agreeRoot z ∷ takeRelays second2 [] ∷ takeRelays second2 room
+      ∷ takeRelays second3 room ∷ agreeBit 1 room ∷ [];
+}
+
+abbrev pub P3 : Good
+P3 = record {
+  own = 3;
+  message = M;
+  calls = agreeRoot z ∷ agreeBit 1 room ∷ takeShares first3 room ∷ takeRelays second3 room ∷ [];
+}
+
+abbrev pub good : List Good
+good = P2 ∷ P3 ∷ []
+
+-- the same two, told bit 0
+abbrev pub Q2 : Good
+Q2 = record { own = 2; message = 0x43 ∷ []; calls = agreeRoot z ∷ agreeBit 0 [] ∷ agreeBit 0 room ∷ takeShares first2 room ∷ [] }
+
+abbrev pub Q3 : Good
+Q3 = record { own = 3; message = M; calls = agreeRoot z ∷ agreeBit 0 room ∷ [] }
+
+abbrev pub idle : List Good
+idle = Q2 ∷ Q3 ∷ []
+
+-- what holds of both holds of all
+each : (A B : Good) (P : Good → Type 0) → P A → P B → (D : Good) → List·Memᴰ D (A ∷ B ∷ []) → P D
+each A B P a b D h = go (List·Memᴰ·cases-cons h)
+  where
+    last : (D ≡ B) ⊎ List·Memᴰ D [] → P D
+    last (inl e) = subst P (sym e) b
+    last (inr k) = absurd (List·Memᴰ·not-nil k)
+
+    go : (D ≡ A) ⊎ List·Memᴰ D (B ∷ []) → P D
+    go (inl e) = subst P (sym e) a
+    go (inr k) = last (List·Memᴰ·cases-cons k)
+
+abbrev Second : List Good → Good → Type 0
+Second l A = (e : Event) × (step toy 3 1 l 2 A ≡ some e) × (e .call ≡ agreeRoot z)
+
+abbrev Third : List Good → ℕ → Good → Type 0
+Third l bit A = (e : Event) × (out : List ℕ) × (step toy 3 1 l 3 A ≡ some e) × (e .call ≡ agreeBit bit out)
+
+abbrev Step : ℕ → Good → Type 0
+Step k A = (e : Event) × (step toy 3 1 good k A ≡ some e)
+
+abbrev First : Good → Good → Type 0
+First A B = A .own ≢ B .own → heard 3 (B .own) (step toy 3 1 good 4 A) ≡ packetTo 3 (A .own) (step toy 3 1 good 3 B)
+
+abbrev Relay : Good → Good → Type 0
+Relay A B = A .own ≢ B .own → heard 3 (B .own) (step toy 3 1 good 5 A) ≡ wrote (step toy 3 1 good 4 B)
+
+-- the premises on bit 1, part by part
+called : CalledAll toy 3 1 good z 1
+unfolding size body rest fills bodies spliced tabulate groupCause timesX productOf product power inverse sum pow value factor unit numerator denominator basis through shareLength headed frame block shareByte shareOf share shares present point framed other unframed joined recovered splitFrom split shapeOf shape leaves nodeString sides beside root path folded treeStrings foldStrings checkStrings topHash pathHashes leafString leafStrings sharesCause same leavesOf rootOf pathOf passes codingStrings stringsOf chained hashes packetOf entryOf shareIn readOf inboxOf classOf classStrings atRoot atBit atFirst atSecond atEnd blankState broken messageRoot happy stateCause openCause openOf rootCause agreeRootOf packetFor bitCause outboxOf agreeBitOf inboxCause firstValid relayOf relayedOf takeSharesOf gathered resultOf takeRelaysOf accepted first entry lengths sentOver made events final shareStrings relayStrings checkedIn checkedOver did hashed sentBy among different absent sumOver joinOver clean cleanOf there mix digest
+called = record {
+  second = each P2 P3 (Second good) (let p = pick (step toy 3 1 good 2 P2) refl in (p .0, p .1, refl))
+      (let p = pick (step toy 3 1 good 2 P3) refl in (p .0, p .1, refl));
+  third = each P2 P3 (Third good 1) (let p = pick (step toy 3 1 good 3 P2) refl in (p .0, room, p .1, refl))
+      (let p = pick (step toy 3 1 good 3 P3) refl in (p .0, room, p .1, refl));
+  fourth = λ e. each P2 P3 (Step 4) (pick (step toy 3 1 good 4 P2) refl) (pick (step toy 3 1 good 4 P3) refl);
+  fifth = λ e. each P2 P3 (Step 5) (pick (step toy 3 1 good 5 P2) refl) (pick (step toy 3 1 good 5 P3) refl);
+}
+
+delivered : DeliveredAll toy 3 1 good
+unfolding size body rest fills bodies spliced tabulate groupCause timesX productOf product power inverse sum pow value factor unit numerator denominator basis through shareLength headed frame block shareByte shareOf share shares present point framed other unframed joined recovered splitFrom split shapeOf shape leaves nodeString sides beside root path folded treeStrings foldStrings checkStrings topHash pathHashes leafString leafStrings sharesCause same leavesOf rootOf pathOf passes codingStrings stringsOf chained hashes packetOf entryOf shareIn readOf inboxOf classOf classStrings atRoot atBit atFirst atSecond atEnd blankState broken messageRoot happy stateCause openCause openOf rootCause agreeRootOf packetFor bitCause outboxOf agreeBitOf inboxCause firstValid relayOf relayedOf takeSharesOf gathered resultOf takeRelaysOf accepted first entry lengths sentOver made events final shareStrings relayStrings checkedIn checkedOver did hashed sentBy among different absent sumOver joinOver clean cleanOf there mix digest
+delivered = record {
+  first = each P2 P3 (λ A. (B : Good) → List·Memᴰ B good → First A B)
+      (each P2 P3 (First P2) (λ d. absurd (d refl)) (λ d. refl)) (each P2 P3 (First P3) (λ d. refl) (λ d. absurd (d refl)));
+  second = each P2 P3 (λ A. (B : Good) → List·Memᴰ B good → Relay A B)
+      (each P2 P3 (Relay P2) (λ d. absurd (d refl)) (λ d. refl)) (each P2 P3 (Relay P3) (λ d. refl) (λ d. absurd (d refl)));
+}
+
+tested : clean (allHashed toy 3 1 good) (allHashed toy 3 1 good) ≡ true
+unfolding size body rest fills bodies spliced tabulate groupCause timesX productOf product power inverse sum pow value factor unit numerator denominator basis through shareLength headed frame block shareByte shareOf share shares present point framed other unframed joined recovered splitFrom split shapeOf shape leaves nodeString sides beside root path folded treeStrings foldStrings checkStrings topHash pathHashes leafString leafStrings sharesCause same leavesOf rootOf pathOf passes codingStrings stringsOf chained hashes packetOf entryOf shareIn readOf inboxOf classOf classStrings atRoot atBit atFirst atSecond atEnd blankState broken messageRoot happy stateCause openCause openOf rootCause agreeRootOf packetFor bitCause outboxOf agreeBitOf inboxCause firstValid relayOf relayedOf takeSharesOf gathered resultOf takeRelaysOf accepted first entry lengths sentOver made events final shareStrings relayStrings checkedIn checkedOver did hashed sentBy among different absent sumOver joinOver clean cleanOf there mix digest
+tested = refl
+
+pub premises : Premises toy 3 1 good z 1
+unfolding size body rest fills bodies spliced tabulate groupCause timesX productOf product power inverse sum pow value factor unit numerator denominator basis through shareLength headed frame block shareByte shareOf share shares present point framed other unframed joined recovered splitFrom split shapeOf shape leaves nodeString sides beside root path folded treeStrings foldStrings checkStrings topHash pathHashes leafString leafStrings sharesCause same leavesOf rootOf pathOf passes codingStrings stringsOf chained hashes packetOf entryOf shareIn readOf inboxOf classOf classStrings atRoot atBit atFirst atSecond atEnd blankState broken messageRoot happy stateCause openCause openOf rootCause agreeRootOf packetFor bitCause outboxOf agreeBitOf inboxCause firstValid relayOf relayedOf takeSharesOf gathered resultOf takeRelaysOf accepted first entry lengths sentOver made events final shareStrings relayStrings checkedIn checkedOver did hashed sentBy among different absent sumOver joinOver clean cleanOf there mix digest
+premises = record {
+  opened = record {
+    bytes = each P2 P3 (λ A. Bytes (A .message)) (one-byte 0x43 (lit< tt)) (two-bytes 0x41 0x42 (lit< tt) (lit< tt));
+    taken = each P2 P3 (λ A. opening toy 3 1 (A .own) (A .message) .cause ≡ 0) refl refl;
+    apart = refl;
+    bad = le-refl 1;
+  };
+  called = called;
+  ruled = record {
+    root = λ v f. same-some (f P3 (List·Memᴰ·tail (List·Memᴰ·head refl)));
+    vote = λ v f. same-some (f P3 (List·Memᴰ·tail (List·Memᴰ·head refl)));
+  };
+  delivered = λ e. delivered;
+  clean = λ x y h k e. clean-sound x y (allHashed toy 3 1 good) (allHashed toy 3 1 good) tested h k e;
+}
