@@ -1,23 +1,44 @@
--- The causes of a party's steps: one law for each outcome, and what holds where none applies. By the tests of the definitions.
--- Assumes nothing.
+-- The causes for which the opening and a party's steps are refused: one law for each, and what holds where none applies. A cause is a
+-- chain of tests, which is 0 only if every test fails. Assumes nothing.
 use mathlib.Core.Path.{_≡_, refl}
 use mathlib.Core.Bool.{Bool, true, false, cond, not, _||_, true≢false}
 use mathlib.Core.List.{List}
-use Prim.Native.Nat.{ℕ, _<_, _≤_}
+use Prim.Native.Nat.{ℕ, suc, _<_, _≤_}
 use native.Mathlib.Omega.{arith}
-use borrow.Author.Tests.{lt-ltb, le-ltb, eq-eqb, ne-eqb, ltb-false, eqb-true, eqb-false}
+use borrow.Author.Tests.{lt-ltb, le-ltb, eq-eqb, ne-eqb, ltb-false, eqb-true, eqb-false, not-true, not-false}
 use lib.Dec.{ltb, eqb}
 use lib.ListN.{length}
-use Rattle.sha256.specs.Sha256.{sha256}
 use Rattle.limits.specs.Limits.{maxMessage, maxShare, groupCause}
 use Rattle.limits.proofs.Group.{group-of}
 use Rattle.buffer.specs.Entries.{fills}
-use Rattle.merkle.specs.Shares.{blank}
-use Rattle.party.specs.State.{atRoot, blankState, broken, overlong, messageRoot, happy}
-use Rattle.party.specs.Steps.{turnOf, stateCause, openCause, openOf, rootCause, withRoot, ballot, agreeRootOf, inboxCause}
+use Rattle.merkle.specs.Shares.{numbered}
+use Rattle.party.specs.State.{broken, overlong}
+use Rattle.party.specs.Steps.{turnOf, stateCause, openCause, rootCause, bitCause, inboxCause}
 use Rattle.party.specs.Private.{Fit}
 use Rattle.party.specs.declared.Party.{Party}
-use Rattle.party.specs.declared.Vote.the-variants.{Refused, Happy}
+
+-- tests of which none holds
+neither : (a b : Bool) → a || b ≡ false → (a ≡ false) × (b ≡ false)
+neither true b e = absurd (true≢false e)
+neither false b e = (refl, e)
+
+numbered-within : (n j : ℕ) → numbered n j ≡ true → (1 ≤ j) × (j ≤ n)
+numbered-within n j e =
+    let h = neither (ltb j 1) (ltb n j) (not-true (ltb j 1 || ltb n j) e) in
+    (ltb-false j 1 (h .0), ltb-false n j (h .1))
+
+-- of a chain of tests that gives 0 the first fails, and the rest gives 0
+spared : (t : Bool) (k r : ℕ) → cond t (suc k) r ≡ 0 → (t ≡ false) × (r ≡ 0)
+spared true k r e = absurd (omega arith)
+spared false k r e = (refl, e)
+
+-- the same where the first is a cause of its own
+cleared : (k r : ℕ) → cond (not (eqb k 0)) k r ≡ 0 → (k ≡ 0) × (r ≡ 0)
+cleared k r e = go (eqb k 0) refl e
+  where
+    go : (t : Bool) → eqb k 0 ≡ t → cond (not t) k r ≡ 0 → (k ≡ 0) × (r ≡ 0)
+    go false q h = absurd (eqb-false k 0 q h)
+    go true q h = (eqb-true k 0 q, h)
 
 -- a broken state
 module _ (x : Party) where
@@ -69,37 +90,28 @@ module _ (x : Party) where
                 le-ltb maxShare (x .held) h,
               )
 
-none-holds : (g l h m s v : Bool) → (not g || not (not (l || h)) || m || s || v) ≡ false
-    → (g ≡ true) × (l ≡ false) × (h ≡ false) × (m ≡ false) × (s ≡ false)
-none-holds false l h m s v e = absurd (true≢false e)
-none-holds true true h m s v e = absurd (true≢false e)
-none-holds true false true m s v e = absurd (true≢false e)
-none-holds true false false true s v e = absurd (true≢false e)
-none-holds true false false false true v e = absurd (true≢false e)
-none-holds true false false false false v e = (refl, refl, refl, refl, refl)
-
 -- a state that is not broken keeps its bounds
-pub group-in : (x : Party) → broken x ≡ false → groupCause (x .n) (x .t) ≡ 0
-unfolding broken
-group-in x e =
-    let h = none-holds (eqb (groupCause (x .n) (x .t)) 0) (ltb (x .own) 1) (ltb (x .n) (x .own)) (ltb maxMessage (x .len))
-    (ltb maxShare (x .held)) (overlong (x .stage)) e in
-    eqb-true (groupCause (x .n) (x .t)) 0 (h .0)
-
 pub fit-of : (x : Party) → broken x ≡ false → Fit x
 unfolding broken
 fit-of x e =
-    let h = none-holds (eqb (groupCause (x .n) (x .t)) 0) (ltb (x .own) 1) (ltb (x .n) (x .own)) (ltb maxMessage (x .len))
-    (ltb maxShare (x .held)) (overlong (x .stage)) e in
-    let g = group-of (x .n) (x .t) (eqb-true (groupCause (x .n) (x .t)) 0 (h .0)) in
+    let g : Bool = not (eqb (groupCause (x .n) (x .t)) 0) in
+    let o : Bool = not (numbered (x .n) (x .own)) in
+    let l : Bool = ltb maxMessage (x .len) in
+    let h : Bool = ltb maxShare (x .held) in
+    let stage = neither (g || o || l || h) (overlong (x .stage)) e in
+    let held = neither (g || o || l) h (stage .0) in
+    let long = neither (g || o) l (held .0) in
+    let first = neither g o (long .0) in
+    let group = group-of (x .n) (x .t) (eqb-true (groupCause (x .n) (x .t)) 0 (not-false (eqb (groupCause (x .n) (x .t)) 0) (first .0))) in
+    let own = numbered-within (x .n) (x .own) (not-false (numbered (x .n) (x .own)) (first .1)) in
     record {
-      low = g .low;
-      high = g .high;
-      faults = omega (arith, g .faults);
-      first = ltb-false (x .own) 1 (h .1);
-      last = ltb-false (x .n) (x .own) (h .2);
-      short = ltb-false maxMessage (x .len) (h .3);
-      few = ltb-false maxShare (x .held) (h .4);
+      low = group .low;
+      high = group .high;
+      faults = omega (arith, group .faults);
+      first = own .0;
+      last = own .1;
+      short = ltb-false maxMessage (x .len) (long .1);
+      few = ltb-false maxShare (x .held) (held .1);
     }
 
 -- causes 5 and 6
@@ -117,17 +129,16 @@ module _ (turn : ℕ) (x : Party) where
     unfolding stateCause
     state-fine h = rw (sound, eq-eqb (turnOf (x .stage)) turn h)
 
-sound-if : (b d : Bool) → _≡_ {A = ℕ} (cond b 5 (cond (not d) 6 0)) 0 → (b ≡ false) × (d ≡ true)
-sound-if true d e = absurd (omega arith)
-sound-if false false e = absurd (omega arith)
-sound-if false true e = (refl, refl)
-
 -- where neither applies, the state is not broken and the step is in turn
 pub state-sound : (turn : ℕ) (x : Party) → stateCause turn x ≡ 0 → (broken x ≡ false) × (turnOf (x .stage) ≡ turn)
 unfolding stateCause
 state-sound turn x e =
-    let h = sound-if (broken x) (eqb (turnOf (x .stage)) turn) e in
-    (h .0, eqb-true (turnOf (x .stage)) turn (h .1))
+    let h = spared (broken x) 4 (cond (not (eqb (turnOf (x .stage)) turn)) 6 0) e in
+    let k = spared (not (eqb (turnOf (x .stage)) turn)) 5 0 (h .1) in
+    (h .0, eqb-true (turnOf (x .stage)) turn (not-false (eqb (turnOf (x .stage)) turn) (k .0)))
+
+pub state-fit : (turn : ℕ) (x : Party) → stateCause turn x ≡ 0 → Fit x
+state-fit turn x e = fit-of x (state-sound turn x e .0)
 
 -- causes 1 to 4 of an opening
 module _ (n t own len : ℕ) where
@@ -156,32 +167,16 @@ module _ (n t own len : ℕ) where
         open-fine h =
             rw (eq-eqb (groupCause n t) 0 group, le-ltb own 1 first, le-ltb n own last, le-ltb maxMessage len h)
 
-opened : (k : ℕ) (g l h m : Bool) → eqb k 0 ≡ g → cond (not g) k (cond (not (not (l || h))) 3 (cond m 4 0)) ≡ 0
-    → (k ≡ 0) × (l ≡ false) × (h ≡ false) × (m ≡ false)
-opened k false l h m q e = absurd (eqb-false k 0 q e)
-opened k true true h m q e = absurd (omega arith)
-opened k true false true m q e = absurd (omega arith)
-opened k true false false true q e = absurd (omega arith)
-opened k true false false false q e = (eqb-true k 0 q, refl, refl, refl)
-
 -- where none applies, the arguments are within their bounds
 pub open-bounds : (n t own len : ℕ) → openCause n t own len ≡ 0
     → (groupCause n t ≡ 0) × (1 ≤ own) × (own ≤ n) × (len ≤ maxMessage)
 unfolding openCause
 open-bounds n t own len e =
-    let h = opened (groupCause n t) (eqb (groupCause n t) 0) (ltb own 1) (ltb n own) (ltb maxMessage len) refl e in
-    (h .0, ltb-false own 1 (h .1), ltb-false n own (h .2), ltb-false maxMessage len (h .3))
-
-module _ (n t own : ℕ) (m : List ℕ) where
-  pub open-refused : (openCause n t own (length m) ≡ 0 → ⊥)
-      → openOf sha256 n t own m ≡ record { state = blankState; cause = openCause n t own (length m); root = blank }
-  unfolding openOf
-  open-refused h = rw (ne-eqb (openCause n t own (length m)) 0 h)
-
-  pub open-given : openCause n t own (length m) ≡ 0
-      → openOf sha256 n t own m ≡ record { state = atRoot n t own m; cause = 0; root = messageRoot sha256 n t m }
-  unfolding openOf
-  open-given h = rw (eq-eqb (openCause n t own (length m)) 0 h)
+    let g = cleared (groupCause n t) (cond (not (numbered n own)) 3 (cond (ltb maxMessage len) 4 0)) e in
+    let h = spared (not (numbered n own)) 2 (cond (ltb maxMessage len) 4 0) (g .1) in
+    let o = numbered-within n own (not-false (numbered n own) (h .0)) in
+    let k = spared (ltb maxMessage len) 3 0 (h .1) in
+    (g .0, o .0, o .1, ltb-false maxMessage len (k .0))
 
 -- causes 5 to 7 of the agreed root
 module _ (x : Party) (z : List ℕ) where
@@ -198,14 +193,20 @@ module _ (x : Party) (z : List ℕ) where
     unfolding rootCause
     root-fine h = rw (eq-eqb (stateCause 1 x) 0 fine, eq-eqb (length z) 32 h)
 
-  pub agree-refused : (rootCause x z ≡ 0 → ⊥) → agreeRootOf sha256 x z ≡ ballot x (Refused (rootCause x z))
-  unfolding agreeRootOf
-  agree-refused h = rw (ne-eqb (rootCause x z) 0 h)
+-- causes 5 to 7 of the agreed bit
+module _ (x : Party) (bit : ℕ) where
+  pub bit-state : (stateCause 2 x ≡ 0 → ⊥) → bitCause x bit ≡ stateCause 2 x
+  unfolding bitCause
+  bit-state h = rw (ne-eqb (stateCause 2 x) 0 h)
 
-  pub agree-given : rootCause x z ≡ 0
-      → agreeRootOf sha256 x z ≡ ballot (withRoot x z) (Happy (happy sha256 (withRoot x z)))
-  unfolding agreeRootOf
-  agree-given h = rw (eq-eqb (rootCause x z) 0 h)
+  module _ (fine : stateCause 2 x ≡ 0) where
+    pub bit-wrong : 1 < bit → bitCause x bit ≡ 7
+    unfolding bitCause
+    bit-wrong h = rw (eq-eqb (stateCause 2 x) 0 fine, lt-ltb 1 bit h)
+
+    pub bit-fine : bit ≤ 1 → bitCause x bit ≡ 0
+    unfolding bitCause
+    bit-fine h = rw (eq-eqb (stateCause 2 x) 0 fine, le-ltb 1 bit h)
 
 -- causes 5, 6 and 8 of an inbox
 module _ (turn : ℕ) (x : Party) (inbox : List ℕ) where
@@ -222,15 +223,10 @@ module _ (turn : ℕ) (x : Party) (inbox : List ℕ) where
     unfolding inboxCause
     inbox-fine h = rw (eq-eqb (stateCause turn x) 0 fine, h)
 
-laid : (k : ℕ) (g f : Bool) → eqb k 0 ≡ g → cond (not g) k (cond (not f) 8 0) ≡ 0 → (k ≡ 0) × (f ≡ true)
-laid k false f q e = absurd (eqb-false k 0 q e)
-laid k true false q e = absurd (omega arith)
-laid k true true q e = (eqb-true k 0 q, refl)
-
--- where none applies, the state is not broken and the inbox is filled
+-- where none applies, neither does one of the state, and the inbox is filled
 pub inbox-sound : (turn : ℕ) (x : Party) (inbox : List ℕ) → inboxCause turn x inbox ≡ 0
-    → (broken x ≡ false) × (fills (x .n) inbox ≡ true)
+    → (stateCause turn x ≡ 0) × (fills (x .n) inbox ≡ true)
 unfolding inboxCause
 inbox-sound turn x inbox e =
-    let h = laid (stateCause turn x) (eqb (stateCause turn x) 0) (fills (x .n) inbox) refl e in
-    (state-sound turn x (h .0) .0, h .1)
+    let h = cleared (stateCause turn x) (cond (not (fills (x .n) inbox)) 8 0) e in
+    (h .0, not-false (fills (x .n) inbox) (spared (not (fills (x .n) inbox)) 7 0 (h .1) .0))

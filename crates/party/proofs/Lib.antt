@@ -1,9 +1,10 @@
 pub mod Causes
+pub mod Outcomes
+pub mod Parts
 pub mod Kept
 pub mod Shared
 pub mod Outbox
 pub mod Sending
-pub mod Agreed
 pub mod Valid
 pub mod Walk
 pub mod Taking

@@ -1,33 +1,33 @@
--- Laws of the outbox of step 3: the entries for parties 1 to k, one behind the other, as they are written and counted. An entry is told by
--- whether its number is the own one, and the outbox by induction on k. Assumes nothing.
+-- Laws of the outbox of step 3, for any hash: the entries for parties 1 to k, one behind the other, as they are written and counted. An
+-- entry is told by whether its number is the own one, and the outbox by induction on k. Assumes nothing.
 use mathlib.Core.Path.{_≡_, refl, sym, ap, _∙_}
+use mathlib.Core.Bool.{true, true≢false}
 use mathlib.Core.List.{List, [], _∷_, _++_, append-nil}
 use Prim.Native.Nat.{ℕ, zero, suc, _+_, _-_, _*_, _<_, _≤_}
 use native.Mathlib.Nat.{add-zero, zero-add}
 use native.Mathlib.Decide.{ℕ-discrete}
 use native.Mathlib.Numerals.{add-one}
 use native.Mathlib.Omega.{arith}
-use borrow.Author.Tests.{eq-eqb, ne-eqb}
+use borrow.Author.Tests.{le-ltb, eq-eqb, ne-eqb}
 use lib.ListN.{length, take, drop, set, replicate, length-append, length-drop, length-replicate}
 use lib.ListN.{replicate-append-replicate, drop-of-length-le}
-use lib.Seq.{drop-drop, take-all, length-take-le}
-use Rattle.sha256.specs.Sha256.{sha256}
+use lib.Seq.{drop-drop}
 use Rattle.limits.specs.Limits.{maxParties, maxPath, maxShare}
 use Rattle.buffer.specs.Splice.{spliced}
 use Rattle.buffer.proofs.Splice.{spliced-set, spliced-more}
 use Rattle.buffer.specs.Given.{gave, written}
 use Rattle.buffer.specs.declared.Written.the-variants as given
 use Rattle.buffer.proofs.Given.{written-done}
-use Rattle.buffer.proofs.Rows.{row-inside}
-use Rattle.merkle.specs.Shares.{sidesOf, pathOf, pathLengthOf}
-use Rattle.merkle.specs.declared.Counted.{Counted}
-use Rattle.merkle.specs.declared.Counted.the-variants.{Refused, Hashes}
-use Rattle.merkle.proofs.Outcomes.{count-told}
+use Rattle.merkle.specs.Shares.{numbered, sidesOf, pathOf, pathLengthOf}
+use Rattle.merkle.specs.declared.Counted.the-variants.{Refused}
 use Rattle.merkle.proofs.Descend.{sides-fit}
 use Rattle.packet.specs.Format.{packetOf, entryOf}
 use Rattle.packet.specs.Answer.{writeEntryOf}
+use Rattle.packet.proofs.Reading.{count-refused}
 use Rattle.packet.proofs.Writing.{cause-fine, entry-written}
 use Rattle.party.specs.Private.{entryFor, outboxUpTo, entryLength, outboxLength}
+use Rattle.party.proofs.Parts.{length-part}
+use Rattle.party.proofs.Shared.{share-inside}
 
 -- one zero more behind those that were written
 pub silence-more : (o : List ℕ) (i : ℕ) → i < length o
@@ -51,10 +51,6 @@ tail-spliced o bs at k e =
     ∙ ap (λ (l : List ℕ). take at o ++ l) (append-nil (bs ++ drop (0 + length bs) (drop at o)))
     ∙ ap (λ (l : List ℕ). take at o ++ (bs ++ l)) past
 
--- the part that is all that follows place `at`
-pub tail-whole : (o : List ℕ) (at : ℕ) → take (length o - at) (drop at o) ≡ drop at o
-tail-whole o at = take-all (length o - at) (drop at o) (omega (arith, length-drop at o))
-
 -- the length of an entry
 module _ (n own s j : ℕ) where
   pub length-own : j ≡ own → entryLength n own s j ≡ 2
@@ -65,7 +61,7 @@ module _ (n own s j : ℕ) where
   unfolding entryLength
   length-other e = rw (ne-eqb j own e)
 
-  pub length-fits : n ≤ maxParties → 1 ≤ j → j ≤ n → s ≤ maxShare → entryLength n own s j ≤ 2 + 4 + maxShare + 32 * maxPath
+  length-fits : n ≤ maxParties → 1 ≤ j → j ≤ n → s ≤ maxShare → entryLength n own s j ≤ 2 + 4 + maxShare + 32 * maxPath
   length-fits high first last short =
       elim (ℕ-discrete j own) [
         | yes e ↦ omega (arith, length-own e)
@@ -74,54 +70,9 @@ module _ (n own s j : ℕ) where
 
 -- a party's number is never refused a path
 pub never-refused : (n j : ℕ) → 1 ≤ n → n ≤ maxParties → 1 ≤ j → j ≤ n → (k : ℕ) → pathLengthOf n j ≡ Refused k → ⊥
-never-refused n j low high first last k e = differ (sym (count-told n j low high first last) ∙ e)
-  where
-    kind : Counted → ℕ
-    kind (Refused i) = 0
-    kind (Hashes i) = 1
-
-    differ : {i m : ℕ} → Hashes i ≡ Refused m → ⊥
-    differ q = absurd (omega (arith, ap kind q))
-
--- an entry
-module _ (n own s : ℕ) (shares : List ℕ) (leaves : List (List ℕ)) (j : ℕ) where
-  pub entry-own : j ≡ own → entryFor n own s shares leaves j ≡ 0 ∷ 0 ∷ []
-  unfolding entryFor entryOf
-  entry-own e = rw (eq-eqb j own e)
-
-  pub entry-other : (j ≡ own → ⊥) → entryFor n own s shares leaves j
-      ≡ entryOf (packetOf j (take s (drop ((j - 1) * s) shares)) (take (length (sidesOf n j)) (pathOf sha256 n j leaves)))
-  unfolding entryFor
-  entry-other e = rw (ne-eqb j own e)
-
--- share j of n lies within the shares
-pub share-inside : (n j s : ℕ) → 1 ≤ j → j ≤ n → (j - 1) * s + s ≤ n * s
-share-inside n j s first last = row-inside n (j - 1) s (omega arith)
-
-pub share-taken : (shares : List ℕ) (from s : ℕ) → take (from + s - from) (drop from shares) ≡ take s (drop from shares)
-share-taken shares from s = ap (λ (k : ℕ). take k (drop from shares)) whole
-  where
-    whole : from + s - from ≡ s
-    whole = omega arith
-
-pub share-long : (shares : List ℕ) (from s : ℕ) → from + s ≤ length shares → length (take s (drop from shares)) ≡ s
-share-long shares from s h = length-take-le s (drop from shares) (omega (arith, length-drop from shares))
-
--- what the packet writer gives for party j, where its entry has room
-module _ (n own s : ℕ) (shares : List ℕ) (leaves : List (List ℕ)) (j : ℕ) (low : 1 ≤ n) (high : n ≤ maxParties) (first : 1 ≤ j)
-    (last : j ≤ n) (some : 1 ≤ s) (short : s ≤ maxShare) (all : n * s ≤ length shares) (other : j ≡ own → ⊥) where
-  pub entry-done : (count : ℕ) → count ≡ length (sidesOf n j) → (out : List ℕ) → length (entryFor n own s shares leaves j) ≤ length out
-      → writeEntryOf n j (take s (drop ((j - 1) * s) shares)) (pathOf sha256 n j leaves) count out
-      ≡ gave (given.Done (length (entryFor n own s shares leaves j))) (spliced out 0 (entryFor n own s shares leaves j))
-  entry-done count e out room =
-      let share : List ℕ = take s (drop ((j - 1) * s) shares) in
-      let long : length share ≡ s = share-long shares ((j - 1) * s) s (omega (arith, share-inside n j s first last)) in
-      let fine = cause-fine n j (length share) count low high first last (omega arith) (omega arith) e in
-      entry-written n j share (pathOf sha256 n j leaves) count out fine
-      ∙ ap (λ (l : List ℕ). written l out)
-      (ap (λ (k : ℕ). entryOf (packetOf j share (take k (pathOf sha256 n j leaves)))) e
-      ∙ sym (entry-other n own s shares leaves j other))
-      ∙ written-done (entryFor n own s shares leaves j) out room
+never-refused n j low high first last k e =
+    let yes : numbered n j ≡ true = rw (le-ltb j 1 first, le-ltb n j last) in
+    true≢false (sym yes ∙ count-refused n j low high k e)
 
 -- the length of the outbox
 module _ (n own s : ℕ) where
@@ -141,44 +92,72 @@ module _ (n own s : ℕ) where
   length-small high short (suc k) h =
       omega (arith, length-small high short k (omega arith), length-fits n own s (suc k) high (omega arith) h short)
 
--- the outbox
-module _ (n own s : ℕ) (shares : List ℕ) (leaves : List (List ℕ)) where
-  pub outbox-none : outboxUpTo 0 n own s shares leaves ≡ []
-  unfolding outboxUpTo
-  outbox-none = refl
+module _ (H : List ℕ → List ℕ) where
+  -- an entry
+  module _ (n own s : ℕ) (shares : List ℕ) (leaves : List (List ℕ)) (j : ℕ) where
+    pub entry-own : j ≡ own → entryFor H n own s shares leaves j ≡ 0 ∷ 0 ∷ []
+    unfolding entryFor entryOf
+    entry-own e = rw (eq-eqb j own e)
 
-  pub outbox-more : (k : ℕ)
-      → outboxUpTo (k + 1) n own s shares leaves ≡ outboxUpTo k n own s shares leaves ++ entryFor n own s shares leaves (k + 1)
-  unfolding outboxUpTo
-  outbox-more k =
-      ap (λ (m : ℕ). outboxUpTo m n own s shares leaves) (add-one k)
-      ∙ ap (λ (m : ℕ). outboxUpTo k n own s shares leaves ++ entryFor n own s shares leaves m) (sym (add-one k))
+    pub entry-other : (j ≡ own → ⊥) → entryFor H n own s shares leaves j
+        ≡ entryOf (packetOf j (take s (drop ((j - 1) * s) shares)) (take (length (sidesOf n j)) (pathOf H n j leaves)))
+    unfolding entryFor
+    entry-other e = rw (ne-eqb j own e)
 
-  pub outbox-length : (k : ℕ)
-      → length (outboxUpTo (k + 1) n own s shares leaves)
-      ≡ length (outboxUpTo k n own s shares leaves) + length (entryFor n own s shares leaves (k + 1))
-  outbox-length k =
-      ap length (outbox-more k) ∙ length-append (outboxUpTo k n own s shares leaves) (entryFor n own s shares leaves (k + 1))
+  -- what the packet writer gives for party j, where its entry has room
+  module _ (n own s : ℕ) (shares : List ℕ) (leaves : List (List ℕ)) (j : ℕ) (low : 1 ≤ n) (high : n ≤ maxParties) (first : 1 ≤ j)
+      (last : j ≤ n) (some : 1 ≤ s) (short : s ≤ maxShare) (all : n * s ≤ length shares) (other : j ≡ own → ⊥) where
+    pub entry-done : (count : ℕ) → count ≡ length (sidesOf n j) → (out : List ℕ) → length (entryFor H n own s shares leaves j) ≤ length out
+        → writeEntryOf n j (take s (drop ((j - 1) * s) shares)) (pathOf H n j leaves) count out
+        ≡ gave (given.Done (length (entryFor H n own s shares leaves j))) (spliced out 0 (entryFor H n own s shares leaves j))
+    entry-done count e out room =
+        let share : List ℕ = take s (drop ((j - 1) * s) shares) in
+        let long : length share ≡ s = length-part shares ((j - 1) * s) s (omega (arith, share-inside n j s first last)) in
+        let fine = cause-fine n j (length share) count low high first last (omega arith) (omega arith) e in
+        entry-written n j share (pathOf H n j leaves) count out fine
+        ∙ ap (λ (l : List ℕ). written l out)
+        (ap (λ (k : ℕ). entryOf (packetOf j share (take k (pathOf H n j leaves)))) e
+        ∙ sym (entry-other n own s shares leaves j other))
+        ∙ written-done (entryFor H n own s shares leaves j) out room
 
-  pub outbox-grows : (k m : ℕ) → length (outboxUpTo k n own s shares leaves) ≤ length (outboxUpTo (k + m) n own s shares leaves)
-  unfolding outboxUpTo
-  outbox-grows k zero = omega (arith, ap (λ (i : ℕ). length (outboxUpTo i n own s shares leaves)) (add-zero k))
-  outbox-grows k (suc m) =
-      let next : k + suc m ≡ suc (k + m) = omega arith in
-      omega (
-        arith,
-        outbox-grows k m,
-        ap (λ (i : ℕ). length (outboxUpTo i n own s shares leaves)) next,
-        length-append (outboxUpTo (k + m) n own s shares leaves) (entryFor n own s shares leaves (suc (k + m))),
-      )
+  -- the outbox
+  module _ (n own s : ℕ) (shares : List ℕ) (leaves : List (List ℕ)) where
+    pub outbox-none : outboxUpTo H 0 n own s shares leaves ≡ []
+    unfolding outboxUpTo
+    outbox-none = refl
 
-  -- one entry more behind those that were written
-  pub outbox-spliced : (o : List ℕ) (k at : ℕ) → at ≡ length (outboxUpTo k n own s shares leaves) → at ≤ length o
-      → spliced (spliced o 0 (outboxUpTo k n own s shares leaves)) at (entryFor n own s shares leaves (k + 1))
-      ≡ spliced o 0 (outboxUpTo (k + 1) n own s shares leaves)
-  outbox-spliced o k at e h =
-      let before : List ℕ = outboxUpTo k n own s shares leaves in
-      let entry : List ℕ = entryFor n own s shares leaves (k + 1) in
-      ap (λ (i : ℕ). spliced (spliced o 0 before) i entry) (e ∙ sym (zero-add (length before)))
-      ∙ spliced-more o 0 before entry (omega arith)
-      ∙ ap (spliced o 0) (sym (outbox-more k))
+    outbox-more : (k : ℕ)
+        → outboxUpTo H (k + 1) n own s shares leaves ≡ outboxUpTo H k n own s shares leaves ++ entryFor H n own s shares leaves (k + 1)
+    unfolding outboxUpTo
+    outbox-more k =
+        ap (λ (m : ℕ). outboxUpTo H m n own s shares leaves) (add-one k)
+        ∙ ap (λ (m : ℕ). outboxUpTo H k n own s shares leaves ++ entryFor H n own s shares leaves m) (sym (add-one k))
+
+    pub outbox-length : (k : ℕ)
+        → length (outboxUpTo H (k + 1) n own s shares leaves)
+        ≡ length (outboxUpTo H k n own s shares leaves) + length (entryFor H n own s shares leaves (k + 1))
+    outbox-length k =
+        ap length (outbox-more k) ∙ length-append (outboxUpTo H k n own s shares leaves) (entryFor H n own s shares leaves (k + 1))
+
+    pub outbox-grows : (k m : ℕ) → length (outboxUpTo H k n own s shares leaves) ≤ length (outboxUpTo H (k + m) n own s shares leaves)
+    unfolding outboxUpTo
+    outbox-grows k zero = omega (arith, ap (λ (i : ℕ). length (outboxUpTo H i n own s shares leaves)) (add-zero k))
+    outbox-grows k (suc m) =
+        let next : k + suc m ≡ suc (k + m) = omega arith in
+        omega (
+          arith,
+          outbox-grows k m,
+          ap (λ (i : ℕ). length (outboxUpTo H i n own s shares leaves)) next,
+          length-append (outboxUpTo H (k + m) n own s shares leaves) (entryFor H n own s shares leaves (suc (k + m))),
+        )
+
+    -- one entry more behind those that were written
+    pub outbox-spliced : (o : List ℕ) (k at : ℕ) → at ≡ length (outboxUpTo H k n own s shares leaves) → at ≤ length o
+        → spliced (spliced o 0 (outboxUpTo H k n own s shares leaves)) at (entryFor H n own s shares leaves (k + 1))
+        ≡ spliced o 0 (outboxUpTo H (k + 1) n own s shares leaves)
+    outbox-spliced o k at e h =
+        let before : List ℕ = outboxUpTo H k n own s shares leaves in
+        let entry : List ℕ = entryFor H n own s shares leaves (k + 1) in
+        ap (λ (i : ℕ). spliced (spliced o 0 before) i entry) (e ∙ sym (zero-add (length before)))
+        ∙ spliced-more o 0 before entry (omega arith)
+        ∙ ap (spliced o 0) (sym (outbox-more k))

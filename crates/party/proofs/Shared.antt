@@ -1,27 +1,40 @@
--- The shares of a party's message: how long they are, that they fit their array, and what encoding gives. Two roots are the same
--- just where a comparison says so. By the bounds on n, t and the message. Assumes nothing.
+-- The shares of a party's message: how long they are, that they fit their array, what encoding gives, and that share j lies at its place
+-- among them. Two roots are the same just where a comparison says so. By the bounds on n, t and the message, and by induction on n.
+-- Assumes nothing.
 use mathlib.Core.Path.{_≡_, refl, sym, ap, _∙_}
 use mathlib.Core.Bool.{Bool, true, false}
-use mathlib.Core.List.{List}
-use Prim.Native.Nat.{ℕ, _+_, _-_, _*_, _/_, _<_, _≤_}
+use mathlib.Core.List.{List, _++_}
+use Prim.Native.Nat.{ℕ, zero, suc, _+_, _-_, _*_, _/_, _<_, _≤_}
 use native.Mathlib.Nat.{mul-le-mul-right, mul-assoc, div-eq-of-eq-mul-right}
+use native.Mathlib.Decide.{ℕ-discrete}
 use native.Mathlib.Omega.{arith}
-use lib.ListN.{length}
+use lib.ListN.{length, take, drop, length-drop}
+use lib.Seq.{take-all, take-append-le, drop-append-le, drop-at}
 use Rattle.limits.specs.Limits.{maxParties, maxMessage, maxShare}
 use Rattle.limits.proofs.Group.{group-fine}
 use Rattle.buffer.specs.Splice.{spliced}
 use Rattle.buffer.specs.Given.{gave}
 use Rattle.buffer.specs.declared.Written.the-variants.{Done}
 use Rattle.buffer.proofs.Given.{written-done}
-use Rattle.erasure.specs.Coding.{shareLength, shares, frame, encodeOf}
+use Rattle.buffer.proofs.Rows.{row-inside}
+use Rattle.erasure.specs.Coding.{shareLength, share, shares, frame, encodeOf}
 use Rattle.erasure.proofs.Arrays.{shares-frame, length-sharesOf}
-use Rattle.erasure.proofs.Frame.{share-high}
+use Rattle.erasure.proofs.Frame.{share-high, share-positive, share-most, length-share}
 use Rattle.erasure.proofs.Outcomes.{encode-written}
 use Rattle.merkle.specs.Shares.{same}
 use Rattle.merkle.proofs.Judged.{same-true, same-refl}
+use Rattle.party.specs.State.{messageIn}
+use Rattle.party.specs.Private.{Fit}
+use Rattle.party.specs.declared.Party.{Party}
+use Rattle.party.proofs.Kept.{length-message}
 
-pub length-shares : (n b : ℕ) (m : List ℕ) → length (shares n b m) ≡ n * shareLength b (length m)
-length-shares n b m = ap length (shares-frame n b m) ∙ length-sharesOf n b (shareLength b (length m)) (frame b m)
+-- share j of n lies within the shares
+pub share-inside : (n j s : ℕ) → 1 ≤ j → j ≤ n → (j - 1) * s + s ≤ n * s
+share-inside n j s first last = row-inside n (j - 1) s (omega arith)
+
+-- the length of one share, from that of all
+pub one-of : (n s size : ℕ) → 1 ≤ n → size ≡ n * s → size / n ≡ s
+one-of n s size low e = div-eq-of-eq-mul-right (omega arith) e
 
 -- n is less than 2·b, and b·s less than the message with its length and b
 pub shares-bound : (n t l : ℕ) → 2 * t < n → n ≤ maxParties → l ≤ maxMessage
@@ -32,6 +45,31 @@ shares-bound n t l faults high short =
     let twice : n ≤ 2 * b = omega arith in
     omega (arith, mul-le-mul-right s twice, mul-assoc 2 b s, share-high b l (omega arith))
 
+-- shares 1 to n, one behind the other
+length-shares : (n b : ℕ) (m : List ℕ) → length (shares n b m) ≡ n * shareLength b (length m)
+length-shares n b m = ap length (shares-frame n b m) ∙ length-sharesOf n b (shareLength b (length m)) (frame b m)
+
+share-at : (b : ℕ) (m : List ℕ) (n j : ℕ) → 1 ≤ j → j ≤ n
+    → take (shareLength b (length m)) (drop ((j - 1) * shareLength b (length m)) (shares n b m)) ≡ share b j m
+unfolding shares
+share-at b m zero j first last = absurd (omega arith)
+share-at b m (suc n) j first last =
+    let s : ℕ = shareLength b (length m) in
+    elim (ℕ-discrete j (suc n)) [
+      | yes e ↦
+          let k : j - 1 ≡ n = omega arith in
+          ap (λ (i : ℕ). take s (drop (i * s) (shares n b m ++ share b (suc n) m))) k
+          ∙ ap (take s) (drop-at (shares n b m) (share b (suc n) m) (n * s) (length-shares n b m))
+          ∙ take-all s (share b (suc n) m) (omega (arith, length-share b (suc n) m))
+          ∙ ap (λ (i : ℕ). share b i m) (sym e)
+      | no e ↦
+          let room : (j - 1) * s + s ≤ n * s = share-inside n j s first (omega arith) in
+          ap (take s) (drop-append-le ((j - 1) * s) (shares n b m) (share b (suc n) m) (omega (arith, length-shares n b m)))
+          ∙ take-append-le s (drop ((j - 1) * s) (shares n b m)) (share b (suc n) m)
+          (omega (arith, length-shares n b m, length-drop ((j - 1) * s) (shares n b m)))
+          ∙ share-at b m n j first (omega arith)
+    ]
+
 module _ (n t : ℕ) (m out : List ℕ) (low : 1 ≤ n) (high : n ≤ maxParties) (faults : 2 * t < n) where
   pub encoded : length m ≤ maxMessage → length out ≡ 2 * (maxShare + maxParties)
       → encodeOf n t m out ≡ gave (Done (length (shares n (n - t) m))) (spliced out 0 (shares n (n - t) m))
@@ -40,9 +78,34 @@ module _ (n t : ℕ) (m out : List ℕ) (low : 1 ≤ n) (high : n ≤ maxParties
       ∙ written-done (shares n (n - t) m) out
       (omega (arith, length-shares n (n - t) m, shares-bound n t (length m) faults high short))
 
--- the length of one share, from that of all
-pub one-of : (n s size : ℕ) → 1 ≤ n → size ≡ n * s → size / n ≡ s
-one-of n s size low e = div-eq-of-eq-mul-right (omega arith) e
+-- the length of a share of a state's message, and all its shares
+abbrev pub sizeIn : Party → ℕ
+sizeIn x = shareLength (x .n - x .t) (x .len)
+
+abbrev pub sharesIn : Party → List ℕ
+sharesIn x = shares (x .n) (x .n - x .t) (messageIn x)
+
+-- a share has its bounds
+pub share-short : (x : Party) → Fit x → (1 ≤ sizeIn x) × (sizeIn x ≤ maxShare)
+share-short x fit =
+    let some : 1 ≤ x .n - x .t = omega (arith, fit) in
+    (share-positive (x .n - x .t) (x .len) some, omega (arith, fit, share-most (x .n - x .t) (x .len) some))
+
+-- a state whose message is as long as it says: its shares together, and one of them
+module _ (x : Party) (long : x .len ≤ length (x .message)) where
+  pub all-shares : length (sharesIn x) ≡ x .n * sizeIn x
+  all-shares =
+      length-shares (x .n) (x .n - x .t) (messageIn x) ∙ ap (λ (l : ℕ). x .n * shareLength (x .n - x .t) l) (length-message x long)
+
+  pub share-size : (j : ℕ) → length (share (x .n - x .t) j (messageIn x)) ≡ sizeIn x
+  share-size j = length-share (x .n - x .t) j (messageIn x) ∙ ap (shareLength (x .n - x .t)) (length-message x long)
+
+  pub own-share : (j : ℕ) → 1 ≤ j → j ≤ x .n
+      → take (sizeIn x) (drop ((j - 1) * sizeIn x) (sharesIn x)) ≡ share (x .n - x .t) j (messageIn x)
+  own-share j first last =
+      ap (λ (l : ℕ). take (shareLength (x .n - x .t) l) (drop ((j - 1) * shareLength (x .n - x .t) l) (sharesIn x)))
+      (sym (length-message x long))
+      ∙ share-at (x .n - x .t) (messageIn x) (x .n) j first last
 
 agree : (r v : Bool) → (r ≡ true → v ≡ true) → (v ≡ true → r ≡ true) → r ≡ v
 agree true v p q = sym (p refl)

@@ -713,8 +713,8 @@ fn write_outbox(
     out: &mut [u8],
 )
     requires { ⌜ (1 ≤ n) × (n ≤ maxParties) × (1 ≤ len) × (len ≤ maxShare) × (n * len ≤ length (now shares))
-        × (length (outboxUpTo n n own len (now shares) (now leaves)) ≤ length (now out)) ⌝ }
-    ensures { λ _. ⌜ now (out .exit) ≡ spliced (now (out .entry)) 0 (outboxUpTo n n own len (now (shares .entry)) (now (leaves .entry))) ⌝ }
+        × (length (outboxUpTo sha256 n n own len (now shares) (now leaves)) ≤ length (now out)) ⌝ }
+    ensures { λ _. ⌜ now (out .exit) ≡ spliced (now (out .entry)) 0 (outboxUpTo sha256 n n own len (now (shares .entry)) (now (leaves .entry))) ⌝ }
 {
     let mut at: usize = 0;
     let mut j: usize = 0;
@@ -736,9 +736,9 @@ fn write_entry(
     at: usize,
 ) -> usize
     requires { ⌜ (1 ≤ n) × (n ≤ maxParties) × (1 ≤ j) × (j ≤ n) × (1 ≤ len) × (len ≤ maxShare) × (n * len ≤ length (now shares))
-        × (at + length (entryFor n own len (now shares) (now leaves) j) ≤ length (now out)) ⌝ }
-    ensures { λ r. ⌜ (r ≡ at + length (entryFor n own len (now (shares .entry)) (now (leaves .entry)) j))
-        × (now (out .exit) ≡ spliced (now (out .entry)) at (entryFor n own len (now (shares .entry)) (now (leaves .entry)) j)) ⌝ }
+        × (at + length (entryFor sha256 n own len (now shares) (now leaves) j) ≤ length (now out)) ⌝ }
+    ensures { λ r. ⌜ (r ≡ at + length (entryFor sha256 n own len (now (shares .entry)) (now (leaves .entry)) j))
+        × (now (out .exit) ≡ spliced (now (out .entry)) at (entryFor sha256 n own len (now (shares .entry)) (now (leaves .entry)) j)) ⌝ }
 {
     if j == own {
         buffer::put(out, at, &[0, 0]);

@@ -7,14 +7,14 @@ use Prim.Native.Nat.{ℕ, _+_, _-_, _≤_}
 use native.Mathlib.Nat.{sub-zero, add-sub-cancel-left}
 use native.Mathlib.Omega.{arith}
 use lib.ListN.{length, take, drop}
-use Rattle.buffer.specs.Entries.{size, fills, bodies}
+use Rattle.buffer.specs.Entries.{fills, bodies}
 use Rattle.buffer.proofs.Entries.{Whole, whole}
 use Rattle.packet.specs.Class.{classOf}
 use Rattle.party.specs.Steps.{Taken, firstValid}
 use Rattle.party.specs.Private.{ClassIs, TakenIs}
 use Rattle.party.specs.declared.Placed.{Placed}
 use Rattle.party.specs.declared.Placed.the-variants.{Nowhere, At as Found}
-use Rattle.party.proofs.Walk.{first-own, first-later, first-taken, first-none}
+use Rattle.party.proofs.Walk.{bodyAt, first-own, first-later, first-taken, first-none}
 use borrow.Author.Needs.{needs}
 use Rattle.sha256.specs.Sha256.{sha256}
 use Rattle.party.proofs.first_valid.Statement.{statement}
@@ -53,11 +53,11 @@ entry c = whole _ _ _ _ _ (c .before .loop .inv .2)
 
 -- the answer for the entry's packet
 answered : (c : tie.After-valid-at Inv-loop μ-loop) → let d = c .before .before .before in (r : Placed) → c .valid-at .result ≡ r
-    → ClassIs r (classOf sha256 (N d) (Own d) (Z d) (take (size (drop (At d) (S d))) (drop (At d + 2) (S d)))) (S d)
+    → ClassIs r (classOf sha256 (N d) (Own d) (Z d) (bodyAt (At d) (S d))) (S d)
 answered c r q =
     let d = c .before .before .before in
     let k = c .before .before .size-at in
-    subst (λ (x : Placed). ClassIs x (classOf sha256 (N d) (Own d) (Z d) (take (size (drop (At d) (S d))) (drop (At d + 2) (S d))))
+    subst (λ (x : Placed). ClassIs x (classOf sha256 (N d) (Own d) (Z d) (bodyAt (At d) (S d)))
     (S d)) q
     (subst (λ (i : ℕ). ClassIs (c .valid-at .result) (classOf sha256 (N d) (Own d) (Z d) (take i (drop (At d + 2) (S d)))) (S d))
     (add-sub-cancel-left (At d + 2) (k .result) ∙ k .ensures) (c .valid-at .ensures))
@@ -87,7 +87,7 @@ loop-again c =
       omega (arith, entry d, k),
       omega arith,
       rw k (entry d .tail),
-      rw k (d .before .loop .inv .3 ∙ first-own (N d) (Own d) (Z d) (N d - (J d + 1)) (N d - J d) (J d + 1) (At d) (S d)
+      rw k (d .before .loop .inv .3 ∙ first-own sha256 (N d) (Own d) (Z d) (N d - (J d + 1)) (N d - J d) (J d + 1) (At d) (S d)
           (omega arith) (c .if1 .taken)),
     )
 
@@ -115,7 +115,7 @@ loop-again-2 c =
       omega (arith, entry d, k),
       omega arith,
       rw k (entry d .tail),
-      rw k (d .before .loop .inv .3 ∙ first-later (N d) (Own d) (Z d) (N d - (J d + 1)) (N d - J d) (J d + 1) (At d) (S d)
+      rw k (d .before .loop .inv .3 ∙ first-later sha256 (N d) (Own d) (Z d) (N d - (J d + 1)) (N d - J d) (J d + 1) (At d) (S d)
           (omega arith) (r .before .if1 .left) (answered r Nowhere (c .enum-told .given .1))),
     )
 
@@ -126,7 +126,7 @@ returns c =
     let d = r .before .before .before in
     let g = p .place .given .0 in
     subst (λ (t : Taken). TakenIs (Found (g .0) (g .1 .0) (g .1 .1 .0)) t (S d)) (sym (d .before .loop .inv .3))
-    (first-taken (N d) (Own d) (Z d) (N d - (J d + 1)) (N d - J d) (J d + 1) (At d) (S d) (omega arith) (r .before .if1 .left)
+    (first-taken sha256 (N d) (Own d) (Z d) (N d - (J d + 1)) (N d - J d) (J d + 1) (At d) (S d) (omega arith) (r .before .if1 .left)
     (g .0) (g .1 .0) (g .1 .1 .0) (answered r (Found (g .0) (g .1 .0) (g .1 .1 .0)) (p .place .given .1)))
 
 returns-2 : tie.Need-returns-2 Inv-loop μ-loop
@@ -134,7 +134,7 @@ returns-2 c =
     let l = c .before .loop in
     let a = c .before .before .before .args in
     subst (λ (t : Taken). TakenIs Nowhere t (a .inbox .now))
-    (sym (l .inv .3 ∙ first-none (a .n) (a .own) (a .root .now) (a .n - l .j) (l .j + 1) (l .at) (a .inbox .now)
+    (sym (l .inv .3 ∙ first-none sha256 (a .n) (a .own) (a .root .now) (a .n - l .j) (l .j + 1) (l .at) (a .inbox .now)
     (omega arith))) tt
 
 pub first-valid-spec : {M : Type 1} → statement M

@@ -4,7 +4,7 @@ use mathlib.Core.Path.{refl, ap, _∙_}
 use mathlib.Core.List.{List}
 use Prim.Native.Nat.{ℕ, _+_}
 use Rattle.buffer.specs.Splice.{putOf}
-use Rattle.party.proofs.Valid.{entry-put}
+use Rattle.party.proofs.Walk.{entry-put}
 use borrow.Author.Needs.{needs}
 use Rattle.party.proofs.put_entry.Statement.{statement}
 use Rattle.party.proofs.put_entry.Tie as tie

@@ -5,8 +5,7 @@ use mathlib.Core.Bool.{Bool}
 use mathlib.Core.List.{List}
 use Prim.Native.Nat.{ℕ, _+_, _-_, _≤_}
 use native.Mathlib.Omega.{arith}
-use lib.ListN.{length, take, drop, replicate, length-drop}
-use lib.Seq.{length-take-le}
+use lib.ListN.{length, take, drop, replicate}
 use Rattle.limits.specs.Limits.{maxPath}
 use Rattle.merkle.specs.Shares.{blank, passes, told, checkOf}
 use Rattle.merkle.proofs.Judged.{check-judged}
@@ -16,6 +15,7 @@ use Rattle.packet.specs.Answer.{placed}
 use Rattle.packet.proofs.Path.{padded, path-there, length-hashes}
 use Rattle.packet.proofs.Reading.{Lies, lies-of, at-read}
 use Rattle.packet.proofs.Verdict.{passes-take, told-true, told-false}
+use Rattle.party.proofs.Parts.{length-part, part-ends}
 use Rattle.party.proofs.Valid.{class-unread, class-other, class-failed, class-passed, lies-part}
 use borrow.Author.Needs.{needs}
 use Rattle.sha256.specs.Sha256.{sha256}
@@ -32,7 +32,7 @@ P st = let a = st .args in take (a .to - a .from) (drop (a .from) (a .inbox .now
 long : (st : tie.Start) → length (P st) ≡ st .args .to - st .args .from
 long st =
     let a = st .args in
-    length-take-le (a .to - a .from) (drop (a .from) (a .inbox .now)) (omega (arith, length-drop (a .from) (a .inbox .now)))
+    length-part (a .inbox .now) (a .from) (a .to - a .from) (omega arith)
 
 -- what was read is what the packet says
 answer : (d : tie.After-read) → let st = Entry d in d .read .result ≡ placed 0 (readOf (st .args .n) (P st))
@@ -86,8 +86,8 @@ part : (k : tie.After-number) → let g = k .number .given .0 in
     take (g .1 .0 + Len k - g .1 .0) (drop (g .1 .0) (P (Entry (D k)))) ≡ X k
 part k =
     let g = k .number .given .0 in
-    let e : g .1 .0 + Len k - g .1 .0 ≡ Len k = omega arith in
-    ap₂ (λ (i f : ℕ). take i (drop f (P (Entry (D k))))) e (lies k .place)
+    let p = P (Entry (D k)) in
+    part-ends p (g .1 .0) (Len k) ∙ ap (λ (f : ℕ). take (Len k) (drop f p)) (lies k .place)
 
 there : (e : tie.After-check) → let k = K e in e .before .before .before .path-at .result ≡ padded (Count k) (Q k)
 there e =
@@ -100,10 +100,7 @@ there e =
     ∙ ap (λ (f : ℕ). padded (Count k) (drop (f + Len k) p)) (h .place)
 
 size : (k : tie.After-number) → length (X k) ≡ Len k
-size k =
-    let h = lies k in
-    let p = P (Entry (D k)) in
-    length-take-le (Len k) (drop 4 p) (omega (arith, length-drop 4 p, h .whole))
+size k = length-part (P (Entry (D k))) 4 (Len k) (omega (arith, lies k .whole))
 
 -- the check's answer; only the hashes counted matter
 led : (e : tie.After-check) → e .check .result ≡ told (Leads (K e))
@@ -138,14 +135,14 @@ returns c =
     let d = c .before in
     let st = Entry d in
     let a = st .args in
-    class-unread (a .n) (a .j) (a .root .now) (P st) (a .inbox .now) (d .read .result) (answer d) (c .match .keys2)
+    class-unread sha256 (a .n) (a .j) (a .root .now) (P st) (a .inbox .now) (d .read .result) (answer d) (c .match .keys2)
 
 returns-2 : tie.Need-returns-2
 returns-2 c =
     let k = c .before .before in
     let st = Entry (D k) in
     let a = st .args in
-    class-other (a .n) (a .j) (a .root .now) (P st) (a .inbox .now) (k .number .given .0 .0) (X k) (Q k) (Count k) (lies k .says)
+    class-other sha256 (a .n) (a .j) (a .root .now) (P st) (a .inbox .now) (k .number .given .0 .0) (X k) (Q k) (Count k) (lies k .says)
     (c .if1 .taken)
 
 add-end : tie.Need-add-end
@@ -188,7 +185,7 @@ returns-3 c =
     let a = st .args in
     let h = lies k in
     let g = k .number .given .0 in
-    class-passed (a .n) (a .j) (a .root .now) (P st) (a .inbox .now) (g .0) (X k) (Q k) (Count k) (h .says) (a .from + g .1 .0)
+    class-passed sha256 (a .n) (a .j) (a .root .now) (P st) (a .inbox .now) (g .0) (X k) (Q k) (Count k) (h .says) (a .from + g .1 .0)
     (Len k)
     (e .before .before .before .before .if1 .left) (told-true (Leads k) (sym (led e) ∙ c .enum-told .given .1))
     (lies-part (a .inbox .now) (a .from) (a .to - a .from) (g .1 .0) (Len k) (Count k) (h .some) (h .most) (few k) (h .place)
@@ -200,7 +197,7 @@ returns-4 c =
     let k = K e in
     let st = Entry (D k) in
     let a = st .args in
-    class-failed (a .n) (a .j) (a .root .now) (P st) (a .inbox .now) (k .number .given .0 .0) (X k) (Q k) (Count k) (lies k .says)
+    class-failed sha256 (a .n) (a .j) (a .root .now) (P st) (a .inbox .now) (k .number .given .0 .0) (X k) (Q k) (Count k) (lies k .says)
     (e .before .before .before .before .if1 .left) (told-false (e .check .result) (Leads k) (led e) (c .match2 .keys2))
 
 pub valid-at-spec : {M : Type 1} → statement M

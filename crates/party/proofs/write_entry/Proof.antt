@@ -1,23 +1,23 @@
 -- `party::write_entry` meets its contract: no bytes for the own number, else what the packet writer gives, which neither refuses nor finds
 -- the buffer short, at the place of the entry. Assumes nothing.
-use mathlib.Core.Path.{_≡_, refl, sym, ap, ap₂, subst, _∙_}
+use mathlib.Core.Path.{_≡_, refl, sym, ap, ap₂, _∙_}
 use mathlib.Core.List.{List, [], _∷_, _++_}
 use Prim.Native.Nat.{ℕ, _+_, _-_, _*_, _≤_}
 use native.Mathlib.Omega.{arith}
 use borrow.Author.Needs.{needs}
-use types.Run.{OneOf, miss}
-use denote.Enum.Declared.{tagOf}
 use lib.ListN.{length, take, drop, length-drop}
+use Rattle.sha256.specs.Sha256.{sha256}
 use Rattle.buffer.specs.Given.{Given, gave, valueOf}
 use Rattle.buffer.specs.Splice.{spliced}
-use Rattle.buffer.specs.declared.Written.{Written}
 use Rattle.buffer.specs.declared.Written.the-variants.{Done}
-use Rattle.buffer.proofs.Written.{the-type}
 use Rattle.buffer.proofs.Splice.{put-fits}
 use Rattle.packet.specs.Answer.{writeEntryOf}
 use Rattle.packet.proofs.Reading.{count-hashes}
 use Rattle.party.specs.Private.{entryFor}
-use Rattle.party.proofs.Outbox.{entry-own, never-refused, share-inside, share-taken, entry-done, tail-whole, tail-spliced}
+use Rattle.party.proofs.Parts.{part-ends, part-rest}
+use Rattle.party.proofs.Shared.{share-inside}
+use Rattle.party.proofs.Outbox.{entry-own, never-refused, entry-done, tail-spliced}
+use Rattle.party.proofs.Outcomes.{not-done}
 use Rattle.party.proofs.write_entry.Statement.{statement}
 use Rattle.party.proofs.write_entry.Tie as tie
 
@@ -39,7 +39,7 @@ returns c =
     let t = p .before .before .before in
     let st = t .before .before .before in
     let a = st .args in
-    let e = entry-own (a .n) (a .own) (a .len) (a .shares .now) (a .leaves .now) (a .j) (t .if1 .taken) in (
+    let e = entry-own sha256 (a .n) (a .own) (a .len) (a .shares .now) (a .leaves .now) (a .j) (t .if1 .taken) in (
       ap (λ (l : List ℕ). a .at + length l) (sym e),
       p .put .ensures .1
           ∙ put-fits (a .out .now) (a .at) (0 ∷ 0 ∷ []) (omega (arith, ap length e))
@@ -106,7 +106,7 @@ abbrev Entry : tie.After-write-entry → tie.Start
 Entry w = w .before .before .before .before .before .before .before .before .before .before .before
 
 abbrev bytes : tie.After-write-entry → List ℕ
-bytes w = let a = Entry w .args in entryFor (a .n) (a .own) (a .len) (a .shares .now) (a .leaves .now) (a .j)
+bytes w = let a = Entry w .args in entryFor sha256 (a .n) (a .own) (a .len) (a .shares .now) (a .leaves .now) (a .j)
 
 -- what the packet writer gave
 wrote : (w : tie.After-write-entry) → let a = Entry w .args in
@@ -124,12 +124,12 @@ wrote w =
     (sym (q .before .before .path-length .ensures) ∙ q .count .given .1) in
     let room : length (bytes w) ≤ length (drop (a .at) o) = omega (arith, length-drop (a .at) o) in
     w .write-entry .ensures
-    ∙ ap₂ (λ (l d : List ℕ). writeEntryOf (a .n) (a .j) l (p .path .result) count d) (share-taken (a .shares .now) from (a .len))
-    (tail-whole o (a .at))
+    ∙ ap₂ (λ (l d : List ℕ). writeEntryOf (a .n) (a .j) l (p .path .result) count d) (part-ends (a .shares .now) from (a .len))
+    (part-rest o (a .at))
     ∙ ap (λ (l : List (List ℕ)). writeEntryOf (a .n) (a .j) (take (a .len) (drop from (a .shares .now))) l count (drop (a .at) o))
     (p .path .ensures)
-    ∙ entry-done (a .n) (a .own) (a .len) (a .shares .now) (a .leaves .now) (a .j) (omega arith) (omega arith) (omega arith) (omega arith)
-    (omega arith) (omega arith) (omega arith) (q .before .before .before .if1 .left) count (h .2) (drop (a .at) o) room
+    ∙ entry-done sha256 (a .n) (a .own) (a .len) (a .shares .now) (a .leaves .now) (a .j) (omega arith) (omega arith) (omega arith)
+    (omega arith) (omega arith) (omega arith) (omega arith) (q .before .before .before .if1 .left) count (h .2) (drop (a .at) o) room
 
 enum-known-size : tie.Need-enum-known-size
 enum-known-size c = search needs
@@ -137,13 +137,10 @@ enum-known-size c = search needs
 same-length-2 : tie.Need-same-length-2
 same-length-2 c = search needs
 
-not-other : (r : Written) (k : ℕ) → r ≡ Done k → OneOf (0 ∷ 1 ∷ []) (tagOf the-type r) → ⊥
-not-other r k e h = miss (0 ∷ 1 ∷ []) 2 tt (subst (λ (x : Written). OneOf (0 ∷ 1 ∷ []) (tagOf the-type x)) e h)
-
 returns-3 : tie.Need-returns-3
 returns-3 c =
     let w = c .before .before .before in
-    absurd (not-other (w .write-entry .result) (length (bytes w)) (ap (λ (g : Given). g .answer) (wrote w)) (c .match2 .keys2))
+    absurd (not-done (w .write-entry .result) (length (bytes w)) (ap (λ (g : Given). g .answer) (wrote w)) (c .match2 .keys2))
 
 size : (c : tie.After-known-told2) → c .before .size .given .0 .0 ≡ length (bytes (c .before .before .before .before .before))
 size c =

@@ -5,6 +5,7 @@ use Prim.Native.Nat.{ℕ, _+_, _-_, _≤_}
 use native.Mathlib.Omega.{arith}
 use borrow.Author.Needs.{needs}
 use lib.ListN.{length}
+use Rattle.sha256.specs.Sha256.{sha256}
 use Rattle.buffer.specs.Splice.{spliced}
 use Rattle.buffer.proofs.Splice.{spliced-none}
 use Rattle.party.specs.Private.{entryFor, outboxUpTo}
@@ -14,8 +15,8 @@ use Rattle.party.proofs.write_outbox.Tie as tie
 
 abbrev Inv-loop : tie.InvT-loop
 Inv-loop n own len shares leaves out₀ at₀ j₀ out at j =
-    (j ≤ n) × (at ≡ length (outboxUpTo j n own len shares leaves)) × (length out ≡ length out₀)
-    × (out ≡ spliced out₀ 0 (outboxUpTo j n own len shares leaves))
+    (j ≤ n) × (at ≡ length (outboxUpTo sha256 j n own len shares leaves)) × (length out ≡ length out₀)
+    × (out ≡ spliced out₀ 0 (outboxUpTo sha256 j n own len shares leaves))
 
 abbrev μ-loop : tie.MeasureT-loop
 μ-loop n own len shares leaves out₀ at₀ j₀ out at j = n - j
@@ -23,7 +24,7 @@ abbrev μ-loop : tie.MeasureT-loop
 loop-holds : tie.Need-loop-holds Inv-loop μ-loop
 loop-holds c =
     let a = c .before .before .args in
-    let e = outbox-none (a .n) (a .own) (a .len) (a .shares .now) (a .leaves .now) in (
+    let e = outbox-none sha256 (a .n) (a .own) (a .len) (a .shares .now) (a .leaves .now) in (
       omega arith,
       sym (ap length e),
       refl,
@@ -35,19 +36,20 @@ add-j c = search needs
 
 -- the next entry has room
 room : (c : tie.In-loop Inv-loop μ-loop) → let l = c .before in let a = l .before .before .before .args in
-    l .loop .at + length (entryFor (a .n) (a .own) (a .len) (a .shares .now) (a .leaves .now) (l .loop .j + 1)) ≤ length (a .out .now)
+    l .loop .at + length (entryFor sha256 (a .n) (a .own) (a .len) (a .shares .now) (a .leaves .now) (l .loop .j + 1))
+    ≤ length (a .out .now)
 room c =
     let l = c .before in
     let st = l .before .before .before in
     let a = st .args in
     let rest : l .loop .j + 1 + (a .n - (l .loop .j + 1)) ≡ a .n = omega arith in
-    let all = ap (λ (k : ℕ). length (outboxUpTo k (a .n) (a .own) (a .len) (a .shares .now) (a .leaves .now))) rest in
+    let all = ap (λ (k : ℕ). length (outboxUpTo sha256 k (a .n) (a .own) (a .len) (a .shares .now) (a .leaves .now))) rest in
     omega (
       arith,
       st .pre,
       all,
-      outbox-grows (a .n) (a .own) (a .len) (a .shares .now) (a .leaves .now) (l .loop .j + 1) (a .n - (l .loop .j + 1)),
-      outbox-length (a .n) (a .own) (a .len) (a .shares .now) (a .leaves .now) (l .loop .j),
+      outbox-grows sha256 (a .n) (a .own) (a .len) (a .shares .now) (a .leaves .now) (l .loop .j + 1) (a .n - (l .loop .j + 1)),
+      outbox-length sha256 (a .n) (a .own) (a .len) (a .shares .now) (a .leaves .now) (l .loop .j),
     )
 
 write-entry-requires : tie.Need-write-entry-requires Inv-loop μ-loop
@@ -72,15 +74,15 @@ loop-again c =
     let i = w .before .before in
     let l = i .before in
     let a = l .before .before .before .args in
-    let entry : List ℕ = entryFor (a .n) (a .own) (a .len) (a .shares .now) (a .leaves .now) (l .loop .j + 1) in (
+    let entry : List ℕ = entryFor sha256 (a .n) (a .own) (a .len) (a .shares .now) (a .leaves .now) (l .loop .j + 1) in (
       omega arith,
       w .write-entry .ensures .0
           ∙ ap (λ (k : ℕ). k + length entry) (l .loop .inv .1)
-          ∙ sym (outbox-length (a .n) (a .own) (a .len) (a .shares .now) (a .leaves .now) (l .loop .j)),
+          ∙ sym (outbox-length sha256 (a .n) (a .own) (a .len) (a .shares .now) (a .leaves .now) (l .loop .j)),
       w .write-entry .kept .1 .1 .1 .1 .1 .1 .0 ∙ l .loop .inv .2,
       w .write-entry .ensures .1
           ∙ ap (λ (o : List ℕ). spliced o (l .loop .at) entry) (l .loop .inv .3)
-          ∙ outbox-spliced (a .n) (a .own) (a .len) (a .shares .now) (a .leaves .now) (a .out .now) (l .loop .j) (l .loop .at)
+          ∙ outbox-spliced sha256 (a .n) (a .own) (a .len) (a .shares .now) (a .leaves .now) (a .out .now) (l .loop .j) (l .loop .at)
           (l .loop .inv .1) (omega (arith, room i)),
     )
 
@@ -92,7 +94,8 @@ returns c =
     let l = c .before in
     let a = l .before .before .before .args in
     let e : l .loop .j ≡ a .n = omega arith in
-    l .loop .inv .3 ∙ ap (λ (k : ℕ). spliced (a .out .now) 0 (outboxUpTo k (a .n) (a .own) (a .len) (a .shares .now) (a .leaves .now))) e
+    l .loop .inv .3
+    ∙ ap (λ (k : ℕ). spliced (a .out .now) 0 (outboxUpTo sha256 k (a .n) (a .own) (a .len) (a .shares .now) (a .leaves .now))) e
 
 pub write-outbox-spec : {M : Type 1} → statement M
 write-outbox-spec =

@@ -1,16 +1,22 @@
 -- `party::Party::agree_bit` meets its contract: each way out is an outcome of the definition. Assumes nothing.
-use mathlib.Core.Path.{_≡_, sym, ap, _∙_}
-use Prim.Native.Nat.{ℕ, _*_, _≤_}
+use mathlib.Core.Path.{_≡_, refl, sym, ap, ap₂, _∙_}
+use mathlib.Core.List.{List, []}
+use Prim.Native.Nat.{ℕ}
 use native.Mathlib.Omega.{arith}
 use borrow.Author.Needs.{needs}
-use lib.ListN.{length, replicate}
+use lib.ListN.{length}
+use Rattle.sha256.specs.Sha256.{sha256}
 use Rattle.limits.specs.Limits.{maxMessage}
+use Rattle.party.specs.State.{nothing, messageIn, atFirst}
 use Rattle.party.specs.Steps.{stepped, stateCause, refused, sent}
 use Rattle.party.specs.Private.{Fit}
 use Rattle.party.specs.declared.Party.{Party}
+use Rattle.party.specs.declared.Stage.the-variants.{First}
 use Rattle.party.specs.declared.Step.{Step}
-use Rattle.party.proofs.Sending.{first-form}
-use Rattle.party.proofs.Agreed.{fit-of, bit-refused, bit-wrong, bit-end, bit-first, bit-silent, end-form}
+use Rattle.party.proofs.Causes.{state-fit, bit-state, bit-wrong, bit-fine}
+use Rattle.party.proofs.Outcomes.{bit-refused, bit-end, bit-first}
+use Rattle.party.proofs.Kept.{length-message, waiting-kept, ended-kept}
+use Rattle.party.proofs.Sending.{outbox-silent}
 use Rattle.party.proofs.Party.agree_bit.Statement.{statement}
 use Rattle.party.proofs.Party.agree_bit.Tie as tie
 
@@ -22,7 +28,7 @@ fine : (e : tie.Else1) → stateCause 2 (Entry e .args .self) ≡ 0
 fine e = sym (e .before .state-cause .ensures) ∙ e .if1 .left
 
 fit : (e : tie.Else1) → Fit (Entry e .args .self)
-fit e = fit-of 2 (Entry e .args .self) (fine e)
+fit e = state-fit 2 (Entry e .args .self) (fine e)
 
 long : (s : tie.Start) → length (s .args .self .message) ≡ maxMessage
 long s = search needs
@@ -38,9 +44,10 @@ returns c =
     let q = c .before .before in
     let a = q .before .before .args in
     let k = q .state-cause .ensures in
+    let same = k ∙ sym (bit-state (a .self) (a .bit) (λ e. c .before .if1 .taken (k ∙ e))) in
     ap (λ (r : Step). stepped r (a .out .now)) (c .refused .ensures)
-    ∙ ap (λ (i : ℕ). refused (a .self) i (a .out .now)) k
-    ∙ sym (bit-refused (a .self) (a .bit) (a .out .now) (λ e. c .before .if1 .taken (k ∙ e)))
+    ∙ ap (λ (i : ℕ). refused (a .self) i (a .out .now)) same
+    ∙ sym (bit-refused sha256 (a .self) (a .bit) (a .out .now) (λ e. c .before .if1 .taken (same ∙ e)))
 
 refused-requires-2 : tie.Need-refused-requires-2
 refused-requires-2 c κs = search needs
@@ -49,8 +56,10 @@ returns-2 : tie.Need-returns-2
 returns-2 c =
     let e = c .before .before in
     let a = Entry e .args in
+    let seven = bit-wrong (a .self) (a .bit) (fine e) (c .before .if2 .taken) in
     ap (λ (r : Step). stepped r (a .out .now)) (c .refused2 .ensures)
-    ∙ sym (bit-wrong (a .self) (a .bit) (a .out .now) (fine e) (c .before .if2 .taken))
+    ∙ ap (λ (i : ℕ). refused (a .self) i (a .out .now)) (sym seven)
+    ∙ sym (bit-refused sha256 (a .self) (a .bit) (a .out .now) (λ q. omega (arith, seven, q)))
 
 ended-requires : tie.Need-ended-requires
 ended-requires c κs = search needs
@@ -70,8 +79,9 @@ returns-3 c =
     let a = Entry e .args in
     let x = a .self in
     w .silent .ensures
-    ∙ ap (λ (y : Party). sent x y (replicate (2 * x .n) 0) (a .out .now)) (d .ended .ensures ∙ end-form (x .n) (x .t) (x .own))
-    ∙ sym (bit-end x (a .bit) (a .out .now) (fine e) (t .if3 .taken))
+    ∙ ap₂ (λ (y : Party) (bs : List ℕ). sent x y bs (a .out .now))
+    (d .ended .ensures ∙ ended-kept (x .n) (x .t) (x .own) nothing _ refl) (sym (outbox-silent sha256 x 0 refl))
+    ∙ sym (bit-end sha256 x (a .bit) (a .out .now) (bit-fine x (a .bit) (fine e) (omega (arith, t .if3 .taken))) (t .if3 .taken))
 
 happy-requires : tie.Need-happy-requires
 happy-requires c κs = fit (c .before .before)
@@ -94,7 +104,8 @@ returns-4 c =
     let o = w .before .before .before .before in
     let e = o .before .before in
     let a = Entry e .args in
-    w .send .ensures ∙ sym (bit-first (a .self) (a .bit) (a .out .now) (fine e) (one o))
+    w .send .ensures
+    ∙ sym (bit-first sha256 (a .self) (a .bit) (a .out .now) (bit-fine (a .self) (a .bit) (fine e) (omega (arith, one o))) (one o))
 
 waiting-requires : tie.Need-waiting-requires
 waiting-requires c κs = fit (c .before .before .before .before .before) .short
@@ -106,6 +117,7 @@ same-length-3 : tie.Need-same-length-3
 same-length-3 c = search needs
 
 returns-5 : tie.Need-returns-5
+unfolding atFirst
 returns-5 c =
     let w = c .before .before in
     let v = w .before .before in
@@ -115,10 +127,13 @@ returns-5 c =
     let e = o .before .before in
     let a = Entry e .args in
     let x = a .self in
-    let held : x .len ≤ length (x .message) = omega (arith, fit e, long (Entry e)) in
     w .silent2 .ensures
-    ∙ ap (λ (y : Party). sent x y (replicate (2 * x .n) 0) (a .out .now)) (v .waiting .ensures ∙ first-form x held)
-    ∙ sym (bit-silent x (a .bit) (a .out .now) (fine e) (one o) (sym (h .happy .ensures) ∙ l .if4 .left))
+    ∙ ap₂ (λ (y : Party) (bs : List ℕ). sent x y bs (a .out .now))
+    (v .waiting .ensures
+    ∙ waiting-kept (x .n) (x .t) (x .own) First _ (messageIn x) _ (x .root) _ [] (x .len) 0 refl
+    (sym (length-message x (omega (arith, fit e .short, long (Entry e))))) refl refl refl)
+    (sym (outbox-silent sha256 x 1 (sym (h .happy .ensures) ∙ l .if4 .left)))
+    ∙ sym (bit-first sha256 x (a .bit) (a .out .now) (bit-fine x (a .bit) (fine e) (omega (arith, one o))) (one o))
 
 pub agree-bit-spec : {M : Type 1} → statement M
 agree-bit-spec =

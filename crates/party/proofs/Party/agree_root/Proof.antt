@@ -1,19 +1,19 @@
 -- `party::Party::agree_root` meets its contract: the causes in their order, and the state that waits. Assumes nothing.
-use mathlib.Core.Path.{_≡_, sym, ap, ap₂, _∙_}
+use mathlib.Core.Path.{_≡_, refl, sym, ap, ap₂, _∙_}
 use mathlib.Core.Bool.{Bool}
 use mathlib.Core.List.{[]}
 use Prim.Native.Nat.{ℕ}
 use native.Mathlib.Omega.{arith}
 use lib.ListN.{length}
 use Rattle.limits.specs.Limits.{maxMessage}
-use Rattle.party.specs.State.{happy, atBit}
+use Rattle.party.specs.State.{messageIn, happy, atBit}
 use Rattle.party.specs.Steps.{stateCause, withRoot, Ballot, ballot}
 use Rattle.party.specs.Private.{Fit}
 use Rattle.party.specs.declared.Party.{Party}
 use Rattle.party.specs.declared.Stage.the-variants.{Bit}
-use Rattle.party.specs.declared.Voted.{Voted}
 use Rattle.party.specs.declared.Vote.the-variants.{Refused, Happy}
-use Rattle.party.proofs.Causes.{fit-of, state-sound, root-state, root-length, root-fine, agree-refused, agree-given}
+use Rattle.party.proofs.Causes.{state-fit, root-state, root-length, root-fine}
+use Rattle.party.proofs.Outcomes.{root-refused, root-given}
 use Rattle.party.proofs.Kept.{put-whole, length-message, waiting-kept}
 use borrow.Author.Needs.{needs}
 use Rattle.sha256.specs.Sha256.{sha256}
@@ -29,7 +29,7 @@ fine : (e : tie.Else1) → stateCause 1 (e .before .before .before .args .self) 
 fine e = sym (e .before .state-cause .ensures) ∙ e .if1 .left
 
 fit : (e : tie.Else1) → Fit (e .before .before .before .args .self)
-fit e = let x = e .before .before .before .args .self in fit-of x (state-sound 1 x (fine e) .0)
+fit e = state-fit 1 (e .before .before .before .args .self) (fine e)
 
 state-cause-requires : tie.Need-state-cause-requires
 state-cause-requires c κs = search needs
@@ -40,7 +40,7 @@ returns c =
     let k = c .before .state-cause .ensures in
     let same = k ∙ sym (root-state (a .self) (a .root .now) (λ q. c .if1 .taken (k ∙ q))) in
     ap {B = Ballot} (λ (i : ℕ). ballot (a .self) (Refused i)) same
-    ∙ sym (agree-refused (a .self) (a .root .now) (λ q. c .if1 .taken (same ∙ q)))
+    ∙ sym (root-refused sha256 (a .self) (a .root .now) (λ q. c .if1 .taken (same ∙ q)))
 
 returns-2 : tie.Need-returns-2
 returns-2 c =
@@ -48,7 +48,7 @@ returns-2 c =
     let a = e .before .before .before .args in
     let seven = root-length (a .self) (a .root .now) (fine e) (c .if2 .taken) in
     ap {B = Ballot} (λ (i : ℕ). ballot (a .self) (Refused i)) (sym seven)
-    ∙ sym (agree-refused (a .self) (a .root .now) (λ q. omega (arith, seven, q)))
+    ∙ sym (root-refused sha256 (a .self) (a .root .now) (λ q. omega (arith, seven, q)))
 
 slice-aggregate-put : tie.Need-slice-aggregate-put
 slice-aggregate-put c = search needs
@@ -83,9 +83,10 @@ returns-3 c =
     let x = s .args .self in
     let z = s .args .root .now in
     let state : w .waiting .result ≡ withRoot x z = w .waiting .ensures
-    ∙ waiting-kept x Bit _ z [] (p .put .ensures .1 ∙ put-whole 32 z (o .if2 .left)) (length-message x (fit e .short) (long s)) in
+    ∙ waiting-kept (x .n) (x .t) (x .own) Bit _ (messageIn x) _ z _ [] (x .len) 0 refl
+    (sym (length-message x (omega (arith, fit e .short, long s)))) (p .put .ensures .1 ∙ put-whole 32 z (o .if2 .left)) refl refl in
     ap₂ {C = Ballot} (λ (y : Party) (h : Bool). ballot y (Happy h)) state (c .happy .ensures ∙ ap (happy sha256) state)
-    ∙ sym (agree-given x z (root-fine x z (fine e) (o .if2 .left)))
+    ∙ sym (root-given sha256 x z (root-fine x z (fine e) (o .if2 .left)))
 
 pub agree-root-spec : {M : Type 1} → statement M
 agree-root-spec =

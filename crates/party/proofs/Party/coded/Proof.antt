@@ -1,21 +1,18 @@
 -- `party::Party::coded` meets its contract: the shares fit their array, so encoding gives them all. Assumes nothing.
-use mathlib.Core.Path.{_≡_, sym, ap, subst, _∙_}
-use mathlib.Core.List.{List, [], _∷_}
-use Prim.Native.Nat.{ℕ, _+_, _-_, _*_}
+use mathlib.Core.Path.{_≡_, sym, ap, _∙_}
+use mathlib.Core.List.{List}
+use Prim.Native.Nat.{ℕ, _+_, _-_, _*_, _≤_}
 use native.Mathlib.Omega.{arith}
-use types.Run.{OneOf, miss}
-use denote.Enum.Declared.{tagOf}
 use lib.ListN.{length, take, replicate, length-replicate}
 use Rattle.limits.specs.Limits.{maxParties, maxMessage, maxShare}
 use Rattle.buffer.specs.Splice.{spliced}
 use Rattle.buffer.specs.Given.{Given, gave}
-use Rattle.buffer.specs.declared.Written.{Written}
 use Rattle.buffer.specs.declared.Written.the-variants.{Done}
-use Rattle.buffer.proofs.Written.{the-type}
-use Rattle.erasure.specs.Coding.{shareLength, shares, encodeOf}
+use Rattle.erasure.specs.Coding.{shareLength, encodeOf}
 use Rattle.party.specs.State.{messageIn}
 use Rattle.party.proofs.Kept.{length-message, take-spliced}
-use Rattle.party.proofs.Shared.{length-shares, shares-bound, encoded, one-of}
+use Rattle.party.proofs.Shared.{shares-bound, encoded, one-of, sharesIn, all-shares}
+use Rattle.party.proofs.Outcomes.{not-done}
 use borrow.Author.Needs.{needs}
 use Rattle.party.proofs.Party.coded.Statement.{statement}
 use Rattle.party.proofs.Party.coded.Tie as tie
@@ -24,20 +21,18 @@ use Rattle.party.proofs.Party.coded.Tie as tie
 long : (s : tie.Start) → length (s .args .self .message) ≡ maxMessage
 long s = search needs
 
+held : (s : tie.Start) → s .args .self .len ≤ length (s .args .self .message)
+held s = omega (arith, long s, s .pre .short)
+
 kept : (s : tie.Start) → length (messageIn (s .args .self)) ≡ s .args .self .len
-kept s = length-message (s .args .self) (s .pre .short) (long s)
+kept s = length-message (s .args .self) (held s)
 
 -- the shares of the message, and the array that they are written to
 abbrev S : tie.Start → List ℕ
-S s = shares (s .args .self .n) (s .args .self .n - s .args .self .t) (messageIn (s .args .self))
+S s = sharesIn (s .args .self)
 
 abbrev Zeros : List ℕ
 Zeros = replicate (2 * (maxShare + maxParties)) 0
-
-long-shares : (s : tie.Start) → let x = s .args .self in length (S s) ≡ x .n * shareLength (x .n - x .t) (x .len)
-long-shares s =
-    let x = s .args .self in
-    length-shares (x .n) (x .n - x .t) (messageIn x) ∙ ap (λ (l : ℕ). x .n * shareLength (x .n - x .t) l) (kept s)
 
 -- what encoding gives
 all : (s : tie.Start) → let x = s .args .self in
@@ -52,7 +47,7 @@ answer d =
     ap (λ (g : Given). g .answer) (d .encode .ensures) ∙ ap (λ (g : Given). g .answer) (all (d .before .before .before .before))
 
 array-share-prefix-message : tie.Need-array-share-prefix-message
-array-share-prefix-message c = omega (arith, long (c .before), c .before .pre .short)
+array-share-prefix-message c = held (c .before)
 
 slice-aggregate-encode : tie.Need-slice-aggregate-encode
 slice-aggregate-encode c = sym (kept (c .before .before))
@@ -69,8 +64,7 @@ enum-known-size c = search needs
 returns : tie.Need-returns
 returns c =
     let d = c .before .before in
-    absurd (miss (0 ∷ 1 ∷ []) 2 tt
-    (subst (λ (y : Written). OneOf (0 ∷ 1 ∷ []) (tagOf the-type y)) (answer d) (c .match .keys2)))
+    absurd (not-done (d .encode .result) (length (S (d .before .before .before .before))) (answer d) (c .match .keys2))
 
 div-t14 : tie.Need-div-t14
 div-t14 c = search needs
@@ -81,7 +75,7 @@ returns-2 c =
     let s = d .before .before .before .before in
     let x = s .args .self in
     let size : c .before .size .given .0 .0 ≡ length (S s) = cc (c .before .size .given .1, answer d) in
-    let whole : c .before .size .given .0 .0 ≡ x .n * shareLength (x .n - x .t) (x .len) = size ∙ long-shares s in
+    let whole : c .before .size .given .0 .0 ≡ x .n * shareLength (x .n - x .t) (x .len) = size ∙ all-shares x (held s) in
     let one = one-of (x .n) (shareLength (x .n - x .t) (x .len)) (c .before .size .given .0 .0) (s .pre .low) whole in (
       omega (arith, whole, shares-bound (x .n) (x .t) (x .len) (omega (arith, s .pre .faults)) (s .pre .high) (s .pre .short)),
       ap (λ (g : Given). take (c .before .size .given .0 .0) (g .buffer)) (d .encode .ensures)

@@ -22,7 +22,8 @@ use Rattle.party.specs.Private.{ClassIs}
 use Rattle.party.specs.declared.Placed.{Placed}
 use Rattle.party.specs.declared.Placed.the-variants.{Nowhere, At as Found}
 use Rattle.party.proofs.Walk.{picked, picked-gathered, picked-none, picked-own, picked-missed, picked-held, found-bounds}
-use Rattle.party.proofs.Walk.{entry-behind}
+use Rattle.party.proofs.Parts.{part-ends}
+use Rattle.party.proofs.Walk.{bodyAt, bodiesAfter, entry-behind}
 use borrow.Author.Needs.{needs}
 use Rattle.sha256.specs.Sha256.{sha256}
 use Rattle.party.proofs.Party.gather.Statement.{statement}
@@ -32,8 +33,8 @@ abbrev Inv-loop : tie.InvT-loop
 Inv-loop inbox entries₀ n own root share held at₀ to₀ j₀ t17 entries at to j =
     (at ≤ length inbox) × (j ≤ n) × (fills (n - j) (drop at inbox) ≡ true)
     × (length entries ≡ length entries₀) × (to ≤ j * (maxShare + 2))
-    × (inboxOf (picked n own root (take held share) 1 (bodies n inbox))
-    ≡ take to entries ++ inboxOf (picked n own root (take held share) (j + 1) (bodies (n - j) (drop at inbox))))
+    × (inboxOf (picked sha256 n own root (take held share) 1 (bodies n inbox))
+    ≡ take to entries ++ inboxOf (picked sha256 n own root (take held share) (j + 1) (bodies (n - j) (drop at inbox))))
 
 abbrev μ-loop : tie.MeasureT-loop
 μ-loop inbox entries₀ n own root share held at₀ to₀ j₀ t17 entries at to j = n - j
@@ -71,14 +72,14 @@ O c = c .before .loop .entries
 
 -- the packet of the entry, the shares still to be gathered, and those behind the entry's
 abbrev P : tie.In-loop Inv-loop μ-loop → List ℕ
-P c = take (size (drop (At c) (S c))) (drop (At c + 2) (S c))
+P c = bodyAt (At c) (S c)
 
 abbrev G : tie.In-loop Inv-loop μ-loop → List (List ℕ)
-G c = picked (N c) (Own c) (Z c) (X c) (J c + 1) (bodies (N c - J c) (drop (At c) (S c)))
+G c = picked sha256 (N c) (Own c) (Z c) (X c) (J c + 1) (bodies (N c - J c) (drop (At c) (S c)))
 
 abbrev R : tie.In-loop Inv-loop μ-loop → List (List ℕ)
 R c =
-    picked (N c) (Own c) (Z c) (X c) (J c + 1 + 1) (bodies (N c - (J c + 1)) (drop (At c + 2 + size (drop (At c) (S c))) (S c)))
+    picked sha256 (N c) (Own c) (Z c) (X c) (J c + 1 + 1) (bodiesAfter (N c - (J c + 1)) (At c) (S c))
 
 -- the arrays of the state
 share-long : (st : tie.Start Inv-loop μ-loop) → length (st .args .self .share) ≡ maxShare
@@ -112,7 +113,7 @@ turn : (d : tie.In-loop Inv-loop μ-loop) (k r : ℕ) (o p : List ℕ) → k ≡
 turn d k r o p ek er eo short g =
     let l = d .before .loop in
     let fits = room d (length p) short in
-    let all : List ℕ = inboxOf (picked (N d) (Own d) (Z d) (X d) 1 (bodies (N d) (S d))) in (
+    let all : List ℕ = inboxOf (picked sha256 (N d) (Own d) (Z d) (X d) 1 (bodies (N d) (S d))) in (
       omega (arith, entry d, ek),
       omega arith,
       rw ek (entry d .tail),
@@ -197,7 +198,7 @@ loop-again c =
     let st = Entry d in
     turn d (k .result) (w .put-entry .result) _ (X d) (k .ensures) (w .put-entry .ensures .0) (w .put-entry .ensures .1)
     (omega (arith, held-long st, st .pre .0 .few))
-    (picked-own (N d) (Own d) (Z d) (X d) (N d - (J d + 1)) (N d - J d) (J d + 1) (At d) (S d) (omega arith) (b .if1 .taken))
+    (picked-own sha256 (N d) (Own d) (Z d) (X d) (N d - (J d + 1)) (N d - J d) (J d + 1) (At d) (S d) (omega arith) (b .if1 .taken))
 
 valid-at-requires : tie.Need-valid-at-requires Inv-loop μ-loop
 valid-at-requires c κs =
@@ -240,7 +241,7 @@ loop-again-2 c =
     let k = b .before .size-at in
     turn d (k .result) (w .put-entry2 .result) _ [] (k .ensures) (w .put-entry2 .ensures .0) (w .put-entry2 .ensures .1)
     (omega arith)
-    (picked-missed (N d) (Own d) (Z d) (X d) (N d - (J d + 1)) (N d - J d) (J d + 1) (At d) (S d) (omega arith) (b .if1 .left)
+    (picked-missed sha256 (N d) (Own d) (Z d) (X d) (N d - (J d + 1)) (N d - J d) (J d + 1) (At d) (S d) (omega arith) (b .if1 .left)
     (answered v Nowhere (e .enum-told .given .1)))
 
 add-end : tie.Need-add-end Inv-loop μ-loop
@@ -276,9 +277,9 @@ loop-again-3 c =
     let g = p .place .given .0 in
     turn d (k .result) (w .put-entry3 .result) _ (Y p) (k .ensures) (w .put-entry3 .ensures .0) (w .put-entry3 .ensures .1)
     (short p)
-    (picked-held (N d) (Own d) (Z d) (X d) (N d - (J d + 1)) (N d - J d) (J d + 1) (At d) (S d) (omega arith) (b .if1 .left)
+    (picked-held sha256 (N d) (Own d) (Z d) (X d) (N d - (J d + 1)) (N d - J d) (J d + 1) (At d) (S d) (omega arith) (b .if1 .left)
     (g .0) (g .1 .0) (g .1 .1 .0) (there p)
-    ∙ ap (λ (i : ℕ). take i (drop (g .0) (S d)) ∷ R d) (sym (add-sub-cancel-left (g .0) (g .1 .0))))
+    ∙ ap (λ (y : List ℕ). y ∷ R d) (sym (part-ends (S d) (g .0) (g .1 .0))))
 
 same-length : tie.Need-same-length Inv-loop μ-loop
 same-length c = c .before .loop .inv .3
@@ -290,9 +291,9 @@ returns c =
     let x = st .args .self in
     let s : List ℕ = st .args .inbox .now in (
       omega (arith, l .inv .1, l .inv .3, l .inv .4, st .pre .2, st .pre .0 .high),
-      sym (ap inboxOf (sym (picked-gathered x 1 (bodies (x .n) s))) ∙ l .inv .5
+      sym (ap inboxOf (sym (picked-gathered sha256 x 1 (bodies (x .n) s))) ∙ l .inv .5
           ∙ ap (λ (y : List ℕ). take (l .to) (l .entries) ++ y)
-          (picked-none (x .n) (x .own) (x .root) (shareHeld x) (x .n - l .j) (l .j + 1) (l .at) s (omega arith))
+          (picked-none sha256 (x .n) (x .own) (x .root) (shareHeld x) (x .n - l .j) (l .j + 1) (l .at) s (omega arith))
           ∙ append-nil (take (l .to) (l .entries))),
     )
 

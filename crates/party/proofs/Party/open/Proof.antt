@@ -1,6 +1,6 @@
 -- `party::Party::open` meets its contract: a refusal with the blank state, or the message kept and its root. Assumes nothing.
-use mathlib.Core.Path.{_≡_, sym, ap, ap₂, _∙_}
-use mathlib.Core.List.{List}
+use mathlib.Core.Path.{_≡_, refl, sym, ap, ap₂, _∙_}
+use mathlib.Core.List.{List, []}
 use Prim.Native.Nat.{ℕ, _-_}
 use native.Mathlib.Omega.{arith}
 use lib.ListN.{length, take}
@@ -8,12 +8,14 @@ use Rattle.limits.specs.Limits.{maxMessage}
 use Rattle.limits.proofs.Group.{group-of}
 use Rattle.erasure.specs.Coding.{shares}
 use Rattle.merkle.specs.Shares.{blank, leavesOf, rootOf}
-use Rattle.party.specs.State.{messageRoot}
+use Rattle.party.specs.State.{atRoot, messageRoot}
 use Rattle.party.specs.Steps.{openCause}
+use Rattle.party.specs.declared.Stage.the-variants.{Root}
 use Rattle.party.specs.declared.Party.{Party}
 use Rattle.party.specs.declared.Opened.{Opened}
-use Rattle.party.proofs.Causes.{open-bounds, open-refused, open-given}
-use Rattle.party.proofs.Kept.{put-padded, take-padded, root-kept}
+use Rattle.party.proofs.Causes.{open-bounds}
+use Rattle.party.proofs.Outcomes.{open-refused, open-given}
+use Rattle.party.proofs.Kept.{put-padded, take-padded, waiting-kept}
 use borrow.Author.Needs.{needs}
 use Rattle.sha256.specs.Sha256.{sha256}
 use Rattle.party.proofs.Party.open.Statement.{statement}
@@ -36,7 +38,7 @@ returns c =
     let a = d .before .before .args in
     let k = d .open-cause .ensures in
     ap₂ {C = Opened} (λ (x : Party) (i : ℕ). record { state = x; cause = i; root = blank }) (c .blank .ensures) k
-    ∙ sym (open-refused (a .n) (a .t) (a .own) (a .message .now) (λ q. c .before .if1 .taken (k ∙ q)))
+    ∙ sym (open-refused sha256 (a .n) (a .t) (a .own) (a .message .now) (λ q. c .before .if1 .taken (k ∙ q)))
 
 slice-aggregate-put : tie.Need-slice-aggregate-put
 slice-aggregate-put c = search needs
@@ -64,7 +66,7 @@ root-requires : tie.Need-root-requires
 root-requires c κs = search needs
 
 returns-2 : tie.Need-returns-2
-unfolding messageRoot
+unfolding messageRoot atRoot
 returns-2 c =
     let l = c .before .before in
     let p = l .before .before in
@@ -74,12 +76,12 @@ returns-2 c =
     let b = open-bounds (a .n) (a .t) (a .own) (length m) (fine e) in
     let k = p .put .ensures .1 ∙ put-padded maxMessage m (b .3) in
     ap₂ {C = Opened} (λ (x : Party) (r : List ℕ). record { state = x; cause = 0; root = r })
-    (root-kept (a .n) (a .t) (a .own) m _ k)
+    (waiting-kept (a .n) (a .t) (a .own) Root _ m blank blank _ [] (length m) 0 k refl refl refl refl)
     (c .root .ensures
     ∙ ap (rootOf sha256 (a .n)) (l .leaves .ensures
     ∙ ap (λ (bs : List ℕ). leavesOf sha256 (a .n) (shares (a .n) (a .n - a .t) (take (length m) bs))) k
     ∙ ap (λ (bs : List ℕ). leavesOf sha256 (a .n) (shares (a .n) (a .n - a .t) bs)) (take-padded maxMessage m)))
-    ∙ sym (open-given (a .n) (a .t) (a .own) m (fine e))
+    ∙ sym (open-given sha256 (a .n) (a .t) (a .own) m (fine e))
 
 pub open-spec : {M : Type 1} → statement M
 open-spec =

@@ -6,9 +6,9 @@ use Prim.Native.Nat.{ℕ, _+_, _-_, _*_, _≤_}
 use native.Mathlib.Nat.{zero-add}
 use native.Mathlib.Omega.{arith}
 use borrow.Author.Needs.{needs}
-use lib.ListN.{length, take, drop, replicate, length-take}
+use lib.ListN.{length, take, drop, length-take}
 use Rattle.sha256.specs.Sha256.{sha256}
-use Rattle.limits.specs.Limits.{maxMessage, maxShare}
+use Rattle.limits.specs.Limits.{maxMessage}
 use Rattle.buffer.specs.Given.{gave, written}
 use Rattle.buffer.specs.declared.Written.the-variants as given
 use Rattle.erasure.specs.Coding.{share}
@@ -18,11 +18,13 @@ use Rattle.packet.proofs.Reading.{count-hashes}
 use Rattle.party.specs.State.{messageIn, atSecond}
 use Rattle.party.specs.Steps.{Stepped, gives, sent, packetFor, ownRelay}
 use Rattle.party.specs.declared.Party.{Party}
-use Rattle.party.proofs.Outbox.{never-refused, share-inside, share-taken}
-use Rattle.party.proofs.Sending.{sharesIn, length-message, all-shares, own-share}
+use Rattle.party.specs.declared.Stage.the-variants.{Second}
+use Rattle.party.proofs.Parts.{part-ends, part-part}
+use Rattle.party.proofs.Kept.{length-message, waiting-kept}
+use Rattle.party.proofs.Shared.{share-inside, sharesIn, all-shares, own-share}
+use Rattle.party.proofs.Outbox.{never-refused}
 use Rattle.party.proofs.Relay.{relay-alone, relay-other, relay-written}
-use Rattle.party.proofs.Valid.{part-part}
-use Rattle.party.proofs.Taking.{sent-nothing, sent-done, sent-short, at-second}
+use Rattle.party.proofs.Outcomes.{sent-nothing, sent-done, sent-short}
 use Rattle.party.proofs.Party.relay_own.Statement.{statement}
 use Rattle.party.proofs.Party.relay_own.Tie as tie
 
@@ -40,10 +42,13 @@ held : (st : tie.Start) → X st .len ≤ length (X st .message)
 held st = omega (arith, st .pre .short, long st)
 
 next : (v : tie.After-waiting) → v .waiting .result ≡ Next (v .before .before .before)
+unfolding atSecond
 next v =
     let st = v .before .before .before in
-    at-second (X st) (v .waiting .result) (X st .root) (replicate maxShare 0) [] 0 (v .waiting .ensures) (length-message (X st) (held st)) refl
-    refl
+    let x = X st in
+    v .waiting .ensures
+    ∙ waiting-kept (x .n) (x .t) (x .own) Second _ (messageIn x) _ (x .root) _ [] (x .len) 0 refl (sym (length-message x (held st)))
+    refl refl refl
 
 -- the function's entry, from where the shares are made
 abbrev Entry : tie.After-coded → tie.Start
@@ -71,7 +76,7 @@ lies q =
     let fit = Entry q .pre in
     let r = q .coded .result in
     let from = (x .own - 1) * r .len in
-    share-taken (r .bytes) from (r .len)
+    part-ends (r .bytes) from (r .len)
     ∙ ap (λ (i : ℕ). take (r .len) (drop i (r .bytes))) (sym (zero-add from))
     ∙ sym (part-part from (r .len) (r .size) 0 (r .bytes) (inside q))
     ∙ ap (λ (l : List ℕ). take (r .len) (drop from l)) (q .coded .ensures .1)
@@ -103,14 +108,14 @@ wrote w =
     w .write .ensures
     ∙ ap₂ (λ (y : List ℕ) (p : List (List ℕ)). writeOf (x .n) (x .own) y p count (Out st)) (lies (Q w))
     (Way w .path .ensures ∙ ap (pathOf sha256 (x .n) (x .own)) (Way w .before .before .leaves .ensures))
-    ∙ relay-written x fit (held st) count (h .2) (Out st)
+    ∙ relay-written sha256 x fit (held st) count (h .2) (Out st)
 
 relays : (w : tie.After-write) → let st = Entry (Q w) in
     sent (X st) (Next st) (packetFor sha256 (X st) (X st .own)) (Out st)
     ≡ sent (X st) (Next st) (ownRelay sha256 (X st)) (Out st)
 relays w =
     let st = Entry (Q w) in
-    ap (λ (bs : List ℕ). sent (X st) (Next st) bs (Out st)) (sym (relay-other (X st) (Q w .before .if1 .left)))
+    ap (λ (bs : List ℕ). sent (X st) (Next st) bs (Out st)) (sym (relay-other sha256 (X st) (Q w .before .if1 .left)))
 
 waiting-requires : tie.Need-waiting-requires
 waiting-requires c κs = search needs
@@ -120,7 +125,7 @@ returns c =
     let v = c .before in
     let st = v .before .before .before in
     ap {B = Stepped} (λ (y : Party). gives y (given.Done 0) (Out st)) (next v)
-    ∙ sym (ap (λ (bs : List ℕ). sent (X st) (Next st) bs (Out st)) (relay-alone (X st) (c .if1 .taken))
+    ∙ sym (ap (λ (bs : List ℕ). sent (X st) (Next st) bs (Out st)) (relay-alone sha256 (X st) (c .if1 .taken))
     ∙ sent-nothing (X st) (Next st) (Out st))
 
 coded-requires : tie.Need-coded-requires
@@ -185,7 +190,9 @@ returns-3 : tie.Need-returns-3
 returns-3 c =
     let w = c .before .before .before in
     let st = Entry (Q w) in
-    sent-short (X st) (Next st) (packetFor sha256 (X st) (X st .own)) (Out st) (O w) (w .write .result) (wrote w) (c .match2 .keys2) ∙ relays w
+    sent-short (X st) (Next st) (packetFor sha256 (X st) (X st .own)) (Out st) (w .write .result) (O w) (wrote w)
+    (c .match2 .keys2)
+    ∙ relays w
 
 same-length-2 : tie.Need-same-length-2
 same-length-2 c = search needs
@@ -195,7 +202,8 @@ returns-4 c =
     let w = c .before .before .before .before in
     let st = Entry (Q w) in
     ap {B = Stepped} (λ (y : Party). gives y (w .write .result) (O w)) (next (Q w .before .before))
-    ∙ sent-done (X st) (Next st) (packetFor sha256 (X st) (X st .own)) (Out st) (O w) (w .write .result) (wrote w) _ (c .enum-told2 .given .1)
+    ∙ sent-done (X st) (Next st) (packetFor sha256 (X st) (X st .own)) (Out st) (w .write .result) (O w) (wrote w) _
+    (c .enum-told2 .given .1)
     ∙ relays w
 
 pub relay-own-spec : {M : Type 1} → statement M

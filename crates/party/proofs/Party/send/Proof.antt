@@ -1,7 +1,7 @@
 -- `party::Party::send` meets its contract: the bytes written are those of the definition's outbox, whose length was counted before.
 -- Assumes nothing.
-use mathlib.Core.Path.{_≡_, sym, ap, ap₂, _∙_}
-use mathlib.Core.List.{List}
+use mathlib.Core.Path.{_≡_, refl, sym, ap, ap₂, _∙_}
+use mathlib.Core.List.{List, []}
 use Prim.Native.Nat.{ℕ, _*_, _≤_}
 use native.Mathlib.Omega.{arith}
 use borrow.Author.Needs.{needs}
@@ -9,13 +9,19 @@ use lib.ListN.{length, take, length-take}
 use Rattle.sha256.specs.Sha256.{sha256}
 use Rattle.limits.specs.Limits.{maxMessage, maxShare}
 use Rattle.buffer.specs.Splice.{spliced}
-use Rattle.buffer.specs.declared.Written.the-variants.{Done}
+use Rattle.buffer.specs.Given.{gave}
+use Rattle.buffer.specs.declared.Written.the-variants.{Short, Done}
+use Rattle.buffer.proofs.Given.{written-short, written-done}
+use Rattle.sha256.proofs.Laws.{sha256-length}
 use Rattle.party.specs.State.{messageIn, atFirst}
-use Rattle.party.specs.Steps.{stepped, leavesIn, outboxOf}
+use Rattle.party.specs.Steps.{gives, leavesIn, outboxOf}
 use Rattle.party.specs.Private.{outboxUpTo, outboxLength}
+use Rattle.party.specs.declared.Stage.the-variants.{First}
 use Rattle.party.specs.declared.Party.{Party}
-use Rattle.party.proofs.Sending.{sizeIn, sharesIn, all-shares, outbox-counted, outbox-sent, first-form, share-short}
-use Rattle.party.proofs.Sending.{sent-short, sent-done}
+use Rattle.party.proofs.Kept.{length-message, waiting-kept}
+use Rattle.party.proofs.Shared.{sizeIn, sharesIn, share-short, all-shares}
+use Rattle.party.proofs.Sending.{outbox-counted, outbox-sent}
+use Rattle.party.proofs.Outcomes.{sent-given}
 use Rattle.party.proofs.Party.send.Statement.{statement}
 use Rattle.party.proofs.Party.send.Tie as tie
 
@@ -29,6 +35,10 @@ long s = search needs
 held : (s : tie.Start) → s .args .self .len ≤ length (s .args .self .message)
 held s = omega (arith, s .pre .0, long s)
 
+-- the state at the next stage
+abbrev Next : Party → Party
+Next x = atFirst (x .n) (x .t) (x .own) (messageIn x) (x .root)
+
 -- the length of a share, and that of all
 some : (q : tie.After-coded) → (1 ≤ q .coded .result .len) × (q .coded .result .len ≤ maxShare)
 some q = rw (q .coded .ensures .2) (share-short (Entry q .args .self) (Entry q .pre .0))
@@ -41,13 +51,13 @@ all q =
 
 -- the outbox as it is written is that of the definition
 written : (q : tie.After-coded) (leaves : List (List ℕ)) → leaves ≡ leavesIn sha256 (Entry q .args .self) → let x = Entry q .args .self in
-    outboxUpTo (x .n) (x .n) (x .own) (q .coded .result .len) (take (q .coded .result .size) (q .coded .result .bytes)) leaves
+    outboxUpTo sha256 (x .n) (x .n) (x .own) (q .coded .result .len) (take (q .coded .result .size) (q .coded .result .bytes)) leaves
     ≡ outboxOf sha256 x 1
 written q leaves e =
     let x = Entry q .args .self in
-    ap₂ (λ (s : ℕ) (l : List ℕ). outboxUpTo (x .n) (x .n) (x .own) s l leaves) (q .coded .ensures .2) (q .coded .ensures .1)
-    ∙ ap (outboxUpTo (x .n) (x .n) (x .own) (sizeIn x) (sharesIn x)) e
-    ∙ outbox-sent x (held (Entry q)) (Entry q .pre .1)
+    ap₂ (λ (s : ℕ) (l : List ℕ). outboxUpTo sha256 (x .n) (x .n) (x .own) s l leaves) (q .coded .ensures .2) (q .coded .ensures .1)
+    ∙ ap (outboxUpTo sha256 (x .n) (x .n) (x .own) (sizeIn x) (sharesIn x)) e
+    ∙ outbox-sent sha256 x (held (Entry q)) (Entry q .pre .1)
 
 -- the length counted is its own
 counted : (o : tie.After-outbox-len) → o .outbox-len .result ≡ length (outboxOf sha256 (Entry (o .before .before) .args .self) 1)
@@ -58,9 +68,9 @@ counted o =
     let fit = st .pre .0 in
     o .outbox-len .ensures
     ∙ ap (outboxLength (x .n) (x .n) (x .own)) (q .coded .ensures .2)
-    ∙ sym (outbox-counted (x .n) (x .own) (sizeIn x) (sharesIn x) (fit .low) (fit .high) (share-short x fit .1)
+    ∙ sym (outbox-counted sha256 sha256-length (x .n) (x .own) (sizeIn x) (sharesIn x) (fit .low) (fit .high) (share-short x fit .1)
     (all-shares x (held st)) (x .n) (omega arith))
-    ∙ ap length (outbox-sent x (held st) (st .pre .1))
+    ∙ ap length (outbox-sent sha256 x (held st) (st .pre .1))
 
 coded-requires : tie.Need-coded-requires
 coded-requires c κs = search needs
@@ -76,8 +86,10 @@ returns c =
     let o = c .before in
     let a = Entry (o .before .before) .args in
     let x = a .self in
-    sent-short x (atFirst (x .n) (x .t) (x .own) (messageIn x) (x .root)) (outboxOf sha256 x 1) (a .out .now) (o .outbox-len .result) (counted o)
-    (c .if1 .taken)
+    let bs = outboxOf sha256 x 1 in
+    sent-given x (Next x) bs (a .out .now) (Short (o .outbox-len .result)) (a .out .now)
+    (ap (λ (k : ℕ). gave (Short k) (a .out .now)) (counted o)
+    ∙ sym (written-short bs (a .out .now) (omega (arith, counted o, c .if1 .taken))))
 
 leaves-requires : tie.Need-leaves-requires
 leaves-requires c κs = search needs
@@ -108,6 +120,7 @@ same-length : tie.Need-same-length
 same-length c = search needs
 
 returns-2 : tie.Need-returns-2
+unfolding atFirst
 returns-2 c =
     let w = c .before .before .before in
     let v = w .before .before .before .before in
@@ -116,11 +129,15 @@ returns-2 c =
     let st = Entry q in
     let a = st .args in
     let x = a .self in
-    ap₂ (λ (y : Party) (d : List ℕ). stepped (record { state = y; answer = Done (o .outbox-len .result) }) d)
-    (c .waiting .ensures ∙ first-form x (held st))
+    let bs = outboxOf sha256 x 1 in
+    ap₂ (λ (y : Party) (d : List ℕ). gives y (Done (o .outbox-len .result)) d)
+    (c .waiting .ensures
+    ∙ waiting-kept (x .n) (x .t) (x .own) First _ (messageIn x) _ (x .root) _ [] (x .len) 0 refl (sym (length-message x (held st)))
+    refl refl refl)
     (w .write-outbox .ensures ∙ ap (spliced (a .out .now) 0) (written q (v .leaves .result) (v .leaves .ensures)))
-    ∙ sent-done x (atFirst (x .n) (x .t) (x .own) (messageIn x) (x .root)) (outboxOf sha256 x 1) (a .out .now) (o .outbox-len .result) (counted o)
-    (v .before .if1 .left)
+    ∙ sent-given x (Next x) bs (a .out .now) (Done (o .outbox-len .result)) (spliced (a .out .now) 0 bs)
+    (ap (λ (k : ℕ). gave (Done k) (spliced (a .out .now) 0 bs)) (counted o)
+    ∙ sym (written-done bs (a .out .now) (omega (arith, counted o, v .before .if1 .left))))
 
 pub send-spec : {M : Type 1} → statement M
 send-spec =

@@ -10,7 +10,8 @@ use Rattle.party.specs.State.{settled}
 use Rattle.party.specs.Steps.{Ending, givesEnd}
 use Rattle.party.specs.declared.Party.{Party}
 use Rattle.party.specs.declared.Settled.the-variants.{Message}
-use Rattle.party.proofs.Kept.{put-padded, ended-kept, ending-short, ending-done}
+use Rattle.party.proofs.Kept.{put-padded, ended-kept}
+use Rattle.party.proofs.Outcomes.{ending-short, ending-done}
 use borrow.Author.Needs.{needs}
 use Rattle.party.proofs.Party.settle.Statement.{statement}
 use Rattle.party.proofs.Party.settle.Tie as tie
@@ -42,11 +43,12 @@ returns-2 c =
     let e = q .before .before in
     let s = e .before .before .before in
     let a = s .args in
+    let x = a .self in
     let m = a .message .now in
-    ap₂ {C = Ending} (λ (x : Party) (o : List ℕ). givesEnd x (Message (length m)) o)
-    (c .ended .ensures ∙ ended-kept (a .self) (settled m) _ (p .put2 .ensures .1 ∙ put-padded maxMessage m (s .pre)))
+    ap₂ {C = Ending} (λ (y : Party) (o : List ℕ). givesEnd y (Message (length m)) o)
+    (c .ended .ensures ∙ ended-kept (x .n) (x .t) (x .own) (settled m) _ (p .put2 .ensures .1 ∙ put-padded maxMessage m (s .pre)))
     (q .put .ensures .1 ∙ put-fits (a .out .now) 0 m (omega arith))
-    ∙ sym (ending-done (a .self) m (a .out .now) (e .if1 .left))
+    ∙ sym (ending-done x m (a .out .now) (e .if1 .left))
 
 pub settle-spec : {M : Type 1} → statement M
 settle-spec =

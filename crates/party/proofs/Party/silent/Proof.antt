@@ -2,11 +2,14 @@
 use mathlib.Core.Path.{sym, ap, _∙_}
 use mathlib.Core.List.{List}
 use Prim.Native.Nat.{ℕ, _*_}
+use native.Mathlib.Omega.{arith}
 use borrow.Author.Needs.{needs}
 use lib.ListN.{replicate, length-replicate}
-use Rattle.buffer.specs.declared.Written.the-variants.{Done}
-use Rattle.party.specs.Steps.{stepped}
-use Rattle.party.proofs.Sending.{sent-short, sent-done}
+use Rattle.buffer.specs.Splice.{spliced}
+use Rattle.buffer.specs.Given.{gave}
+use Rattle.buffer.specs.declared.Written.the-variants.{Short, Done}
+use Rattle.buffer.proofs.Given.{written-short, written-done}
+use Rattle.party.proofs.Outcomes.{sent-given}
 use Rattle.party.proofs.Party.silent.Statement.{statement}
 use Rattle.party.proofs.Party.silent.Tie as tie
 
@@ -17,7 +20,10 @@ returns : tie.Need-returns
 returns c =
     let a = c .before .before .before .args in
     let need = 2 * a .self .n in
-    sent-short (a .self) (a .next) (replicate need 0) (a .out .now) need (sym (length-replicate {A = ℕ} need 0)) (c .if1 .taken)
+    let zeros : List ℕ = replicate need 0 in
+    let e = length-replicate {A = ℕ} need 0 in
+    sent-given (a .self) (a .next) zeros (a .out .now) (Short need) (a .out .now)
+    (ap (λ (k : ℕ). gave (Short k) (a .out .now)) (sym e) ∙ sym (written-short zeros (a .out .now) (omega (arith, e, c .if1 .taken))))
 
 write-silence-requires : tie.Need-write-silence-requires
 write-silence-requires c κs = search needs
@@ -31,8 +37,11 @@ returns-2 c =
     let e = w .before .before in
     let a = e .before .before .before .args in
     let need = 2 * a .self .n in
-    ap (λ (d : List ℕ). stepped (record { state = a .next; answer = Done need }) d) (w .write-silence .ensures)
-    ∙ sent-done (a .self) (a .next) (replicate need 0) (a .out .now) need (sym (length-replicate {A = ℕ} need 0)) (e .if1 .left)
+    let zeros : List ℕ = replicate need 0 in
+    let l = length-replicate {A = ℕ} need 0 in
+    sent-given (a .self) (a .next) zeros (a .out .now) (Done need) _
+    (ap (gave (Done need)) (w .write-silence .ensures) ∙ ap (λ (k : ℕ). gave (Done k) (spliced (a .out .now) 0 zeros)) (sym l)
+    ∙ sym (written-done zeros (a .out .now) (omega (arith, l, e .if1 .left))))
 
 pub silent-spec : {M : Type 1} → statement M
 silent-spec = tie.close (tie.spec mul-need returns write-silence-requires same-length returns-2)

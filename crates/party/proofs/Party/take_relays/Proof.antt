@@ -1,6 +1,6 @@
 -- `party::Party::take_relays` meets its contract: each return is one outcome of step 5, by the cause, by whether the party is
 -- happy and by the answer of rebuilding, which takes the entries that were gathered apart again. Assumes nothing.
-use mathlib.Core.Path.{_≡_, sym, ap, _∙_}
+use mathlib.Core.Path.{_≡_, refl, sym, ap, _∙_}
 use mathlib.Core.List.{List}
 use Prim.Native.Nat.{ℕ, zero, _+_, _-_, _*_, _≤_}
 use native.Mathlib.Omega.{arith}
@@ -10,17 +10,15 @@ use Rattle.limits.specs.Limits.{maxMessage, maxShare, maxParties}
 use Rattle.buffer.specs.Entries.{bodies}
 use Rattle.buffer.specs.Given.{gave}
 use Rattle.erasure.specs.Rebuild.{Recovered, present, recovered, answered, rebuildOf}
-use Rattle.merkle.specs.Shares.{blank}
-use Rattle.party.specs.State.{Result, nothing, settled, messageIn, atEnd, happy}
+use Rattle.party.specs.State.{Result, nothing, settled, messageIn, happy}
 use Rattle.party.specs.Steps.{inboxCause, gathered, rebuilt, Ending, givesEnd, ending, takeRelaysOf}
 use Rattle.party.specs.Private.{Fit}
 use Rattle.party.specs.declared.Party.{Party}
-use Rattle.party.specs.declared.Outcome.the-variants.{Nothing}
-use Rattle.party.specs.declared.Stage.the-variants as stage
 use Rattle.party.specs.declared.Settled.the-variants as answer
-use Rattle.party.proofs.Taking.{taken-fit, taken-fills, relays-refused, relays-happy, relays-rebuilt, rebuilt-of}
-use Rattle.party.proofs.Taking.{short-recovered}
-use Rattle.party.proofs.Taking.{Short, rebuilt-done, rebuilt-none}
+use Rattle.party.proofs.Causes.{state-fit, inbox-sound}
+use Rattle.party.proofs.Outcomes.{relays-refused, relays-happy, relays-rebuilt}
+use Rattle.party.proofs.Kept.{length-message, ended-kept}
+use Rattle.party.proofs.Taking.{rebuilt-of, Short, short-recovered, rebuilt-done, rebuilt-none}
 use borrow.Author.Needs.{needs}
 use Rattle.sha256.specs.Sha256.{sha256}
 use Rattle.party.proofs.Party.take_relays.Statement.{statement}
@@ -43,16 +41,14 @@ fine : (e : tie.Else1) → inboxCause 4 (X (Entry e)) (S (Entry e)) ≡ 0
 fine e = sym (e .before .inbox-cause .ensures) ∙ e .if1 .left
 
 fit : (e : tie.Else1) → Fit (X (Entry e))
-fit e = taken-fit 4 (X (Entry e)) (S (Entry e)) (fine e)
+fit e = let x = X (Entry e) in state-fit 4 x (inbox-sound 4 x (S (Entry e)) (fine e) .0)
 
 long : (st : tie.Start) → length (X st .message) ≡ maxMessage
 long st = search needs
 
 -- the message held
 held : (e : tie.Else1) → length (messageIn (X (Entry e))) ≡ X (Entry e) .len
-held e =
-    let x = X (Entry e) in
-    length-take-le (x .len) (x .message) (omega (arith, long (Entry e), fit e .short))
+held e = length-message (X (Entry e)) (omega (arith, long (Entry e), fit e .short))
 
 -- a party that is not happy: what is recovered of the shares gathered
 abbrev E : tie.After-rebuild → tie.Else1
@@ -67,7 +63,7 @@ rebuilding d =
     let e = E d in
     let st = Entry e in
     let u = d .before .before .before .before .before .before in
-    relays-rebuilt (X st) (S st) (Out st) (fine e) (sym (u .before .happy .ensures) ∙ u .if2 .left)
+    relays-rebuilt sha256 (X st) (S st) (Out st) (fine e) (sym (u .before .happy .ensures) ∙ u .if2 .left)
 
 -- the entries, the buffer after rebuilding, and what the answer says
 abbrev O : tie.After-rebuild → List ℕ
@@ -86,7 +82,7 @@ asked d = d .rebuild .ensures
 told : (d : tie.After-rebuild) → gave (d .rebuild .result) (O d) ≡ answered (A (Entry (E d))) Zeros
 told d =
     let st = Entry (E d) in
-    asked d ∙ rebuilt-of (X st) (S st) (Es d) Zeros (fit (E d)) (d .before .before .before .before .gather .ensures .1)
+    asked d ∙ rebuilt-of sha256 (X st) (S st) (Es d) Zeros (fit (E d)) (d .before .before .before .before .gather .ensures .1)
 
 short : (st : tie.Start) → Short (A st)
 short st = short-recovered (X st .n - X st .t) (present 1 (gathered sha256 (X st) 1 (bodies (X st .n) (S st))))
@@ -102,23 +98,6 @@ found k =
 exact : (k : tie.After-len) → let d = k .before .before .before in let l = k .len .given .0 .0 in length (take l (O d)) ≡ l
 exact k = let d = k .before .before .before in length-take-le (k .len .given .0 .0) (O d) (found k .2)
 
--- the state that an ended party without a message has
-at-end : (x y : Party) (out : List ℕ)
-    → y ≡ record {
-      n = x .n;
-      t = x .t;
-      own = x .own;
-      stage = stage.Ended Nothing;
-      message = replicate maxMessage 0;
-      len = 0;
-      root = blank;
-      share = replicate maxShare 0;
-      held = 0;
-    }
-    → _≡_ {A = Ending} (givesEnd y answer.Nothing out) (ending x nothing out)
-unfolding atEnd
-at-end x y out e = ap {B = Ending} (λ (w : Party). givesEnd w answer.Nothing out) e
-
 inbox-cause-requires : tie.Need-inbox-cause-requires
 inbox-cause-requires c κs = search needs
 
@@ -126,7 +105,7 @@ returns : tie.Need-returns
 returns c =
     let st = c .before .before .before .before in
     let k = c .before .inbox-cause .ensures in
-    sym (relays-refused (X st) (S st) (Out st) (λ q. c .if1 .taken (k ∙ q))
+    sym (relays-refused sha256 (X st) (S st) (Out st) (λ q. c .if1 .taken (k ∙ q))
     ∙ ap {B = Ending} (λ (i : ℕ). givesEnd (X st) (answer.Refused i) (Out st)) (sym k))
 
 happy-requires : tie.Need-happy-requires
@@ -154,7 +133,7 @@ returns-2 c =
     let u = w .before .before .before .before in
     let e = u .before .before in
     let st = Entry e in
-    w .settle .ensures ∙ sym (relays-happy (X st) (S st) (Out st) (fine e) (sym (u .before .happy .ensures) ∙ u .if2 .taken))
+    w .settle .ensures ∙ sym (relays-happy sha256 (X st) (S st) (Out st) (fine e) (sym (u .before .happy .ensures) ∙ u .if2 .taken))
 
 slice-aggregate-gather : tie.Need-slice-aggregate-gather
 slice-aggregate-gather c = search needs
@@ -162,7 +141,7 @@ slice-aggregate-gather c = search needs
 gather-requires : tie.Need-gather-requires
 gather-requires c κs =
     let e = c .before .before .before in
-    (fit e, taken-fills 4 (X (Entry e)) (S (Entry e)) (fine e), length-replicate (maxParties * (maxShare + 2)) zero)
+    (fit e, inbox-sound 4 (X (Entry e)) (S (Entry e)) (fine e) .1, length-replicate (maxParties * (maxShare + 2)) zero)
 
 array-share-prefix-entries : tie.Need-array-share-prefix-entries
 array-share-prefix-entries c = search needs
@@ -188,7 +167,9 @@ returns-3 : tie.Need-returns-3
 returns-3 c =
     let d = c .before .before .before in
     let st = Entry (E d) in
-    at-end (X st) (c .ended .result) (Out st) (c .ended .ensures)
+    let x = X st in
+    ap {B = Ending} (λ (y : Party). givesEnd y answer.Nothing (Out st))
+    (c .ended .ensures ∙ ended-kept (x .n) (x .t) (x .own) nothing _ refl)
     ∙ sym (rebuilding d ∙ ap (λ (r : Result). ending (X st) r (Out st))
     (rebuilt-none (O d) Zeros (d .rebuild .result) (length-replicate maxMessage zero) (A st) (short st) (told d)
     (c .before .match .keys2)))

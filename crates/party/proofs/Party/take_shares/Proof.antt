@@ -3,10 +3,9 @@
 use mathlib.Core.Path.{_≡_, refl, sym, ap, ap₂, subst, _∙_}
 use mathlib.Core.List.{List, []}
 use Prim.Native.Nat.{ℕ, _+_, _-_}
-use native.Mathlib.Nat.{add-sub-cancel-left}
 use native.Mathlib.Omega.{arith}
-use lib.ListN.{length, take, drop, replicate, length-drop}
-use lib.Seq.{length-take-le, take-at}
+use lib.ListN.{length, take, drop, replicate}
+use lib.Seq.{take-at}
 use Rattle.limits.specs.Limits.{maxMessage, maxShare, maxPath}
 use Rattle.buffer.specs.Splice.{putOf}
 use Rattle.buffer.specs.Entries.{bodies}
@@ -24,9 +23,12 @@ use Rattle.party.specs.declared.Party.{Party}
 use Rattle.party.specs.declared.Step.{Step}
 use Rattle.party.specs.declared.Placed.{Placed}
 use Rattle.party.specs.declared.Placed.the-variants.{Nowhere, At}
-use Rattle.party.proofs.Taking.{taken-fit, taken-fills, shares-refused, shares-happy, shares-taken, sent-nothing}
-use Rattle.party.proofs.Taking.{sent-done, sent-short}
-use Rattle.party.proofs.Taking.{passed, write-taken, put-zeros, taken-none, Got, got-of, at-second}
+use Rattle.party.specs.declared.Stage.the-variants.{Second}
+use Rattle.party.proofs.Causes.{state-fit, inbox-sound}
+use Rattle.party.proofs.Outcomes.{shares-refused, shares-happy, shares-taken, sent-nothing, sent-done, sent-short}
+use Rattle.party.proofs.Parts.{length-part, part-ends}
+use Rattle.party.proofs.Kept.{put-padded, length-message, waiting-kept}
+use Rattle.party.proofs.Taking.{passed, write-taken, taken-none, Got, got-of}
 use borrow.Author.Needs.{needs}
 use Rattle.sha256.specs.Sha256.{sha256}
 use Rattle.party.proofs.Party.take_shares.Statement.{statement}
@@ -56,7 +58,7 @@ fine : (e : tie.Else1) → inboxCause 3 (X (Entry e)) (S (Entry e)) ≡ 0
 fine e = sym (e .before .inbox-cause .ensures) ∙ e .if1 .left
 
 fit : (e : tie.Else1) → Fit (X (Entry e))
-fit e = taken-fit 3 (X (Entry e)) (S (Entry e)) (fine e)
+fit e = let x = X (Entry e) in state-fit 3 x (inbox-sound 3 x (S (Entry e)) (fine e) .0)
 
 message-long : (st : tie.Start) → length (X st .message) ≡ maxMessage
 message-long st = search needs
@@ -65,9 +67,7 @@ root-long : (st : tie.Start) → length (X st .root) ≡ 32
 root-long st = search needs
 
 held : (e : tie.Else1) → length (messageIn (X (Entry e))) ≡ X (Entry e) .len
-held e =
-    let x = X (Entry e) in
-    length-take-le (x .len) (x .message) (omega (arith, message-long (Entry e), fit e .short))
+held e = length-message (X (Entry e)) (omega (arith, message-long (Entry e), fit e .short))
 
 -- a happy party
 relayed : (w : tie.After-relay-own) → let st = Entry (w .before .before .before .before) in
@@ -83,7 +83,7 @@ taking : (d : tie.After-first-valid) → let st = Entry (E d) in
 taking d =
     let u = d .before .before .before in
     let st = Entry (E d) in
-    shares-taken (X st) (S st) (Out st) (fine (E d)) (sym (u .before .happy .ensures) ∙ u .if2 .left)
+    shares-taken sha256 (X st) (S st) (Out st) (fine (E d)) (sym (u .before .happy .ensures) ∙ u .if2 .left)
 
 took : (d : tie.After-first-valid) (r : Placed) → d .first-valid .result ≡ r → TakenIs r (T (Entry (E d))) (S (Entry (E d)))
 took d r q = let st = Entry (E d) in subst (λ (y : Placed). TakenIs y (T st) (S st)) q (d .first-valid .ensures)
@@ -102,12 +102,12 @@ abbrev C : tie.After-from → ℕ
 C k = k .from .given .0 .1 .1 .0
 
 got : (k : tie.After-from) → let st = Entry (E (D k)) in
-    Got (X st .n) (X st .own) (X st .root) (S st) (F k) (L k) (C k) (T st)
+    Got sha256 (X st .n) (X st .own) (X st .root) (S st) (F k) (L k) (C k) (T st)
 got k =
     let st = Entry (E (D k)) in
     let x = X st in
-    got-of (x .n) (x .own) (x .root) (S st) (F k) (L k) (C k) (T st) (took (D k) (At (F k) (L k) (C k)) (k .from .given .1))
-    (passed (x .n) (x .own) (x .root) 1 (bodies (x .n) (S st)))
+    got-of sha256 (x .n) (x .own) (x .root) (S st) (F k) (L k) (C k) (T st) (took (D k) (At (F k) (L k) (C k)) (k .from .given .1))
+    (passed sha256 (x .n) (x .own) (x .root) 1 (bodies (x .n) (S st)))
 
 -- the share, the hashes of its path, and the packet
 abbrev Y : tie.After-from → List ℕ
@@ -120,12 +120,10 @@ abbrev Packet : tie.After-from → List ℕ
 Packet k = packetOf (X (Entry (E (D k))) .own) (Y k) (hashes (C k) (Q k))
 
 size : (k : tie.After-from) → length (Y k) ≡ L k
-size k =
-    let s = S (Entry (E (D k))) in
-    length-take-le (L k) (drop (F k) s) (omega (arith, length-drop (F k) s, got k .inside))
+size k = length-part (S (Entry (E (D k)))) (F k) (L k) (omega (arith, got k .inside))
 
 part : (k : tie.After-from) → take (F k + L k - F k) (drop (F k) (S (Entry (E (D k))))) ≡ Y k
-part k = ap (λ (i : ℕ). take i (drop (F k) (S (Entry (E (D k)))))) (add-sub-cancel-left (F k) (L k))
+part k = part-ends (S (Entry (E (D k)))) (F k) (L k)
 
 goal : (k : tie.After-from) → let st = Entry (E (D k)) in
     takeSharesOf sha256 (X st) (S st) (Out st) ≡ sent (X st) (Next st (Y k)) (Packet k) (Out st)
@@ -161,7 +159,7 @@ wrote w =
     let g = got k in
     asked w
     ∙ ap₂ (λ (y : List ℕ) (p : List (List ℕ)). writeOf (x .n) (x .own) y p (C k) (Out st)) (part k) (there w)
-    ∙ write-taken (x .n) (x .own) (x .root) (Y k) (hashes (C k) (Q k)) (path-padded (C k) (Q k)) (C k) (Out st)
+    ∙ write-taken sha256 (x .n) (x .own) (x .root) (Y k) (hashes (C k) (Q k)) (path-padded (C k) (Q k)) (C k) (Out st)
     (f .low) (f .high) (f .first) (f .last) (omega (arith, size k, g .some)) (omega (arith, size k, g .most))
     (length-hashes (C k) (Q k))
     (take-at (hashes (C k) (Q k)) (replicate (maxPath - C k) blank) (C k) (length-hashes (C k) (Q k))) (g .leads)
@@ -178,7 +176,7 @@ returns c =
     let st = b .before .before .before .before in
     let k = b .before .inbox-cause .ensures in
     ap (λ (r : Step). stepped r (Out st)) (c .refused .ensures)
-    ∙ sym (shares-refused (X st) (S st) (Out st) (λ q. b .if1 .taken (k ∙ q)) ∙ ap (λ (i : ℕ). refused (X st) i (Out st)) (sym k))
+    ∙ sym (shares-refused sha256 (X st) (S st) (Out st) (λ q. b .if1 .taken (k ∙ q)) ∙ ap (λ (i : ℕ). refused (X st) i (Out st)) (sym k))
 
 happy-requires : tie.Need-happy-requires
 happy-requires c κs = fit c
@@ -195,13 +193,13 @@ returns-2 c =
     let u = w .before .before in
     let e = u .before .before in
     let st = Entry e in
-    relayed w ∙ sym (shares-happy (X st) (S st) (Out st) (fine e) (sym (u .before .happy .ensures) ∙ u .if2 .taken))
+    relayed w ∙ sym (shares-happy sha256 (X st) (S st) (Out st) (fine e) (sym (u .before .happy .ensures) ∙ u .if2 .taken))
 
 first-valid-requires : tie.Need-first-valid-requires
 first-valid-requires c κs =
     let e = c .before .before .before .before in
     let f = fit e in
-    (f .low, f .high, f .first, f .last, taken-fills 3 (X (Entry e)) (S (Entry e)) (fine e), root-long (Entry e))
+    (f .low, f .high, f .first, f .last, inbox-sound 3 (X (Entry e)) (S (Entry e)) (fine e) .1, root-long (Entry e))
 
 enum-known-from : tie.Need-enum-known-from
 enum-known-from c = search needs
@@ -213,13 +211,15 @@ waiting-requires : tie.Need-waiting-requires
 waiting-requires c κs = fit (E (c .before .before)) .short
 
 returns-3 : tie.Need-returns-3
+unfolding atSecond
 returns-3 c =
     let b = c .before in
     let d = b .before .before in
     let st = Entry (E d) in
     let x = X st in
     ap {B = Stepped} (λ (y : Party). gives y (given.Done 0) (Out st))
-    (at-second x (c .waiting .result) (x .root) (replicate maxShare 0) [] 0 (c .waiting .ensures) (held (E d)) refl refl)
+    (c .waiting .ensures
+    ∙ waiting-kept (x .n) (x .t) (x .own) Second _ (messageIn x) _ (x .root) _ [] (x .len) 0 refl (sym (held (E d))) refl refl refl)
     ∙ sym (taking d
     ∙ ap (λ (t : Taken). sent x (Next st (shareTaken t)) (packetTaken x t) (Out st))
     (taken-none (T st) (S st) (took d Nowhere (b .enum-told .given .1)))
@@ -256,7 +256,7 @@ returns-4 c =
     let w = c .before .before .before in
     let k = K w in
     let st = Entry (E (D k)) in
-    sent-short (X st) (Next st (Y k)) (Packet k) (Out st) (O w) (w .write .result) (wrote w) (c .match2 .keys2) ∙ sym (goal k)
+    sent-short (X st) (Next st (Y k)) (Packet k) (Out st) (w .write .result) (O w) (wrote w) (c .match2 .keys2) ∙ sym (goal k)
 
 slice-aggregate-put : tie.Need-slice-aggregate-put
 slice-aggregate-put c = search needs
@@ -284,6 +284,7 @@ same-length-3 : tie.Need-same-length-3
 same-length-3 c = search needs
 
 returns-5 : tie.Need-returns-5
+unfolding atSecond
 returns-5 c =
     let p = c .before .before in
     let t = p .before .before .before in
@@ -293,11 +294,11 @@ returns-5 c =
     let x = X st in
     let g = got k in
     ap {B = Stepped} (λ (y : Party). gives y (w .write .result) (O w))
-    (at-second x (c .waiting2 .result) (x .root) _ (Y k) (L k) (c .waiting2 .ensures) (held (E (D k)))
-    (p .put .ensures .1 ∙ ap (putOf (replicate maxShare 0) 0) (part k) ∙ put-zeros maxShare (Y k)
-    (omega (arith, size k, g .most)))
+    (c .waiting2 .ensures
+    ∙ waiting-kept (x .n) (x .t) (x .own) Second _ (messageIn x) _ (x .root) _ (Y k) (x .len) (L k) refl (sym (held (E (D k)))) refl
+    (p .put .ensures .1 ∙ ap (putOf (replicate maxShare 0) 0) (part k) ∙ put-padded maxShare (Y k) (omega (arith, size k, g .most)))
     (sym (size k)))
-    ∙ sent-done x (Next st (Y k)) (Packet k) (Out st) (O w) (w .write .result) (wrote w) _ (t .enum-told2 .given .1)
+    ∙ sent-done x (Next st (Y k)) (Packet k) (Out st) (w .write .result) (O w) (wrote w) _ (t .enum-told2 .given .1)
     ∙ sym (goal k)
 
 pub take-shares-spec : {M : Type 1} → statement M

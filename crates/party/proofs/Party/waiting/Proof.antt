@@ -14,7 +14,7 @@ long : (s : tie.Start) → length (s .args .self .message) ≡ maxMessage
 long s = search needs
 
 kept : (s : tie.Start) → length (messageIn (s .args .self)) ≡ s .args .self .len
-kept s = length-message (s .args .self) (s .pre) (long s)
+kept s = length-message (s .args .self) (omega (arith, s .pre, long s))
 
 slice-aggregate-put : tie.Need-slice-aggregate-put
 slice-aggregate-put c = search needs
