@@ -46,10 +46,10 @@ shares-bound n t l faults high short =
     omega (arith, mul-le-mul-right s twice, mul-assoc 2 b s, share-high b l (omega arith))
 
 -- shares 1 to n, one behind the other
-length-shares : (n b : ℕ) (m : List ℕ) → length (shares n b m) ≡ n * shareLength b (length m)
+pub length-shares : (n b : ℕ) (m : List ℕ) → length (shares n b m) ≡ n * shareLength b (length m)
 length-shares n b m = ap length (shares-frame n b m) ∙ length-sharesOf n b (shareLength b (length m)) (frame b m)
 
-share-at : (b : ℕ) (m : List ℕ) (n j : ℕ) → 1 ≤ j → j ≤ n
+pub share-at : (b : ℕ) (m : List ℕ) (n j : ℕ) → 1 ≤ j → j ≤ n
     → take (shareLength b (length m)) (drop ((j - 1) * shareLength b (length m)) (shares n b m)) ≡ share b j m
 unfolding shares
 share-at b m zero j first last = absurd (omega arith)

@@ -31,7 +31,7 @@ use Rattle.packet.specs.Class.{valid, classOf}
 use Rattle.packet.proofs.Inverse.{written-read}
 use Rattle.packet.proofs.Parts.{packet-length}
 use Rattle.party.specs.State.{messageRoot}
-use Rattle.party.proofs.Sending.{length-shares, share-at}
+use Rattle.party.proofs.Shared.{length-shares, share-at}
 use Rattle.party.proofs.Checks.{passes-valid}
 
 -- a message among n parties with fault limit t, within the limits
@@ -50,7 +50,7 @@ module _ (n t : ℕ) (m : List ℕ) (c : Coded n t m) where
   share-fits = omega (arith, c, share-most (n - t) (length m) (omega (arith, c)))
 
   all-length : length (shares n (n - t) m) ≡ n * shareLength (n - t) (length m)
-  all-length = length-shares (n - t) m n
+  all-length = length-shares n (n - t) m
 
   each-length : length (shares n (n - t) m) / n ≡ shareLength (n - t) (length m)
   each-length = ap (λ (k : ℕ). k / n) all-length ∙ mul-div-cancel-left (shareLength (n - t) (length m)) (c .low)
