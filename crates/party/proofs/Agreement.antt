@@ -42,7 +42,7 @@ use Rattle.packet.proofs.Inbox.{inbox-bodies}
 use Rattle.packet.proofs.Inverse.{written-read}
 use Rattle.packet.proofs.Reading.{fields-of, read-wide}
 use Rattle.party.specs.State.{Result, nothing, settled, messageIn, shareHeld, atBit, atFirst, atSecond, messageRoot, happy}
-use Rattle.party.specs.Steps.{packetFor, outboxOf, Taken, missing, found, firstValid, takenBy, shareTaken, packetTaken, ownRelay, relayOf, relayedOf}
+use Rattle.party.specs.Steps.{packetFor, outboxOf, Taken, missing, found, firstValid, takenBy, shareTaken, packetTaken, ownRelay, relayOf, heldOf}
 use Rattle.party.specs.Steps.{shareFrom, gathered, rebuilt, resultOf}
 use Rattle.party.specs.Calls.{agreeBit, bitGiven, resultShown, resultAfter}
 use Rattle.party.specs.Calls.{Event, takeShares, takeRelays, entry, heard, wrote, packetTo, lengths, checkedIn, shareStrings, relayStrings, opening, hashed, sentBy}
@@ -125,7 +125,7 @@ module _ (H : List ℕ → List ℕ) (wide : (s : List ℕ) → length (H s) ≡
 
   admitted : (A : Good) → In A → Admitted A
   admitted A h =
-      let o = open-bounds n t (A .own) (length (A .message)) (opened-is H n t (A .own) (A .message) (P .opened .taken A h) .0) in
+      let o = open-bounds n t (A .own) (length (A .message)) (opened-is H n t (A .own) (A .message) (P .opened .accepted A h) .0) in
       let g = group-of n t (o .0) in
       record {
         coded = record { low = g .low; high = g .high; faults = g .faults; short = o .3 };
@@ -134,30 +134,30 @@ module _ (H : List ℕ → List ℕ) (wide : (s : List ℕ) → length (H s) ≡
       }
 
   root-given : (A : Good) → In A → opening H n t (A .own) (A .message) .root ≡ messageRoot H n t (A .message)
-  root-given A h = ap (λ (o : Opened). o .root) (opened-is H n t (A .own) (A .message) (P .opened .taken A h) .1)
+  root-given A h = ap (λ (o : Opened). o .root) (opened-is H n t (A .own) (A .message) (P .opened .accepted A h) .1)
 
   -- the bit that a good party put in
   vote-given : (A : Good) → In A → bitGiven (step H n t good 2 A) ≡ some (cond (isGlad A) 1 0)
   vote-given A h =
-      let r = P .called .second A h in
-      let b = P .called .third A h in
-      bit-given H n t (A .own) (A .message) (A .calls) z (P .opened .taken A h) (r .0) (b .0) bit (b .1) (r .1) (r .2) (b .2) (b .3)
+      let r = P .called .step2 A h in
+      let b = P .called .step3 A h in
+      bit-given H n t (A .own) (A .message) (A .calls) z (P .opened .accepted A h) (r .0) (b .0) bit (b .1) (r .1) (r .2) (b .2) (b .3)
       ∙ ap {B = Option ℕ} (λ (g : Bool). some (cond g 1 0)) (happy-bit H n t (A .own) (A .message) z)
 
   bit-low : (A : Good) → In A → bit ≤ 1
   bit-low A h =
-      let r = P .called .second A h in
-      let b = P .called .third A h in
-      bit-small H n t (A .own) (A .message) (A .calls) z (P .opened .taken A h) (r .0) (b .0) bit (b .1) (r .1) (r .2) (b .2) (b .3)
+      let r = P .called .step2 A h in
+      let b = P .called .step3 A h in
+      bit-small H n t (A .own) (A .message) (A .calls) z (P .opened .accepted A h) (r .0) (b .0) bit (b .1) (r .1) (r .2) (b .2) (b .3)
 
   -- on bit 0
   module _ (b0 : bit ≡ 0) where
     ended : (A : Good) → In A → (resultAfter H n t (A .own) (A .message) (A .calls) ≡ some nothing)
         × (sentBy H n t (A .own) (A .message) (A .calls) ≡ lengths (bodies n (outboxOf H (atBit n t (A .own) (A .message) z) 0)))
     ended A h =
-        let r = P .called .second A h in
-        let b = P .called .third A h in
-        ran-none H n t (A .own) (A .message) (A .calls) z (P .opened .taken A h) (r .0) (b .0) (b .1) (r .1) (r .2) (b .2)
+        let r = P .called .step2 A h in
+        let b = P .called .step3 A h in
+        ran-none H n t (A .own) (A .message) (A .calls) z (P .opened .accepted A h) (r .0) (b .0) (b .1) (r .1) (r .2) (b .2)
         (b .3 ∙ ap (λ (k : ℕ). agreeBit k (b .1)) b0)
 
     -- all opened with one message: then all were happy, and the bit was 1
@@ -187,11 +187,11 @@ module _ (H : List ℕ → List ℕ) (wide : (s : List ℕ) → length (H s) ≡
   module _ (b1 : bit ≡ 1) where
     ranOf : (A : Good) → In A → Ran H n t (A .own) (A .message) (A .calls) z
     ranOf A h =
-        let r = P .called .second A h in
-        let b = P .called .third A h in
-        let f = P .called .fourth b1 A h in
-        let g = P .called .fifth b1 A h in
-        ran-through H n t (A .own) (A .message) (A .calls) z (P .opened .taken A h) (r .0) (b .0) (f .0) (g .0) (b .1) (r .1) (r .2) (b .2)
+        let r = P .called .step2 A h in
+        let b = P .called .step3 A h in
+        let f = P .called .step4 b1 A h in
+        let g = P .called .step5 b1 A h in
+        ran-through H n t (A .own) (A .message) (A .calls) z (P .opened .accepted A h) (r .0) (b .0) (f .0) (g .0) (b .1) (r .1) (r .2) (b .2)
         (b .3 ∙ ap (λ (k : ℕ). agreeBit k (b .1)) b1) (f .1) (g .1)
 
     -- some good party is happy
@@ -293,7 +293,7 @@ module _ (H : List ℕ → List ℕ) (wide : (s : List ℕ) → length (H s) ≡
             let k : ℕ = i - 1 in
             let e : k + 1 ≡ i = omega (arith, first-B) in
             let X : Party = atBit n t (A .own) M z in
-            sym (ranOf B hB .heard4 (A .own)) ∙ P .delivered b1 .first B hB A hA other
+            sym (ranOf B hB .heard4 (A .own)) ∙ P .delivered b1 .firstInbox B hB A hA other
             ∙ ap (entry n i) (ranOf A hA .packets)
             ∙ ap (λ (l : List (List ℕ)). getD l k []) (out-happy H n t (A .own) M z eA)
             ∙ getD-tabulate n (packets H n t (A .own) M z) k [] (omega (arith, first-B, last-B))
@@ -336,8 +336,8 @@ module _ (H : List ℕ → List ℕ) (wide : (s : List ℕ) → length (H s) ≡
         share-M =
             honest-M B hB i first-B last-B x p (read-wide n (took-it .packet) i x p (passed .reads)) (passed .leads) strings-in
 
-        held-M : relayedOf H X2 in4 ≡ share (n - t) i M
-        unfolding relayedOf atFirst
+        held-M : heldOf H X2 in4 ≡ share (n - t) i M
+        unfolding heldOf atFirst
         held-M = rw (happy-first H n t i (B .message) z ∙ uB, found-one .2) share-M
 
         relay-is : relayOf H X2 in4 ≡ packetOf i x p
@@ -399,7 +399,7 @@ module _ (H : List ℕ → List ℕ) (wide : (s : List ℕ) → length (H s) ≡
       -- an unhappy party gathers M's shares, of every good party, and no others
       module _ (B : Good) (hB : In B) (uB : isGlad B ≡ false) where
         abbrev held : List ℕ
-        held = relayedOf H (atFirst n t (B .own) (B .message) z) (ranOf B hB .in4)
+        held = heldOf H (atFirst n t (B .own) (B .message) z) (ranOf B hB .in4)
 
         abbrev X3 : Party
         X3 = atSecond n t (B .own) (B .message) z held
@@ -464,7 +464,7 @@ module _ (H : List ℕ → List ℕ) (wide : (s : List ℕ) → length (H s) ≡
                 let k-is : C .own - 1 ≡ k = omega (arith, e) in
                 let came : getD (bodies n in5) k [] ≡ relayOf H (atFirst n t (C .own) (C .message) z) (ranOf C hC .in4) =
                 ap (λ (u : ℕ). getD (bodies n in5) u []) (sym k-is)
-                ∙ sym (ranOf B hB .heard5 (C .own)) ∙ P .delivered b1 .second B hB C hC d ∙ ranOf C hC .relayed in
+                ∙ sym (ranOf B hB .heard5 (C .own)) ∙ P .delivered b1 .secondInbox B hB C hC d ∙ ranOf C hC .relayed in
                 valid-entry k l q (r .x) (r .p)
                 (ap (classOf H n (1 + k) z) came
                 ∙ subst (λ (u : ℕ). classOf H n u z (relayOf H (atFirst n t (C .own) (C .message) z) (ranOf C hC .in4)) ≡ valid (r .x) (r .p))
@@ -511,16 +511,16 @@ module _ (H : List ℕ → List ℕ) (wide : (s : List ℕ) → length (H s) ≡
             (P .opened .bytes A hA) (c .short) enough used))
 
       results : (B : Good) (hB : In B)
-          → resultOf H (atSecond n t (B .own) (B .message) z (relayedOf H (atFirst n t (B .own) (B .message) z) (ranOf B hB .in4)))
+          → resultOf H (atSecond n t (B .own) (B .message) z (heldOf H (atFirst n t (B .own) (B .message) z) (ranOf B hB .in4)))
           (ranOf B hB .in5) ≡ settled M
       unfolding resultOf
       results B hB = go (way (isGlad B))
         where
           go : Way (isGlad B)
-              → resultOf H (atSecond n t (B .own) (B .message) z (relayedOf H (atFirst n t (B .own) (B .message) z) (ranOf B hB .in4)))
+              → resultOf H (atSecond n t (B .own) (B .message) z (heldOf H (atFirst n t (B .own) (B .message) z) (ranOf B hB .in4)))
               (ranOf B hB .in5) ≡ settled M
           go (on e) =
-              let y : List ℕ = relayedOf H (atFirst n t (B .own) (B .message) z) (ranOf B hB .in4) in
+              let y : List ℕ = heldOf H (atFirst n t (B .own) (B .message) z) (ranOf B hB .in4) in
               rw (happy-second H n t (B .own) (B .message) z y ∙ e)
               (ap settled (message-second n t (B .own) (B .message) z y ∙ glad-M B hB e))
           go (off u) = unhappy-result B hB u

@@ -180,33 +180,33 @@ open-bounds n t own len e =
 
 -- causes 5 to 7 of the agreed root
 module _ (x : Party) (z : List ℕ) where
-  pub root-state : (stateCause 1 x ≡ 0 → ⊥) → rootCause x z ≡ stateCause 1 x
+  pub root-state : (stateCause 2 x ≡ 0 → ⊥) → rootCause x z ≡ stateCause 2 x
   unfolding rootCause
-  root-state h = rw (ne-eqb (stateCause 1 x) 0 h)
+  root-state h = rw (ne-eqb (stateCause 2 x) 0 h)
 
-  module _ (fine : stateCause 1 x ≡ 0) where
+  module _ (fine : stateCause 2 x ≡ 0) where
     pub root-length : (length z ≡ 32 → ⊥) → rootCause x z ≡ 7
     unfolding rootCause
-    root-length h = rw (eq-eqb (stateCause 1 x) 0 fine, ne-eqb (length z) 32 h)
+    root-length h = rw (eq-eqb (stateCause 2 x) 0 fine, ne-eqb (length z) 32 h)
 
     pub root-fine : length z ≡ 32 → rootCause x z ≡ 0
     unfolding rootCause
-    root-fine h = rw (eq-eqb (stateCause 1 x) 0 fine, eq-eqb (length z) 32 h)
+    root-fine h = rw (eq-eqb (stateCause 2 x) 0 fine, eq-eqb (length z) 32 h)
 
 -- causes 5 to 7 of the agreed bit
 module _ (x : Party) (bit : ℕ) where
-  pub bit-state : (stateCause 2 x ≡ 0 → ⊥) → bitCause x bit ≡ stateCause 2 x
+  pub bit-state : (stateCause 3 x ≡ 0 → ⊥) → bitCause x bit ≡ stateCause 3 x
   unfolding bitCause
-  bit-state h = rw (ne-eqb (stateCause 2 x) 0 h)
+  bit-state h = rw (ne-eqb (stateCause 3 x) 0 h)
 
-  module _ (fine : stateCause 2 x ≡ 0) where
+  module _ (fine : stateCause 3 x ≡ 0) where
     pub bit-wrong : 1 < bit → bitCause x bit ≡ 7
     unfolding bitCause
-    bit-wrong h = rw (eq-eqb (stateCause 2 x) 0 fine, lt-ltb 1 bit h)
+    bit-wrong h = rw (eq-eqb (stateCause 3 x) 0 fine, lt-ltb 1 bit h)
 
     pub bit-fine : bit ≤ 1 → bitCause x bit ≡ 0
     unfolding bitCause
-    bit-fine h = rw (eq-eqb (stateCause 2 x) 0 fine, le-ltb 1 bit h)
+    bit-fine h = rw (eq-eqb (stateCause 3 x) 0 fine, le-ltb 1 bit h)
 
 -- causes 5, 6 and 8 of an inbox
 module _ (turn : ℕ) (x : Party) (inbox : List ℕ) where

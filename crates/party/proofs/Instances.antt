@@ -30,7 +30,7 @@ use Rattle.packet.specs.Inbox.{inboxOf}
 use Rattle.packet.specs.Class.{classOf, classStrings}
 use Rattle.party.specs.State.{Result, nothing, settled, atRoot, atBit, atFirst, atSecond, atEnd, blankState, broken, messageRoot, happy}
 use Rattle.party.specs.Steps.{stateCause, openCause, openOf, rootCause, agreeRootOf, packetFor, bitCause, outboxOf, agreeBitOf, inboxCause, firstValid}
-use Rattle.party.specs.Steps.{relayOf, relayedOf, takeSharesOf, gathered, resultOf, takeRelaysOf}
+use Rattle.party.specs.Steps.{relayOf, heldOf, takeSharesOf, gathered, resultOf, takeRelaysOf}
 use Rattle.party.specs.Calls.{Call, agreeRoot, agreeBit, takeShares, takeRelays, Event, accepted, first, entry, lengths, sentOver, made, events, final}
 use Rattle.party.specs.Calls.{shareStrings, relayStrings, checkedIn, checkedOver, did, hashed, sentBy, heard, packetTo, wrote, opening, bitGiven}
 use Rattle.party.specs.Agreement.{Good, among, different, absent, sumOver, joinOver, step, allHashed, CalledAll, DeliveredAll, Premises, sent, Conclusions}
@@ -206,35 +206,35 @@ Relay A B = A .own ≢ B .own → heard 3 (B .own) (step toy 3 1 good 5 A) ≡ w
 
 -- the premises on bit 1, part by part
 called : CalledAll toy 3 1 good z 1
-unfolding size body rest fills bodies spliced tabulate groupCause timesX productOf product power inverse sum pow value factor unit numerator denominator basis through shareLength headed frame block shareByte shareOf share shares present point framed other unframed joined recovered splitFrom split shapeOf shape leaves nodeString sides beside root path folded treeStrings foldStrings checkStrings topHash pathHashes leafString leafStrings sharesCause same leavesOf rootOf pathOf passes codingStrings stringsOf chained hashes packetOf entryOf shareIn readOf inboxOf classOf classStrings atRoot atBit atFirst atSecond atEnd blankState broken messageRoot happy stateCause openCause openOf rootCause agreeRootOf packetFor bitCause outboxOf agreeBitOf inboxCause firstValid relayOf relayedOf takeSharesOf gathered resultOf takeRelaysOf accepted first entry lengths sentOver made events final shareStrings relayStrings checkedIn checkedOver did hashed sentBy among different absent sumOver joinOver clean cleanOf there mix digest
+unfolding size body rest fills bodies spliced tabulate groupCause timesX productOf product power inverse sum pow value factor unit numerator denominator basis through shareLength headed frame block shareByte shareOf share shares present point framed other unframed joined recovered splitFrom split shapeOf shape leaves nodeString sides beside root path folded treeStrings foldStrings checkStrings topHash pathHashes leafString leafStrings sharesCause same leavesOf rootOf pathOf passes codingStrings stringsOf chained hashes packetOf entryOf shareIn readOf inboxOf classOf classStrings atRoot atBit atFirst atSecond atEnd blankState broken messageRoot happy stateCause openCause openOf rootCause agreeRootOf packetFor bitCause outboxOf agreeBitOf inboxCause firstValid relayOf heldOf takeSharesOf gathered resultOf takeRelaysOf accepted first entry lengths sentOver made events final shareStrings relayStrings checkedIn checkedOver did hashed sentBy among different absent sumOver joinOver clean cleanOf there mix digest
 called = record {
-  second = each P2 P3 (Second good) (let p = pick (step toy 3 1 good 2 P2) refl in (p .0, p .1, refl))
+  step2 = each P2 P3 (Second good) (let p = pick (step toy 3 1 good 2 P2) refl in (p .0, p .1, refl))
       (let p = pick (step toy 3 1 good 2 P3) refl in (p .0, p .1, refl));
-  third = each P2 P3 (Third good 1) (let p = pick (step toy 3 1 good 3 P2) refl in (p .0, room, p .1, refl))
+  step3 = each P2 P3 (Third good 1) (let p = pick (step toy 3 1 good 3 P2) refl in (p .0, room, p .1, refl))
       (let p = pick (step toy 3 1 good 3 P3) refl in (p .0, room, p .1, refl));
-  fourth = λ e. each P2 P3 (Step 4) (pick (step toy 3 1 good 4 P2) refl) (pick (step toy 3 1 good 4 P3) refl);
-  fifth = λ e. each P2 P3 (Step 5) (pick (step toy 3 1 good 5 P2) refl) (pick (step toy 3 1 good 5 P3) refl);
+  step4 = λ e. each P2 P3 (Step 4) (pick (step toy 3 1 good 4 P2) refl) (pick (step toy 3 1 good 4 P3) refl);
+  step5 = λ e. each P2 P3 (Step 5) (pick (step toy 3 1 good 5 P2) refl) (pick (step toy 3 1 good 5 P3) refl);
 }
 
 delivered : DeliveredAll toy 3 1 good
-unfolding size body rest fills bodies spliced tabulate groupCause timesX productOf product power inverse sum pow value factor unit numerator denominator basis through shareLength headed frame block shareByte shareOf share shares present point framed other unframed joined recovered splitFrom split shapeOf shape leaves nodeString sides beside root path folded treeStrings foldStrings checkStrings topHash pathHashes leafString leafStrings sharesCause same leavesOf rootOf pathOf passes codingStrings stringsOf chained hashes packetOf entryOf shareIn readOf inboxOf classOf classStrings atRoot atBit atFirst atSecond atEnd blankState broken messageRoot happy stateCause openCause openOf rootCause agreeRootOf packetFor bitCause outboxOf agreeBitOf inboxCause firstValid relayOf relayedOf takeSharesOf gathered resultOf takeRelaysOf accepted first entry lengths sentOver made events final shareStrings relayStrings checkedIn checkedOver did hashed sentBy among different absent sumOver joinOver clean cleanOf there mix digest
+unfolding size body rest fills bodies spliced tabulate groupCause timesX productOf product power inverse sum pow value factor unit numerator denominator basis through shareLength headed frame block shareByte shareOf share shares present point framed other unframed joined recovered splitFrom split shapeOf shape leaves nodeString sides beside root path folded treeStrings foldStrings checkStrings topHash pathHashes leafString leafStrings sharesCause same leavesOf rootOf pathOf passes codingStrings stringsOf chained hashes packetOf entryOf shareIn readOf inboxOf classOf classStrings atRoot atBit atFirst atSecond atEnd blankState broken messageRoot happy stateCause openCause openOf rootCause agreeRootOf packetFor bitCause outboxOf agreeBitOf inboxCause firstValid relayOf heldOf takeSharesOf gathered resultOf takeRelaysOf accepted first entry lengths sentOver made events final shareStrings relayStrings checkedIn checkedOver did hashed sentBy among different absent sumOver joinOver clean cleanOf there mix digest
 delivered = record {
-  first = each P2 P3 (λ A. (B : Good) → List·Memᴰ B good → First A B)
+  firstInbox = each P2 P3 (λ A. (B : Good) → List·Memᴰ B good → First A B)
       (each P2 P3 (First P2) (λ d. absurd (d refl)) (λ d. refl)) (each P2 P3 (First P3) (λ d. refl) (λ d. absurd (d refl)));
-  second = each P2 P3 (λ A. (B : Good) → List·Memᴰ B good → Relay A B)
+  secondInbox = each P2 P3 (λ A. (B : Good) → List·Memᴰ B good → Relay A B)
       (each P2 P3 (Relay P2) (λ d. absurd (d refl)) (λ d. refl)) (each P2 P3 (Relay P3) (λ d. refl) (λ d. absurd (d refl)));
 }
 
 tested : clean (allHashed toy 3 1 good) (allHashed toy 3 1 good) ≡ true
-unfolding size body rest fills bodies spliced tabulate groupCause timesX productOf product power inverse sum pow value factor unit numerator denominator basis through shareLength headed frame block shareByte shareOf share shares present point framed other unframed joined recovered splitFrom split shapeOf shape leaves nodeString sides beside root path folded treeStrings foldStrings checkStrings topHash pathHashes leafString leafStrings sharesCause same leavesOf rootOf pathOf passes codingStrings stringsOf chained hashes packetOf entryOf shareIn readOf inboxOf classOf classStrings atRoot atBit atFirst atSecond atEnd blankState broken messageRoot happy stateCause openCause openOf rootCause agreeRootOf packetFor bitCause outboxOf agreeBitOf inboxCause firstValid relayOf relayedOf takeSharesOf gathered resultOf takeRelaysOf accepted first entry lengths sentOver made events final shareStrings relayStrings checkedIn checkedOver did hashed sentBy among different absent sumOver joinOver clean cleanOf there mix digest
+unfolding size body rest fills bodies spliced tabulate groupCause timesX productOf product power inverse sum pow value factor unit numerator denominator basis through shareLength headed frame block shareByte shareOf share shares present point framed other unframed joined recovered splitFrom split shapeOf shape leaves nodeString sides beside root path folded treeStrings foldStrings checkStrings topHash pathHashes leafString leafStrings sharesCause same leavesOf rootOf pathOf passes codingStrings stringsOf chained hashes packetOf entryOf shareIn readOf inboxOf classOf classStrings atRoot atBit atFirst atSecond atEnd blankState broken messageRoot happy stateCause openCause openOf rootCause agreeRootOf packetFor bitCause outboxOf agreeBitOf inboxCause firstValid relayOf heldOf takeSharesOf gathered resultOf takeRelaysOf accepted first entry lengths sentOver made events final shareStrings relayStrings checkedIn checkedOver did hashed sentBy among different absent sumOver joinOver clean cleanOf there mix digest
 tested = refl
 
 pub premises : Premises toy 3 1 good z 1
-unfolding size body rest fills bodies spliced tabulate groupCause timesX productOf product power inverse sum pow value factor unit numerator denominator basis through shareLength headed frame block shareByte shareOf share shares present point framed other unframed joined recovered splitFrom split shapeOf shape leaves nodeString sides beside root path folded treeStrings foldStrings checkStrings topHash pathHashes leafString leafStrings sharesCause same leavesOf rootOf pathOf passes codingStrings stringsOf chained hashes packetOf entryOf shareIn readOf inboxOf classOf classStrings atRoot atBit atFirst atSecond atEnd blankState broken messageRoot happy stateCause openCause openOf rootCause agreeRootOf packetFor bitCause outboxOf agreeBitOf inboxCause firstValid relayOf relayedOf takeSharesOf gathered resultOf takeRelaysOf accepted first entry lengths sentOver made events final shareStrings relayStrings checkedIn checkedOver did hashed sentBy among different absent sumOver joinOver clean cleanOf there mix digest
+unfolding size body rest fills bodies spliced tabulate groupCause timesX productOf product power inverse sum pow value factor unit numerator denominator basis through shareLength headed frame block shareByte shareOf share shares present point framed other unframed joined recovered splitFrom split shapeOf shape leaves nodeString sides beside root path folded treeStrings foldStrings checkStrings topHash pathHashes leafString leafStrings sharesCause same leavesOf rootOf pathOf passes codingStrings stringsOf chained hashes packetOf entryOf shareIn readOf inboxOf classOf classStrings atRoot atBit atFirst atSecond atEnd blankState broken messageRoot happy stateCause openCause openOf rootCause agreeRootOf packetFor bitCause outboxOf agreeBitOf inboxCause firstValid relayOf heldOf takeSharesOf gathered resultOf takeRelaysOf accepted first entry lengths sentOver made events final shareStrings relayStrings checkedIn checkedOver did hashed sentBy among different absent sumOver joinOver clean cleanOf there mix digest
 premises = record {
   opened = record {
     bytes = each P2 P3 (λ A. Bytes (A .message)) (one-byte 0x43 (lit< tt)) (two-bytes 0x41 0x42 (lit< tt) (lit< tt));
-    taken = each P2 P3 (λ A. opening toy 3 1 (A .own) (A .message) .cause ≡ 0) refl refl;
+    accepted = each P2 P3 (λ A. opening toy 3 1 (A .own) (A .message) .cause ≡ 0) refl refl;
     apart = refl;
     bad = le-refl 1;
   };

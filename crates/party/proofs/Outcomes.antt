@@ -21,8 +21,8 @@ use Rattle.buffer.proofs.Splice.{spliced-none}
 use Rattle.erasure.specs.Rebuild.{present, recovered}
 use Rattle.merkle.specs.Shares.{blank}
 use Rattle.party.specs.State.{nothing, settled, messageIn, atRoot, atFirst, atSecond, atEnd, blankState, messageRoot, happy}
-use Rattle.party.specs.Steps.{openCause, openOf, rootCause, withRoot, ballot, agreeRootOf, bitCause, gives, refused, sent, outboxOf}
-use Rattle.party.specs.Steps.{agreeBitOf, inboxCause, takenBy, shareTaken, packetTaken, ownRelay, relayOf, relayedOf, takeSharesOf}
+use Rattle.party.specs.Steps.{openCause, openOf, rootCause, withRoot, ballot, agreeRootOf, bitCause, gives, refused, writes, outboxOf}
+use Rattle.party.specs.Steps.{agreeBitOf, inboxCause, takenBy, shareTaken, packetTaken, ownRelay, relayOf, heldOf, takeSharesOf}
 use Rattle.party.specs.Steps.{gathered, rebuilt, resultOf, givesEnd, ending, takeRelaysOf}
 use Rattle.party.specs.declared.Party.{Party}
 use Rattle.party.specs.declared.Vote.the-variants as vote
@@ -59,59 +59,59 @@ module _ (H : List ℕ → List ℕ) where
 
     module _ (fine : bitCause x bit ≡ 0) where
       bit-given : agreeBitOf H x bit out
-          ≡ sent x (cond (eqb bit 0) (atEnd (x .n) (x .t) (x .own) nothing) (atFirst (x .n) (x .t) (x .own) (messageIn x) (x .root)))
+          ≡ writes x (cond (eqb bit 0) (atEnd (x .n) (x .t) (x .own) nothing) (atFirst (x .n) (x .t) (x .own) (messageIn x) (x .root)))
           (outboxOf H x bit) out
       unfolding agreeBitOf
       bit-given = rw (eq-eqb (bitCause x bit) 0 fine)
 
       abbrev Sent : ℕ → Party → Type 0
-      Sent b y = agreeBitOf H x bit out ≡ sent x y (outboxOf H x b) out
+      Sent b y = agreeBitOf H x bit out ≡ writes x y (outboxOf H x b) out
 
-      pub bit-end : bit ≡ 0 → agreeBitOf H x bit out ≡ sent x (atEnd (x .n) (x .t) (x .own) nothing) (outboxOf H x 0) out
+      pub bit-end : bit ≡ 0 → agreeBitOf H x bit out ≡ writes x (atEnd (x .n) (x .t) (x .own) nothing) (outboxOf H x 0) out
       bit-end e =
           subst (λ (b : ℕ). Sent b (cond (eqb b 0) (atEnd (x .n) (x .t) (x .own) nothing)
           (atFirst (x .n) (x .t) (x .own) (messageIn x) (x .root)))) e bit-given
 
       pub bit-first : bit ≡ 1
-          → agreeBitOf H x bit out ≡ sent x (atFirst (x .n) (x .t) (x .own) (messageIn x) (x .root)) (outboxOf H x 1) out
+          → agreeBitOf H x bit out ≡ writes x (atFirst (x .n) (x .t) (x .own) (messageIn x) (x .root)) (outboxOf H x 1) out
       bit-first e =
           subst (λ (b : ℕ). Sent b (cond (eqb b 0) (atEnd (x .n) (x .t) (x .own) nothing)
           (atFirst (x .n) (x .t) (x .own) (messageIn x) (x .root)))) e bit-given
 
   -- step 4, the first inbox
   module _ (x : Party) (inbox out : List ℕ) where
-    pub shares-refused : (inboxCause 3 x inbox ≡ 0 → ⊥) → takeSharesOf H x inbox out ≡ refused x (inboxCause 3 x inbox) out
+    pub shares-refused : (inboxCause 4 x inbox ≡ 0 → ⊥) → takeSharesOf H x inbox out ≡ refused x (inboxCause 4 x inbox) out
     unfolding takeSharesOf
-    shares-refused h = rw (ne-eqb (inboxCause 3 x inbox) 0 h)
+    shares-refused h = rw (ne-eqb (inboxCause 4 x inbox) 0 h)
 
-    module _ (fine : inboxCause 3 x inbox ≡ 0) where
+    module _ (fine : inboxCause 4 x inbox ≡ 0) where
       pub shares-happy : happy H x ≡ true
-          → takeSharesOf H x inbox out ≡ sent x (atSecond (x .n) (x .t) (x .own) (messageIn x) (x .root) []) (ownRelay H x) out
-      unfolding takeSharesOf relayOf relayedOf
-      shares-happy h = rw (eq-eqb (inboxCause 3 x inbox) 0 fine, h)
+          → takeSharesOf H x inbox out ≡ writes x (atSecond (x .n) (x .t) (x .own) (messageIn x) (x .root) []) (ownRelay H x) out
+      unfolding takeSharesOf relayOf heldOf
+      shares-happy h = rw (eq-eqb (inboxCause 4 x inbox) 0 fine, h)
 
       pub shares-taken : happy H x ≡ false → takeSharesOf H x inbox out
-          ≡ sent x (atSecond (x .n) (x .t) (x .own) (messageIn x) (x .root) (shareTaken (takenBy H x inbox)))
+          ≡ writes x (atSecond (x .n) (x .t) (x .own) (messageIn x) (x .root) (shareTaken (takenBy H x inbox)))
           (packetTaken x (takenBy H x inbox)) out
-      unfolding takeSharesOf relayOf relayedOf
-      shares-taken h = rw (eq-eqb (inboxCause 3 x inbox) 0 fine, h)
+      unfolding takeSharesOf relayOf heldOf
+      shares-taken h = rw (eq-eqb (inboxCause 4 x inbox) 0 fine, h)
 
   -- step 5, the second inbox
   module _ (x : Party) (inbox out : List ℕ) where
-    pub relays-refused : (inboxCause 4 x inbox ≡ 0 → ⊥)
-        → takeRelaysOf H x inbox out ≡ givesEnd x (answer.Refused (inboxCause 4 x inbox)) out
+    pub relays-refused : (inboxCause 5 x inbox ≡ 0 → ⊥)
+        → takeRelaysOf H x inbox out ≡ givesEnd x (answer.Refused (inboxCause 5 x inbox)) out
     unfolding takeRelaysOf
-    relays-refused h = rw (ne-eqb (inboxCause 4 x inbox) 0 h)
+    relays-refused h = rw (ne-eqb (inboxCause 5 x inbox) 0 h)
 
-    module _ (fine : inboxCause 4 x inbox ≡ 0) where
+    module _ (fine : inboxCause 5 x inbox ≡ 0) where
       pub relays-happy : happy H x ≡ true → takeRelaysOf H x inbox out ≡ ending x (settled (messageIn x)) out
       unfolding takeRelaysOf resultOf
-      relays-happy h = rw (eq-eqb (inboxCause 4 x inbox) 0 fine, h)
+      relays-happy h = rw (eq-eqb (inboxCause 5 x inbox) 0 fine, h)
 
       pub relays-rebuilt : happy H x ≡ false → takeRelaysOf H x inbox out
           ≡ ending x (rebuilt (recovered (x .n - x .t) (present 1 (gathered H x 1 (bodies (x .n) inbox))))) out
       unfolding takeRelaysOf resultOf
-      relays-rebuilt h = rw (eq-eqb (inboxCause 4 x inbox) 0 fine, h)
+      relays-rebuilt h = rw (eq-eqb (inboxCause 5 x inbox) 0 fine, h)
 
 -- an answer that is not Done
 pub not-done : (r : Written) (k : ℕ) → r ≡ given.Done k → OneOf (0 ∷ 1 ∷ []) (tagOf written-type r) → ⊥
@@ -130,9 +130,9 @@ module _ (x next : Party) where
   stays (given.Done k) h = absurd (not-done (given.Done k) k refl h)
 
   module _ (bs out : List ℕ) (r : Written) (o : List ℕ) (e : gave r o ≡ written bs out) where
-    pub sent-given : gives (after r) r o ≡ sent x next bs out
+    pub writes-given : gives (after r) r o ≡ writes x next bs out
     unfolding written
-    sent-given =
+    writes-given =
         ap (λ (g : Given). gives (after (g .answer)) (g .answer) (g .buffer)) e ∙ go (ltb (length out) (length bs))
       where
         go : (t : Bool)
@@ -142,15 +142,15 @@ module _ (x next : Party) where
         go true = refl
         go false = refl
 
-    pub sent-short : OneOf (0 ∷ 1 ∷ []) (tagOf written-type r) → gives x r o ≡ sent x next bs out
-    sent-short h = ap (λ (y : Party). gives y r o) (sym (stays r h)) ∙ sent-given
+    pub writes-short : OneOf (0 ∷ 1 ∷ []) (tagOf written-type r) → gives x r o ≡ writes x next bs out
+    writes-short h = ap (λ (y : Party). gives y r o) (sym (stays r h)) ∙ writes-given
 
-    pub sent-done : (k : ℕ) → r ≡ given.Done k → gives next r o ≡ sent x next bs out
-    sent-done k q = ap (λ (y : Party). gives y r o) (sym (ap after q)) ∙ sent-given
+    pub writes-done : (k : ℕ) → r ≡ given.Done k → gives next r o ≡ writes x next bs out
+    writes-done k q = ap (λ (y : Party). gives y r o) (sym (ap after q)) ∙ writes-given
 
 -- nothing is sent
-pub sent-nothing : (x next : Party) (out : List ℕ) → sent x next [] out ≡ gives next (given.Done 0) out
-sent-nothing x next out = rw (le-ltb (length out) 0 (omega arith), spliced-none out 0)
+pub writes-nothing : (x next : Party) (out : List ℕ) → writes x next [] out ≡ gives next (given.Done 0) out
+writes-nothing x next out = rw (le-ltb (length out) 0 (omega arith), spliced-none out 0)
 
 -- an end with a message: cause 9, or the message is written
 module _ (x : Party) (m out : List ℕ) where

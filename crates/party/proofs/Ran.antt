@@ -18,7 +18,7 @@ use Rattle.erasure.specs.Coding.{shares}
 use Rattle.merkle.specs.Shares.{same, codingStrings}
 use Rattle.party.specs.State.{Result, nothing, settled, told, outcomeOf, bytesOf, padded, messageIn, shareHeld, atRoot, atBit, atFirst, atSecond, atEnd}
 use Rattle.party.specs.State.{resultIn, messageRoot, happy}
-use Rattle.party.specs.Steps.{turnOf, openCause, openOf, outboxOf, relayOf, relayedOf, resultOf}
+use Rattle.party.specs.Steps.{turnOf, openCause, openOf, outboxOf, relayOf, heldOf, resultOf}
 use Rattle.party.specs.Calls.{Call, agreeRoot, agreeBit, takeShares, takeRelays, stepOf, Reply, Event, accepted, first, entry, heard, writtenBy, wrote}
 use Rattle.party.specs.Calls.{packetTo, bitGiven, resultShown, lengths, sentIn, sentOver, events, final, shareStrings, relayStrings, checkedIn, checkedOver}
 use Rattle.party.specs.Calls.{opening, did, firstOf, resultAfter, hashed, sentBy}
@@ -56,7 +56,7 @@ result-end n t i nothing = refl
 result-end n t i (settled m) = ap {B = Option Result} (λ (l : List ℕ). some (settled l)) (take-padded maxMessage m)
 
 -- an ended party awaits no step
-ended-turn : (n t i : ℕ) (r : Result) → turnOf (atEnd n t i r .stage) ≡ 5
+ended-turn : (n t i : ℕ) (r : Result) → turnOf (atEnd n t i r .stage) ≡ 0
 unfolding atEnd
 ended-turn n t i r = refl
 
@@ -91,13 +91,13 @@ is-fifth (takeRelays inbox out) e = (inbox, out, refl)
 
 module _ (H : List ℕ → List ℕ) where
   -- the first of step k, where the stage awaits it: the call was accepted on that state
-  accepted-at : (k : ℕ) (x fin : Party) (es : List Event) (e : Event) (c : Call) → suc (turnOf (x .stage)) ≡ k → Chain H x es fin
+  accepted-at : (k : ℕ) (x fin : Party) (es : List Event) (e : Event) (c : Call) → turnOf (x .stage) ≡ k → Chain H x es fin
       → first k es ≡ some e → e .call ≡ c → event H x c .reply .cause ≡ 0
   accepted-at k x fin es e c a h q p =
       let r = next H k x fin es e a h q in
       subst (λ (d : Call). event H x d .reply .cause ≡ 0) p (subst (λ (v : Event). v .reply .cause ≡ 0) (r .2) (r .3))
 
-  advance : (k : ℕ) (x fin : Party) (es : List Event) (e : Event) (c : Call) (s : Reply) → suc (turnOf (x .stage)) ≡ k
+  advance : (k : ℕ) (x fin : Party) (es : List Event) (e : Event) (c : Call) (s : Reply) → turnOf (x .stage) ≡ k
       → Chain H x es fin → first k es ≡ some e → e .call ≡ c → event H x c .reply ≡ s
       → (rest : List Event) × (es ≡ ev x c s ∷ rest) × Chain H (s .state) rest fin
   advance k x fin es e c s a h q p g =
@@ -105,7 +105,7 @@ module _ (H : List ℕ → List ℕ) where
       let u : e ≡ ev x c s = r .2 ∙ ap (event H x) p ∙ ap (ev x c) g in
       (r .0, r .1 ∙ ap (λ (v : Event). v ∷ r .0) u, subst (λ (v : Event). Chain H (v .reply .state) (r .0) fin) u (r .4))
 
-  turn-of : (k : ℕ) (x fin : Party) (es : List Event) (e : Event) → suc (turnOf (x .stage)) ≡ k → Chain H x es fin
+  turn-of : (k : ℕ) (x fin : Party) (es : List Event) (e : Event) → turnOf (x .stage) ≡ k → Chain H x es fin
       → first k es ≡ some e → stepOf (e .call) ≡ k
   turn-of k x fin es e a h q =
       let r = next H k x fin es e a h q in
@@ -119,7 +119,7 @@ module _ (H : List ℕ → List ℕ) where
     X2 = atFirst n t i m z
 
     abbrev X3 : List ℕ → Party
-    X3 inbox = atSecond n t i m z (relayedOf H X2 inbox)
+    X3 inbox = atSecond n t i m z (heldOf H X2 inbox)
 
     -- the replies, by the states that the accepted calls got
     abbrev reply2 : Reply
@@ -176,7 +176,7 @@ module _ (H : List ℕ → List ℕ) where
     unfolding atFirst
     is4 inbox out =
         ap (λ (b : List ℕ). record {
-          state = atSecond n t i b z (relayedOf H X2 inbox);
+          state = atSecond n t i b z (heldOf H X2 inbox);
           cause = 0;
           value = length (relayOf H X2 inbox);
           result = none;
@@ -259,14 +259,14 @@ pub record Ran (H : List ℕ → List ℕ) (n t i : ℕ) (m : List ℕ) (calls :
   pub heard5 : (j : ℕ) → heard n j (firstOf H n t i m calls 5) ≡ entry n j in5
   pub packets : wrote (firstOf H n t i m calls 3) ≡ outboxOf H (atBit n t i m z) 1
   pub relayed : wrote (firstOf H n t i m calls 4) ≡ relayOf H (atFirst n t i m z) in4
-  pub ends : resultAfter H n t i m calls ≡ some (resultOf H (atSecond n t i m z (relayedOf H (atFirst n t i m z) in4)) in5)
+  pub ends : resultAfter H n t i m calls ≡ some (resultOf H (atSecond n t i m z (heldOf H (atFirst n t i m z) in4)) in5)
   pub shows : resultShown (firstOf H n t i m calls 5)
-      ≡ some (resultOf H (atSecond n t i m z (relayedOf H (atFirst n t i m z) in4)) in5)
+      ≡ some (resultOf H (atSecond n t i m z (heldOf H (atFirst n t i m z) in4)) in5)
   pub in-tree : (s : List ℕ) → List·Memᴰ s (codingStrings H n (shares n (n - t) m)) → List·Memᴰ s (hashed H n t i m calls)
   pub in-first : (s : List ℕ) → List·Memᴰ s (checkedIn H (atFirst n t i m z) (takeShares in4 []))
       → List·Memᴰ s (hashed H n t i m calls)
   pub in-second : (s : List ℕ)
-      → List·Memᴰ s (checkedIn H (atSecond n t i m z (relayedOf H (atFirst n t i m z) in4)) (takeRelays in5 []))
+      → List·Memᴰ s (checkedIn H (atSecond n t i m z (heldOf H (atFirst n t i m z) in4)) (takeRelays in5 []))
       → List·Memᴰ s (hashed H n t i m calls)
   pub sends : sentBy H n t i m calls
       ≡ lengths (bodies n (outboxOf H (atBit n t i m z) 1)) + (n - 1) * length (relayOf H (atFirst n t i m z) in4)

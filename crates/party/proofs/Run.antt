@@ -16,8 +16,8 @@ use Rattle.buffer.specs.Entries.{fills}
 use Rattle.buffer.specs.declared.Written.{Written}
 use Rattle.buffer.specs.declared.Written.the-variants as written
 use Rattle.party.specs.State.{Result, nothing, settled, bytesOf, messageIn, atBit, atFirst, atSecond, atEnd, broken, resultIn, happy}
-use Rattle.party.specs.Steps.{turnOf, stateCause, rootCause, withRoot, ballot, agreeRootOf, Stepped, gives, refused, sent, bitCause, outboxOf}
-use Rattle.party.specs.Steps.{agreeBitOf, inboxCause, relayOf, relayedOf, takeSharesOf, resultOf, Ending, givesEnd, ending, takeRelaysOf}
+use Rattle.party.specs.Steps.{turnOf, stateCause, rootCause, withRoot, ballot, agreeRootOf, Stepped, gives, refused, writes, bitCause, outboxOf}
+use Rattle.party.specs.Steps.{agreeBitOf, inboxCause, relayOf, heldOf, takeSharesOf, resultOf, Ending, givesEnd, ending, takeRelaysOf}
 use Rattle.party.specs.Calls.{Call, agreeRoot, agreeBit, takeShares, takeRelays, stepOf, Reply, Event, accepted, first, writtenBy, sentIn, sentOver}
 use Rattle.party.specs.Calls.{made, events, final}
 use Rattle.party.specs.declared.Party.{Party}
@@ -60,15 +60,15 @@ nine : _≡_ {A = ℕ} 9 0 → ⊥
 nine e = omega arith
 
 written-or : (k : ℕ) (x next : Party) (bs out : List ℕ)
-    → ((k ≡ 0) × (cond (not (eqb k 0)) (refused x k out) (sent x next bs out)
+    → ((k ≡ 0) × (cond (not (eqb k 0)) (refused x k out) (writes x next bs out)
     ≡ gives next (written.Done (length bs)) (spliced out 0 bs)))
-    ⊎ Turned x (reply (cond (not (eqb k 0)) (refused x k out) (sent x next bs out)))
+    ⊎ Turned x (reply (cond (not (eqb k 0)) (refused x k out) (writes x next bs out)))
 written-or k x next bs out = go (way (eqb k 0)) (way (ltb (length out) (length bs)))
   where
     go : Way (eqb k 0) → Way (ltb (length out) (length bs))
-        → ((k ≡ 0) × (cond (not (eqb k 0)) (refused x k out) (sent x next bs out)
+        → ((k ≡ 0) × (cond (not (eqb k 0)) (refused x k out) (writes x next bs out)
         ≡ gives next (written.Done (length bs)) (spliced out 0 bs)))
-        ⊎ Turned x (reply (cond (not (eqb k 0)) (refused x k out) (sent x next bs out)))
+        ⊎ Turned x (reply (cond (not (eqb k 0)) (refused x k out) (writes x next bs out)))
     go (on e) (off f) = inl (eqb-true k 0 e, rw (e, f))
     go (on e) (on f) = inr (rw (e, f) (nine, refl))
     go (off e) w = inr (rw e (eqb-false k 0 e, refl))
@@ -123,22 +123,22 @@ taken r e (inl a) = a
 taken r e (inr b) = absurd (b .0 e)
 
 -- a step that no cause turns away is in turn
-root-turn : (x : Party) (z : List ℕ) → rootCause x z ≡ 0 → turnOf (x .stage) ≡ 1
+root-turn : (x : Party) (z : List ℕ) → rootCause x z ≡ 0 → turnOf (x .stage) ≡ 2
 unfolding rootCause
-root-turn x z e = go (way (eqb (stateCause 1 x) 0))
+root-turn x z e = go (way (eqb (stateCause 2 x) 0))
   where
-    go : Way (eqb (stateCause 1 x) 0) → turnOf (x .stage) ≡ 1
-    go (on q) = state-sound 1 x (eqb-true (stateCause 1 x) 0 q) .1
-    go (off q) = absurd (eqb-false (stateCause 1 x) 0 q (rw q at e))
+    go : Way (eqb (stateCause 2 x) 0) → turnOf (x .stage) ≡ 2
+    go (on q) = state-sound 2 x (eqb-true (stateCause 2 x) 0 q) .1
+    go (off q) = absurd (eqb-false (stateCause 2 x) 0 q (rw q at e))
 
-bit-turn : (x : Party) (bit : ℕ) → bitCause x bit ≡ 0 → (turnOf (x .stage) ≡ 2) × (bit ≤ 1)
+bit-turn : (x : Party) (bit : ℕ) → bitCause x bit ≡ 0 → (turnOf (x .stage) ≡ 3) × (bit ≤ 1)
 unfolding bitCause
-bit-turn x bit e = go (way (eqb (stateCause 2 x) 0)) (way (ltb 1 bit))
+bit-turn x bit e = go (way (eqb (stateCause 3 x) 0)) (way (ltb 1 bit))
   where
-    go : Way (eqb (stateCause 2 x) 0) → Way (ltb 1 bit) → (turnOf (x .stage) ≡ 2) × (bit ≤ 1)
-    go (on q) (off r) = (state-sound 2 x (eqb-true (stateCause 2 x) 0 q) .1, ltb-false 1 bit r)
+    go : Way (eqb (stateCause 3 x) 0) → Way (ltb 1 bit) → (turnOf (x .stage) ≡ 3) × (bit ≤ 1)
+    go (on q) (off r) = (state-sound 3 x (eqb-true (stateCause 3 x) 0 q) .1, ltb-false 1 bit r)
     go (on q) (on r) = let z : _≡_ {A = ℕ} 7 0 = rw (q, r) at e in absurd (omega arith)
-    go (off q) r = absurd (eqb-false (stateCause 2 x) 0 q (rw q at e))
+    go (off q) r = absurd (eqb-false (stateCause 3 x) 0 q (rw q at e))
 
 inbox-turn : (turn : ℕ) (x : Party) (inbox : List ℕ) → inboxCause turn x inbox ≡ 0 → turnOf (x .stage) ≡ turn
 unfolding inboxCause
@@ -167,7 +167,7 @@ module _ (H : List ℕ → List ℕ) where
   abbrev pub made4 : Party → List ℕ → List ℕ → Reply
   made4 x inbox out =
       record {
-        state = atSecond (x .n) (x .t) (x .own) (messageIn x) (x .root) (relayedOf H x inbox);
+        state = atSecond (x .n) (x .t) (x .own) (messageIn x) (x .root) (heldOf H x inbox);
         cause = 0;
         value = length (relayOf H x inbox);
         result = none;
@@ -194,18 +194,18 @@ module _ (H : List ℕ → List ℕ) where
       (outboxOf H x bit) out)
 
   shares-or : (x : Party) (inbox out : List ℕ)
-      → ((inboxCause 3 x inbox ≡ 0) × (made H x (takeShares inbox out) ≡ made4 x inbox out)) ⊎ Turned x (made H x (takeShares inbox out))
+      → ((inboxCause 4 x inbox ≡ 0) × (made H x (takeShares inbox out) ≡ made4 x inbox out)) ⊎ Turned x (made H x (takeShares inbox out))
   unfolding made takeSharesOf
   shares-or x inbox out =
       first-of (λ e. (e .0, ap reply (e .1)))
-      (written-or (inboxCause 3 x inbox) x (atSecond (x .n) (x .t) (x .own) (messageIn x) (x .root) (relayedOf H x inbox))
+      (written-or (inboxCause 4 x inbox) x (atSecond (x .n) (x .t) (x .own) (messageIn x) (x .root) (heldOf H x inbox))
       (relayOf H x inbox) out)
 
   relays-or : (x : Party) (inbox out : List ℕ)
-      → ((inboxCause 4 x inbox ≡ 0) × (made H x (takeRelays inbox out) ≡ made5 x (resultOf H x inbox) out))
+      → ((inboxCause 5 x inbox ≡ 0) × (made H x (takeRelays inbox out) ≡ made5 x (resultOf H x inbox) out))
       ⊎ Turned x (made H x (takeRelays inbox out))
   unfolding made takeRelaysOf
-  relays-or x inbox out = ended-or (inboxCause 4 x inbox) x (resultOf H x inbox) out
+  relays-or x inbox out = ended-or (inboxCause 5 x inbox) x (resultOf H x inbox) out
 
   -- a call that is turned away keeps the state
   pub refused-keeps : (x : Party) (c : Call) → made H x c .cause ≢ 0 → made H x c .state ≡ x
@@ -218,36 +218,36 @@ module _ (H : List ℕ → List ℕ) where
 
   -- what an accepted call is: in turn, and what it gives
   pub did2 : (x : Party) (z : List ℕ) → made H x (agreeRoot z) .cause ≡ 0
-      → (turnOf (x .stage) ≡ 1) × (made H x (agreeRoot z) ≡ made2 x z)
+      → (turnOf (x .stage) ≡ 2) × (made H x (agreeRoot z) ≡ made2 x z)
   did2 x z a =
       let t = taken (made H x (agreeRoot z)) a (root-or x z) in
       (root-turn x z (t .0), t .1)
 
   pub did3 : (x : Party) (bit : ℕ) (out : List ℕ) → made H x (agreeBit bit out) .cause ≡ 0
-      → (turnOf (x .stage) ≡ 2) × (bit ≤ 1) × (made H x (agreeBit bit out) ≡ made3 x bit out)
+      → (turnOf (x .stage) ≡ 3) × (bit ≤ 1) × (made H x (agreeBit bit out) ≡ made3 x bit out)
   did3 x bit out a =
       let t = taken (made H x (agreeBit bit out)) a (bit-or x bit out) in
       let b = bit-turn x bit (t .0) in
       (b .0, b .1, t .1)
 
   pub did4 : (x : Party) (inbox out : List ℕ) → made H x (takeShares inbox out) .cause ≡ 0
-      → (turnOf (x .stage) ≡ 3) × (made H x (takeShares inbox out) ≡ made4 x inbox out)
+      → (turnOf (x .stage) ≡ 4) × (made H x (takeShares inbox out) ≡ made4 x inbox out)
   did4 x inbox out a =
       let t = taken (made H x (takeShares inbox out)) a (shares-or x inbox out) in
-      (inbox-turn 3 x inbox (t .0), t .1)
-
-  pub did5 : (x : Party) (inbox out : List ℕ) → made H x (takeRelays inbox out) .cause ≡ 0
-      → (turnOf (x .stage) ≡ 4) × (made H x (takeRelays inbox out) ≡ made5 x (resultOf H x inbox) out)
-  did5 x inbox out a =
-      let t = taken (made H x (takeRelays inbox out)) a (relays-or x inbox out) in
       (inbox-turn 4 x inbox (t .0), t .1)
 
-  -- the step that a stage awaits has the number after the stage's
-  pub in-turn : (x : Party) (c : Call) → made H x c .cause ≡ 0 → suc (turnOf (x .stage)) ≡ stepOf c
-  in-turn x (agreeRoot z) a = ap suc (did2 x z a .0)
-  in-turn x (agreeBit bit out) a = ap suc (did3 x bit out a .0)
-  in-turn x (takeShares inbox out) a = ap suc (did4 x inbox out a .0)
-  in-turn x (takeRelays inbox out) a = ap suc (did5 x inbox out a .0)
+  pub did5 : (x : Party) (inbox out : List ℕ) → made H x (takeRelays inbox out) .cause ≡ 0
+      → (turnOf (x .stage) ≡ 5) × (made H x (takeRelays inbox out) ≡ made5 x (resultOf H x inbox) out)
+  did5 x inbox out a =
+      let t = taken (made H x (takeRelays inbox out)) a (relays-or x inbox out) in
+      (inbox-turn 5 x inbox (t .0), t .1)
+
+  -- an accepted call is of the step that the stage waits for
+  pub in-turn : (x : Party) (c : Call) → made H x c .cause ≡ 0 → turnOf (x .stage) ≡ stepOf c
+  in-turn x (agreeRoot z) a = did2 x z a .0
+  in-turn x (agreeBit bit out) a = did3 x bit out a .0
+  in-turn x (takeShares inbox out) a = did4 x inbox out a .0
+  in-turn x (takeRelays inbox out) a = did5 x inbox out a .0
 
   abbrev pub event : Party → Call → Event
   event x c = record { before = x; call = c; reply = made H x c }
@@ -271,7 +271,7 @@ module _ (H : List ℕ → List ℕ) where
           (refused-keeps x c (eqb-false (made H x c .cause) 0 y)) r)
 
   -- the next accepted call is the one that the stage awaits
-  pub next : (k : ℕ) (x fin : Party) (es : List Event) (e : Event) → suc (turnOf (x .stage)) ≡ k → Chain x es fin → first k es ≡ some e
+  pub next : (k : ℕ) (x fin : Party) (es : List Event) (e : Event) → turnOf (x .stage) ≡ k → Chain x es fin → first k es ≡ some e
       → (rest : List Event) × (es ≡ e ∷ rest) × (e ≡ event x (e .call)) × (e .reply .cause ≡ 0) × Chain (e .reply .state) rest fin
   unfolding first
   next k x fin [] e a h q = absurd (none-some q)
@@ -290,13 +290,13 @@ module _ (H : List ℕ → List ℕ) where
   abbrev pub Still : ℕ → Party → List Event → Party → Type 0
   Still n x es fin = (resultIn fin ≡ resultIn x) × (sentOver n es ≡ 0)
 
-  pub still : (n : ℕ) (x fin : Party) (es : List Event) → turnOf (x .stage) ≡ 5 → Chain x es fin → Still n x es fin
+  pub still : (n : ℕ) (x fin : Party) (es : List Event) → turnOf (x .stage) ≡ 0 → Chain x es fin → Still n x es fin
   unfolding sentOver
   still n x fin [] a h = (ap resultIn h, refl)
   still n x fin (d ∷ es) a h =
-      absurd (late (d .call) (sym (in-turn x (d .call) (subst (λ (v : Event). v .reply .cause ≡ 0) (h .0) (h .1))) ∙ ap suc a))
+      absurd (late (d .call) (sym (in-turn x (d .call) (subst (λ (v : Event). v .reply .cause ≡ 0) (h .0) (h .1))) ∙ a))
     where
-      late : (c : Call) → stepOf c ≡ 6 → ⊥
+      late : (c : Call) → stepOf c ≡ 0 → ⊥
       late (agreeRoot z) e = omega arith
       late (agreeBit bit out) e = omega arith
       late (takeShares inbox out) e = omega arith

@@ -1,5 +1,6 @@
 -- Agreement (demand 3): one claim about all good parties of a session (document 01: good boxes, a sitting) and their lists of calls
--- together. What is supposed of them, what then holds, and the claim that it does, for a hash H. Assumes nothing.
+-- together. What is supposed of them, what then holds, and the claim that it does. The hash is a parameter; demand 3 is the claim at
+-- SHA-256, and it is proved there and for every other hash of 32 bytes (proofs/Agreement). Assumes nothing.
 use mathlib.Core.Path.{_≡_}
 use mathlib.Core.Logic.{_⊎_, _≢_}
 use mathlib.Core.Bool.{Bool, true, false, cond}
@@ -55,23 +56,24 @@ module _ (H : List ℕ → List ℕ) (n t : ℕ) (good : List Good) where
   abbrev pub step : ℕ → Good → Option Event
   step k A = firstOf H n t (A .own) (A .message) (A .calls) k
 
-  -- all opened, with one n and t, under different numbers; bad are the numbers up to n that no good party bears, at most t
+  -- all opened with messages of bytes, with one n and t, under different numbers; bad are the numbers up to n that no good party bears,
+  -- at most t. Nothing is supposed of other arguments' bytes
   pub record OpenedAll : Type 0 where
     pub bytes : Each (λ A. Bytes (A .message))
-    pub taken : Each (λ A. opening H n t (A .own) (A .message) .cause ≡ 0)
+    pub accepted : Each (λ A. opening H n t (A .own) (A .message) .cause ≡ 0)
     pub apart : different owns ≡ true
     pub bad : absent n 1 owns ≤ t
 
   -- steps 2 and 3 were accepted, first with the agreed root z and the agreed bit; on bit 1 also steps 4 and 5
   pub record CalledAll (z : List ℕ) (bit : ℕ) : Type 0 where
-    pub second : Each (λ A. (e : Event) × (step 2 A ≡ some e) × (e .call ≡ agreeRoot z))
-    pub third : Each (λ A. (e : Event) × (out : List ℕ) × (step 3 A ≡ some e) × (e .call ≡ agreeBit bit out))
-    pub fourth : bit ≡ 1 → Each (λ A. (e : Event) × (step 4 A ≡ some e))
-    pub fifth : bit ≡ 1 → Each (λ A. (e : Event) × (step 5 A ≡ some e))
+    pub step2 : Each (λ A. (e : Event) × (step 2 A ≡ some e) × (e .call ≡ agreeRoot z))
+    pub step3 : Each (λ A. (e : Event) × (out : List ℕ) × (step 3 A ≡ some e) × (e .call ≡ agreeBit bit out))
+    pub step4 : bit ≡ 1 → Each (λ A. (e : Event) × (step 4 A ≡ some e))
+    pub step5 : bit ≡ 1 → Each (λ A. (e : Event) × (step 5 A ≡ some e))
 
   -- the rule of the short agreement: if all good parties put in the same value, it is the one that all got
-  abbrev pub Rule : {A : Type 0} → (Good → Option A) → A → Type 0
-  Rule {A} given got = (v : A) → Each (λ P. given P ≡ some v) → got ≡ v
+  abbrev pub Rule : {T : Type 0} → (Good → Option T) → T → Type 0
+  Rule {T} given got = (v : T) → Each (λ A. given A ≡ some v) → got ≡ v
 
   -- for the root it was given the openings' roots, for the bit the bits of those steps 2
   pub record Ruled (z : List ℕ) (bit : ℕ) : Type 0 where
@@ -84,8 +86,8 @@ module _ (H : List ℕ → List ℕ) (n t : ℕ) (good : List Good) where
 
   -- in the first inbox B's packet for A from that step 3, in the second B's relay from that step 4
   pub record DeliveredAll : Type 0 where
-    pub first : Delivered (λ A B. heard n (B .own) (step 4 A)) (λ B A. packetTo n (A .own) (step 3 B))
-    pub second : Delivered (λ A B. heard n (B .own) (step 5 A)) (λ B A. wrote (step 4 B))
+    pub firstInbox : Delivered (λ A B. heard n (B .own) (step 4 A)) (λ B A. packetTo n (A .own) (step 3 B))
+    pub secondInbox : Delivered (λ A B. heard n (B .own) (step 5 A)) (λ B A. wrote (step 4 B))
 
   -- no two different strings that good parties hashed, all taken together, have one hash
   abbrev pub allHashed : List (List ℕ)

@@ -3,7 +3,7 @@
 use mathlib.Core.Bool.{cond}
 use mathlib.Core.List.{List, [], _∷_, _++_}
 use mathlib.Core.Option.{Option, none, some}
-use Prim.Native.Nat.{ℕ, zero, suc, _+_, _-_, _*_}
+use Prim.Native.Nat.{ℕ, _+_, _-_, _*_}
 use lib.Dec.{eqb}
 use lib.ListN.{length, getD, take}
 use Rattle.buffer.specs.Entries.{bodies}
@@ -36,8 +36,8 @@ inboxIn (agreeBit bit out) = []
 inboxIn (takeShares inbox out) = inbox
 inboxIn (takeRelays inbox out) = inbox
 
--- what a call gives back, in one form for all steps: the state, document 01's number of the cause (0: accepted), the value with it, the
--- result (of step 5), and what the out buffer then holds (none at step 2)
+-- what a call gives back, in one form for all steps: the state, document 01's number of the cause (0: accepted), the value with it (of
+-- step 2 the bit, of the others the bytes written or needed), the result (of step 5), and what the out buffer then holds (none at step 2)
 pub record Reply : Type 0 where
   pub state : Party
   pub cause : ℕ
@@ -70,7 +70,7 @@ abbrev pub heard : ℕ → ℕ → Option Event → List ℕ
 heard n j none = []
 heard n j (some e) = entry n j (inboxIn (e .call))
 
--- what steps 3 and 4 wrote: as many bytes of the buffer as the answer says
+-- what an accepted step 3 or 4 wrote: as many bytes of the buffer as the answer says
 abbrev pub writtenBy : Event → List ℕ
 writtenBy e = take (e .reply .value) (e .reply .buffer)
 

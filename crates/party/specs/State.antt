@@ -1,7 +1,7 @@
 -- The state of a party (document 01: box), what breaks it, and the one form that each stage's states are given back in.
 -- The hash of the tree is a parameter; document 01's is SHA-256, at which the contracts cite these. Assumes nothing.
-use mathlib.Core.Bool.{Bool, true, false, cond, not, _||_}
-use mathlib.Core.List.{List, [], _∷_, _++_}
+use mathlib.Core.Bool.{Bool, false, not, _||_}
+use mathlib.Core.List.{List, [], _++_}
 use mathlib.Core.Option.{Option, none, some}
 use Prim.Native.Nat.{ℕ, _-_}
 use lib.Dec.{ltb, eqb}

@@ -1,7 +1,7 @@
 -- The opening and steps 2 to 5 of a party (document 01, "The steps of a box"), each as the lowest cause that applies and what the call gives
--- back if none does. A refused call gives back the very state it got and leaves every lent byte. The hash of the tree is a parameter H.
+-- back if none does. A refused step gives back the very state it got and leaves every lent byte. The hash of the tree is a parameter H.
 -- Assumes nothing.
-use mathlib.Core.Bool.{Bool, true, false, cond, not, _&&_}
+use mathlib.Core.Bool.{cond, not, _&&_}
 use mathlib.Core.List.{List, [], _∷_}
 use mathlib.Core.Option.{Option, none, some}
 use Prim.Native.Nat.{ℕ, _+_, _-_}
@@ -33,13 +33,13 @@ use Rattle.party.specs.declared.Ended.{Ended}
 use Rattle.party.specs.declared.Settled.{Settled}
 use Rattle.party.specs.declared.Settled.the-variants as answer
 
--- the stage's number in document 01's order; only the matching step is in turn
+-- document 01's number of the step that a stage waits for; only that one is in turn
 abbrev pub turnOf : Stage → ℕ
-turnOf stage.Root = 1
-turnOf stage.Bit = 2
-turnOf stage.First = 3
-turnOf stage.Second = 4
-turnOf (stage.Ended r) = 5
+turnOf stage.Root = 2
+turnOf stage.Bit = 3
+turnOf stage.First = 4
+turnOf stage.Second = 5
+turnOf (stage.Ended r) = 0
 
 -- cause 5, a broken state, then cause 6, a step that is not in turn; 0: neither
 unfoldable pub stateCause : ℕ → Party → ℕ
@@ -57,7 +57,7 @@ module _ (H : List ℕ → List ℕ) where
       cond (not (eqb (openCause n t own (length m)) 0)) (record { state = blankState; cause = openCause n t own (length m); root = blank })
       (record { state = atRoot n t own m; cause = 0; root = messageRoot H n t m })
 
--- what step 2 gives back: the state and the answer, with document 01's number of the cause (0: taken) and the party's bit, 1 for happy
+-- what step 2 gives back: the state and the answer, with document 01's number of the cause (0: accepted) and the party's bit, 1 for happy
 pub record Ballot : Type 0 where
   pub state : Party
   pub answer : Vote
@@ -80,7 +80,7 @@ voted r = ballot (r .state) (r .answer)
 
 -- step 2, the agreed root z: causes 5, 6, 7; the answer is the party's bit, whether it is happy
 unfoldable pub rootCause : Party → List ℕ → ℕ
-rootCause x z = cond (not (eqb (stateCause 1 x) 0)) (stateCause 1 x) (cond (not (eqb (length z) 32)) 7 0)
+rootCause x z = cond (not (eqb (stateCause 2 x) 0)) (stateCause 2 x) (cond (not (eqb (length z) 32)) 7 0)
 
 abbrev pub withRoot : Party → List ℕ → Party
 withRoot x z = atBit (x .n) (x .t) (x .own) (messageIn x) z
@@ -91,8 +91,8 @@ module _ (H : List ℕ → List ℕ) where
       cond (not (eqb (rootCause x z) 0)) (ballot x (vote.Refused (rootCause x z)))
       (ballot (withRoot x z) (vote.Happy (happy H (withRoot x z))))
 
--- what steps 3 and 4 give back: the state and the answer, with document 01's number of the cause (0: taken) and its value (the length
--- needed with cause 9, how many bytes were written if taken), and the lent buffer
+-- what steps 3 and 4 give back: the state and the answer, with document 01's number of the cause (0: accepted) and its value (the length
+-- needed with cause 9, how many bytes were written if accepted), and the lent buffer
 pub record Stepped : Type 0 where
   pub state : Party
   pub answer : Written
@@ -110,8 +110,8 @@ abbrev pub refused : Party → ℕ → List ℕ → Stepped
 refused x k out = gives x (written.Refused k) out
 
 -- bs written at the start of the buffer, and the next state; cause 9 where the buffer is shorter
-abbrev pub sent : Party → Party → List ℕ → List ℕ → Stepped
-sent x next bs out =
+abbrev pub writes : Party → Party → List ℕ → List ℕ → Stepped
+writes x next bs out =
     cond (ltb (length out) (length bs)) (gives x (written.Short (length bs)) out)
     (gives next (written.Done (length bs)) (spliced out 0 bs))
 
@@ -127,7 +127,7 @@ module _ (H : List ℕ → List ℕ) where
 -- step 3, the agreed bit: causes 5, 6, 7, 9. On 0 the party ends with nothing. On 1 a happy one writes for each other party j a packet
 -- with share j and its path; all else writes n lengths of zero
 unfoldable pub bitCause : Party → ℕ → ℕ
-bitCause x bit = cond (not (eqb (stateCause 2 x) 0)) (stateCause 2 x) (cond (ltb 1 bit) 7 0)
+bitCause x bit = cond (not (eqb (stateCause 3 x) 0)) (stateCause 3 x) (cond (ltb 1 bit) 7 0)
 
 module _ (H : List ℕ → List ℕ) where
   unfoldable pub outboxOf : Party → ℕ → List ℕ
@@ -138,7 +138,7 @@ module _ (H : List ℕ → List ℕ) where
   unfoldable pub agreeBitOf : Party → ℕ → List ℕ → Stepped
   agreeBitOf x bit out =
       cond (not (eqb (bitCause x bit) 0)) (refused x (bitCause x bit) out)
-      (sent x
+      (writes x
       (cond (eqb bit 0) (atEnd (x .n) (x .t) (x .own) nothing) (atFirst (x .n) (x .t) (x .own) (messageIn x) (x .root)))
       (outboxOf x bit) out)
 
@@ -183,13 +183,13 @@ module _ (H : List ℕ → List ℕ) where
   unfoldable pub relayOf : Party → List ℕ → List ℕ
   relayOf x inbox = cond (happy H x) (ownRelay x) (packetTaken x (takenBy x inbox))
 
-  unfoldable pub relayedOf : Party → List ℕ → List ℕ
-  relayedOf x inbox = cond (happy H x) [] (shareTaken (takenBy x inbox))
+  unfoldable pub heldOf : Party → List ℕ → List ℕ
+  heldOf x inbox = cond (happy H x) [] (shareTaken (takenBy x inbox))
 
   unfoldable pub takeSharesOf : Party → List ℕ → List ℕ → Stepped
   takeSharesOf x inbox out =
-      cond (not (eqb (inboxCause 3 x inbox) 0)) (refused x (inboxCause 3 x inbox) out)
-      (sent x (atSecond (x .n) (x .t) (x .own) (messageIn x) (x .root) (relayedOf x inbox)) (relayOf x inbox) out)
+      cond (not (eqb (inboxCause 4 x inbox) 0)) (refused x (inboxCause 4 x inbox) out)
+      (writes x (atSecond (x .n) (x .t) (x .own) (messageIn x) (x .root) (heldOf x inbox)) (relayOf x inbox) out)
 
 -- the share of a packet that passed
 abbrev pub shareFrom : Class → List ℕ
@@ -215,8 +215,8 @@ module _ (H : List ℕ → List ℕ) where
   resultOf x inbox =
       cond (happy H x) (settled (messageIn x)) (rebuilt (recovered (x .n - x .t) (present 1 (gathered x 1 (bodies (x .n) inbox)))))
 
--- what step 5 gives back: the state and the answer, with document 01's number of the cause (0: taken), its value (the length needed with
--- cause 9, that of the message if one was found), the result if taken, a message by its bytes as they were written, and the lent buffer
+-- what step 5 gives back: the state and the answer, with document 01's number of the cause (0: accepted), its value (the length needed with
+-- cause 9, that of the message if one was found), the result if accepted, a message by its bytes as they were written, and the lent buffer
 pub record Ending : Type 0 where
   pub state : Party
   pub answer : Settled
@@ -260,5 +260,5 @@ ending x (settled m) out =
 module _ (H : List ℕ → List ℕ) where
   unfoldable pub takeRelaysOf : Party → List ℕ → List ℕ → Ending
   takeRelaysOf x inbox out =
-      cond (not (eqb (inboxCause 4 x inbox) 0)) (givesEnd x (answer.Refused (inboxCause 4 x inbox)) out)
+      cond (not (eqb (inboxCause 5 x inbox) 0)) (givesEnd x (answer.Refused (inboxCause 5 x inbox)) out)
       (ending x (resultOf H x inbox) out)

@@ -15,7 +15,7 @@ ghost use Rattle.packet.specs.Inbox.{inboxOf};
 ghost use Rattle.packet.specs.Class.{classOf};
 ghost use Rattle.party.specs.State.{padded, messageIn, settled, atFirst, atSecond, blankState, overlong, broken, happy};
 ghost use Rattle.party.specs.Steps.{turnOf, stateCause, openCause, inboxCause, leavesIn, outboxOf, firstValid, ownRelay, gathered};
-ghost use Rattle.party.specs.Steps.{voted, stepped, sent, ended, ending, openOf, agreeRootOf, agreeBitOf, takeSharesOf, takeRelaysOf};
+ghost use Rattle.party.specs.Steps.{voted, stepped, writes, ended, ending, openOf, agreeRootOf, agreeBitOf, takeSharesOf, takeRelaysOf};
 ghost use Rattle.party.specs.Private.{Fit, ClassIs, TakenIs, entryFor, entryLength, outboxUpTo, outboxLength};
 use buffer::Written;
 use limits::MAX_MESSAGE;
@@ -148,7 +148,7 @@ impl Party {
     pub fn agree_root(self, root: &[u8]) -> Voted
         ensures { λ r. ⌜ voted r ≡ agreeRootOf sha256 self (now (root .entry)) ⌝ }
     {
-        let cause = self.state_cause(1);
+        let cause = self.state_cause(2);
         if cause != 0 {
             return Voted {
                 state: self,
@@ -174,7 +174,7 @@ impl Party {
     pub fn agree_bit(self, bit: u8, out: &mut [u8]) -> Step
         ensures { λ r. ⌜ stepped r (now (out .exit)) ≡ agreeBitOf sha256 self bit (now (out .entry)) ⌝ }
     {
-        let cause = self.state_cause(2);
+        let cause = self.state_cause(3);
         if cause != 0 {
             return self.refused(cause);
         }
@@ -197,7 +197,7 @@ impl Party {
     pub fn take_shares(self, inbox: &[u8], out: &mut [u8]) -> Step
         ensures { λ r. ⌜ stepped r (now (out .exit)) ≡ takeSharesOf sha256 self (now (inbox .entry)) (now (out .entry)) ⌝ }
     {
-        let cause = self.inbox_cause(3, inbox);
+        let cause = self.inbox_cause(4, inbox);
         if cause != 0 {
             return self.refused(cause);
         }
@@ -234,7 +234,7 @@ impl Party {
     pub fn take_relays(self, inbox: &[u8], out: &mut [u8]) -> Ended
         ensures { λ r. ⌜ ended r (now (out .exit)) ≡ takeRelaysOf sha256 self (now (inbox .entry)) (now (out .entry)) ⌝ }
     {
-        let cause = self.inbox_cause(4, inbox);
+        let cause = self.inbox_cause(5, inbox);
         if cause != 0 {
             return Ended {
                 state: self,
@@ -276,7 +276,7 @@ impl Party {
     // The relay of a happy party: its own share, but none where it is alone.
     fn relay_own(self, out: &mut [u8]) -> Step
         requires { ⌜ Fit self ⌝ }
-        ensures { λ r. ⌜ stepped r (now (out .exit)) ≡ sent self (atSecond (self .n) (self .t) (self .own) (messageIn self) (self .root) []) (ownRelay sha256 self) (now (out .entry)) ⌝ }
+        ensures { λ r. ⌜ stepped r (now (out .exit)) ≡ writes self (atSecond (self .n) (self .t) (self .own) (messageIn self) (self .root) []) (ownRelay sha256 self) (now (out .entry)) ⌝ }
     {
         let n = self.n;
         let own = self.own;
@@ -495,7 +495,7 @@ impl Party {
     // Lengths of zero for all parties, and the next state; cause 9 where out is too short.
     fn silent(self, next: Party, out: &mut [u8]) -> Step
         requires { ⌜ self .n ≤ maxParties ⌝ }
-        ensures { λ r. ⌜ stepped r (now (out .exit)) ≡ sent self next (replicate (2 * self .n) 0) (now (out .entry)) ⌝ }
+        ensures { λ r. ⌜ stepped r (now (out .exit)) ≡ writes self next (replicate (2 * self .n) 0) (now (out .entry)) ⌝ }
     {
         let need = 2 * self.n;
         if out.len() < need {
@@ -514,7 +514,7 @@ impl Party {
     // The outbox of a happy party on bit 1.
     fn send(self, out: &mut [u8]) -> Step
         requires { ⌜ Fit self × (happy sha256 self ≡ true) ⌝ }
-        ensures { λ r. ⌜ stepped r (now (out .exit)) ≡ sent self (atFirst (self .n) (self .t) (self .own) (messageIn self) (self .root)) (outboxOf sha256 self 1) (now (out .entry)) ⌝ }
+        ensures { λ r. ⌜ stepped r (now (out .exit)) ≡ writes self (atFirst (self .n) (self .t) (self .own) (messageIn self) (self .root)) (outboxOf sha256 self 1) (now (out .entry)) ⌝ }
     {
         let n = self.n;
         let own = self.own;
@@ -644,11 +644,11 @@ fn turn_of(stage: Stage) -> usize
     ensures { λ r. ⌜ r ≡ turnOf stage ⌝ }
 {
     match stage {
-        Stage::Root => 1,
-        Stage::Bit => 2,
-        Stage::First => 3,
-        Stage::Second => 4,
-        Stage::Ended(_) => 5,
+        Stage::Root => 2,
+        Stage::Bit => 3,
+        Stage::First => 4,
+        Stage::Second => 5,
+        Stage::Ended(_) => 0,
     }
 }
 

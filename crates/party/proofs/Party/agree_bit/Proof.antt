@@ -8,7 +8,7 @@ use lib.ListN.{length}
 use Rattle.sha256.specs.Sha256.{sha256}
 use Rattle.limits.specs.Limits.{maxMessage}
 use Rattle.party.specs.State.{nothing, messageIn, atFirst}
-use Rattle.party.specs.Steps.{stepped, stateCause, refused, sent}
+use Rattle.party.specs.Steps.{stepped, stateCause, refused, writes}
 use Rattle.party.specs.Private.{Fit}
 use Rattle.party.specs.declared.Party.{Party}
 use Rattle.party.specs.declared.Stage.the-variants.{First}
@@ -24,11 +24,11 @@ use Rattle.party.proofs.Party.agree_bit.Tie as tie
 abbrev Entry : tie.Else1 → tie.Start
 Entry e = e .before .before .before
 
-fine : (e : tie.Else1) → stateCause 2 (Entry e .args .self) ≡ 0
+fine : (e : tie.Else1) → stateCause 3 (Entry e .args .self) ≡ 0
 fine e = sym (e .before .state-cause .ensures) ∙ e .if1 .left
 
 fit : (e : tie.Else1) → Fit (Entry e .args .self)
-fit e = state-fit 2 (Entry e .args .self) (fine e)
+fit e = state-fit 3 (Entry e .args .self) (fine e)
 
 long : (s : tie.Start) → length (s .args .self .message) ≡ maxMessage
 long s = search needs
@@ -79,7 +79,7 @@ returns-3 c =
     let a = Entry e .args in
     let x = a .self in
     w .silent .ensures
-    ∙ ap₂ (λ (y : Party) (bs : List ℕ). sent x y bs (a .out .now))
+    ∙ ap₂ (λ (y : Party) (bs : List ℕ). writes x y bs (a .out .now))
     (d .ended .ensures ∙ ended-kept (x .n) (x .t) (x .own) nothing _ refl) (sym (outbox-silent sha256 x 0 refl))
     ∙ sym (bit-end sha256 x (a .bit) (a .out .now) (bit-fine x (a .bit) (fine e) (omega (arith, t .if3 .taken))) (t .if3 .taken))
 
@@ -128,7 +128,7 @@ returns-5 c =
     let a = Entry e .args in
     let x = a .self in
     w .silent2 .ensures
-    ∙ ap₂ (λ (y : Party) (bs : List ℕ). sent x y bs (a .out .now))
+    ∙ ap₂ (λ (y : Party) (bs : List ℕ). writes x y bs (a .out .now))
     (v .waiting .ensures
     ∙ waiting-kept (x .n) (x .t) (x .own) First _ (messageIn x) _ (x .root) _ [] (x .len) 0 refl
     (sym (length-message x (omega (arith, fit e .short, long (Entry e))))) refl refl refl)

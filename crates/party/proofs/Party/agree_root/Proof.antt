@@ -25,11 +25,11 @@ long : (s : tie.Start) → length (s .args .self .message) ≡ maxMessage
 long s = search needs
 
 -- past the first test neither cause 5 nor cause 6 applies, and the state keeps its bounds
-fine : (e : tie.Else1) → stateCause 1 (e .before .before .before .args .self) ≡ 0
+fine : (e : tie.Else1) → stateCause 2 (e .before .before .before .args .self) ≡ 0
 fine e = sym (e .before .state-cause .ensures) ∙ e .if1 .left
 
 fit : (e : tie.Else1) → Fit (e .before .before .before .args .self)
-fit e = state-fit 1 (e .before .before .before .args .self) (fine e)
+fit e = state-fit 2 (e .before .before .before .args .self) (fine e)
 
 state-cause-requires : tie.Need-state-cause-requires
 state-cause-requires c κs = search needs

@@ -16,7 +16,7 @@ use Rattle.merkle.specs.Shares.{pathOf}
 use Rattle.packet.specs.Answer.{writeOf}
 use Rattle.packet.proofs.Reading.{count-hashes}
 use Rattle.party.specs.State.{messageIn, atSecond}
-use Rattle.party.specs.Steps.{Stepped, gives, sent, packetFor, ownRelay}
+use Rattle.party.specs.Steps.{Stepped, gives, writes, packetFor, ownRelay}
 use Rattle.party.specs.declared.Party.{Party}
 use Rattle.party.specs.declared.Stage.the-variants.{Second}
 use Rattle.party.proofs.Parts.{part-ends, part-part}
@@ -24,7 +24,7 @@ use Rattle.party.proofs.Kept.{length-message, waiting-kept}
 use Rattle.party.proofs.Shared.{share-inside, sharesIn, all-shares, own-share}
 use Rattle.party.proofs.Outbox.{never-refused}
 use Rattle.party.proofs.Relay.{relay-alone, relay-other, relay-written}
-use Rattle.party.proofs.Outcomes.{sent-nothing, sent-done, sent-short}
+use Rattle.party.proofs.Outcomes.{writes-nothing, writes-done, writes-short}
 use Rattle.party.proofs.Party.relay_own.Statement.{statement}
 use Rattle.party.proofs.Party.relay_own.Tie as tie
 
@@ -111,11 +111,11 @@ wrote w =
     ∙ relay-written sha256 x fit (held st) count (h .2) (Out st)
 
 relays : (w : tie.After-write) → let st = Entry (Q w) in
-    sent (X st) (Next st) (packetFor sha256 (X st) (X st .own)) (Out st)
-    ≡ sent (X st) (Next st) (ownRelay sha256 (X st)) (Out st)
+    writes (X st) (Next st) (packetFor sha256 (X st) (X st .own)) (Out st)
+    ≡ writes (X st) (Next st) (ownRelay sha256 (X st)) (Out st)
 relays w =
     let st = Entry (Q w) in
-    ap (λ (bs : List ℕ). sent (X st) (Next st) bs (Out st)) (sym (relay-other sha256 (X st) (Q w .before .if1 .left)))
+    ap (λ (bs : List ℕ). writes (X st) (Next st) bs (Out st)) (sym (relay-other sha256 (X st) (Q w .before .if1 .left)))
 
 waiting-requires : tie.Need-waiting-requires
 waiting-requires c κs = search needs
@@ -125,8 +125,8 @@ returns c =
     let v = c .before in
     let st = v .before .before .before in
     ap {B = Stepped} (λ (y : Party). gives y (given.Done 0) (Out st)) (next v)
-    ∙ sym (ap (λ (bs : List ℕ). sent (X st) (Next st) bs (Out st)) (relay-alone sha256 (X st) (c .if1 .taken))
-    ∙ sent-nothing (X st) (Next st) (Out st))
+    ∙ sym (ap (λ (bs : List ℕ). writes (X st) (Next st) bs (Out st)) (relay-alone sha256 (X st) (c .if1 .taken))
+    ∙ writes-nothing (X st) (Next st) (Out st))
 
 coded-requires : tie.Need-coded-requires
 coded-requires c κs = search needs
@@ -190,7 +190,7 @@ returns-3 : tie.Need-returns-3
 returns-3 c =
     let w = c .before .before .before in
     let st = Entry (Q w) in
-    sent-short (X st) (Next st) (packetFor sha256 (X st) (X st .own)) (Out st) (w .write .result) (O w) (wrote w)
+    writes-short (X st) (Next st) (packetFor sha256 (X st) (X st .own)) (Out st) (w .write .result) (O w) (wrote w)
     (c .match2 .keys2)
     ∙ relays w
 
@@ -202,7 +202,7 @@ returns-4 c =
     let w = c .before .before .before .before in
     let st = Entry (Q w) in
     ap {B = Stepped} (λ (y : Party). gives y (w .write .result) (O w)) (next (Q w .before .before))
-    ∙ sent-done (X st) (Next st) (packetFor sha256 (X st) (X st .own)) (Out st) (w .write .result) (O w) (wrote w) _
+    ∙ writes-done (X st) (Next st) (packetFor sha256 (X st) (X st .own)) (Out st) (w .write .result) (O w) (wrote w) _
     (c .enum-told2 .given .1)
     ∙ relays w
 

@@ -21,7 +21,7 @@ use Rattle.party.specs.declared.Party.{Party}
 use Rattle.party.proofs.Kept.{length-message, waiting-kept}
 use Rattle.party.proofs.Shared.{sizeIn, sharesIn, share-short, all-shares}
 use Rattle.party.proofs.Sending.{outbox-counted, outbox-sent}
-use Rattle.party.proofs.Outcomes.{sent-given}
+use Rattle.party.proofs.Outcomes.{writes-given}
 use Rattle.party.proofs.Party.send.Statement.{statement}
 use Rattle.party.proofs.Party.send.Tie as tie
 
@@ -87,7 +87,7 @@ returns c =
     let a = Entry (o .before .before) .args in
     let x = a .self in
     let bs = outboxOf sha256 x 1 in
-    sent-given x (Next x) bs (a .out .now) (Short (o .outbox-len .result)) (a .out .now)
+    writes-given x (Next x) bs (a .out .now) (Short (o .outbox-len .result)) (a .out .now)
     (ap (λ (k : ℕ). gave (Short k) (a .out .now)) (counted o)
     ∙ sym (written-short bs (a .out .now) (omega (arith, counted o, c .if1 .taken))))
 
@@ -135,7 +135,7 @@ returns-2 c =
     ∙ waiting-kept (x .n) (x .t) (x .own) First _ (messageIn x) _ (x .root) _ [] (x .len) 0 refl (sym (length-message x (held st)))
     refl refl refl)
     (w .write-outbox .ensures ∙ ap (spliced (a .out .now) 0) (written q (v .leaves .result) (v .leaves .ensures)))
-    ∙ sent-given x (Next x) bs (a .out .now) (Done (o .outbox-len .result)) (spliced (a .out .now) 0 bs)
+    ∙ writes-given x (Next x) bs (a .out .now) (Done (o .outbox-len .result)) (spliced (a .out .now) 0 bs)
     (ap (λ (k : ℕ). gave (Done k) (spliced (a .out .now) 0 bs)) (counted o)
     ∙ sym (written-done bs (a .out .now) (omega (arith, counted o, v .before .if1 .left))))
 

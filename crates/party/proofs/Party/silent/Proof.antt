@@ -9,7 +9,7 @@ use Rattle.buffer.specs.Splice.{spliced}
 use Rattle.buffer.specs.Given.{gave}
 use Rattle.buffer.specs.declared.Written.the-variants.{Short, Done}
 use Rattle.buffer.proofs.Given.{written-short, written-done}
-use Rattle.party.proofs.Outcomes.{sent-given}
+use Rattle.party.proofs.Outcomes.{writes-given}
 use Rattle.party.proofs.Party.silent.Statement.{statement}
 use Rattle.party.proofs.Party.silent.Tie as tie
 
@@ -22,7 +22,7 @@ returns c =
     let need = 2 * a .self .n in
     let zeros : List ℕ = replicate need 0 in
     let e = length-replicate {A = ℕ} need 0 in
-    sent-given (a .self) (a .next) zeros (a .out .now) (Short need) (a .out .now)
+    writes-given (a .self) (a .next) zeros (a .out .now) (Short need) (a .out .now)
     (ap (λ (k : ℕ). gave (Short k) (a .out .now)) (sym e) ∙ sym (written-short zeros (a .out .now) (omega (arith, e, c .if1 .taken))))
 
 write-silence-requires : tie.Need-write-silence-requires
@@ -39,7 +39,7 @@ returns-2 c =
     let need = 2 * a .self .n in
     let zeros : List ℕ = replicate need 0 in
     let l = length-replicate {A = ℕ} need 0 in
-    sent-given (a .self) (a .next) zeros (a .out .now) (Done need) _
+    writes-given (a .self) (a .next) zeros (a .out .now) (Done need) _
     (ap (gave (Done need)) (w .write-silence .ensures) ∙ ap (λ (k : ℕ). gave (Done k) (spliced (a .out .now) 0 zeros)) (sym l)
     ∙ sym (written-done zeros (a .out .now) (omega (arith, l, e .if1 .left))))
 

@@ -37,11 +37,11 @@ S st = st .args .inbox .now
 abbrev Out : tie.Start → List ℕ
 Out st = st .args .out .now
 
-fine : (e : tie.Else1) → inboxCause 4 (X (Entry e)) (S (Entry e)) ≡ 0
+fine : (e : tie.Else1) → inboxCause 5 (X (Entry e)) (S (Entry e)) ≡ 0
 fine e = sym (e .before .inbox-cause .ensures) ∙ e .if1 .left
 
 fit : (e : tie.Else1) → Fit (X (Entry e))
-fit e = let x = X (Entry e) in state-fit 4 x (inbox-sound 4 x (S (Entry e)) (fine e) .0)
+fit e = let x = X (Entry e) in state-fit 5 x (inbox-sound 5 x (S (Entry e)) (fine e) .0)
 
 long : (st : tie.Start) → length (X st .message) ≡ maxMessage
 long st = search needs
@@ -141,7 +141,7 @@ slice-aggregate-gather c = search needs
 gather-requires : tie.Need-gather-requires
 gather-requires c κs =
     let e = c .before .before .before in
-    (fit e, inbox-sound 4 (X (Entry e)) (S (Entry e)) (fine e) .1, length-replicate (maxParties * (maxShare + 2)) zero)
+    (fit e, inbox-sound 5 (X (Entry e)) (S (Entry e)) (fine e) .1, length-replicate (maxParties * (maxShare + 2)) zero)
 
 array-share-prefix-entries : tie.Need-array-share-prefix-entries
 array-share-prefix-entries c = search needs

@@ -17,7 +17,7 @@ use Rattle.packet.specs.Answer.{writeOf}
 use Rattle.packet.proofs.Path.{padded as path-padded, path-there, length-hashes}
 use Rattle.party.specs.State.{messageIn, atSecond, happy}
 use Rattle.party.specs.Steps.{inboxCause, Taken, takenBy, shareTaken, packetTaken, ownRelay, Stepped, gives, stepped, refused}
-use Rattle.party.specs.Steps.{sent, takeSharesOf}
+use Rattle.party.specs.Steps.{writes, takeSharesOf}
 use Rattle.party.specs.Private.{Fit, TakenIs}
 use Rattle.party.specs.declared.Party.{Party}
 use Rattle.party.specs.declared.Step.{Step}
@@ -25,7 +25,7 @@ use Rattle.party.specs.declared.Placed.{Placed}
 use Rattle.party.specs.declared.Placed.the-variants.{Nowhere, At}
 use Rattle.party.specs.declared.Stage.the-variants.{Second}
 use Rattle.party.proofs.Causes.{state-fit, inbox-sound}
-use Rattle.party.proofs.Outcomes.{shares-refused, shares-happy, shares-taken, sent-nothing, sent-done, sent-short}
+use Rattle.party.proofs.Outcomes.{shares-refused, shares-happy, shares-taken, writes-nothing, writes-done, writes-short}
 use Rattle.party.proofs.Parts.{length-part, part-ends}
 use Rattle.party.proofs.Kept.{put-padded, length-message, waiting-kept}
 use Rattle.party.proofs.Taking.{passed, write-taken, taken-none, Got, got-of}
@@ -54,11 +54,11 @@ T st = takenBy sha256 (X st) (S st)
 abbrev Next : tie.Start → List ℕ → Party
 Next st y = let x = X st in atSecond (x .n) (x .t) (x .own) (messageIn x) (x .root) y
 
-fine : (e : tie.Else1) → inboxCause 3 (X (Entry e)) (S (Entry e)) ≡ 0
+fine : (e : tie.Else1) → inboxCause 4 (X (Entry e)) (S (Entry e)) ≡ 0
 fine e = sym (e .before .inbox-cause .ensures) ∙ e .if1 .left
 
 fit : (e : tie.Else1) → Fit (X (Entry e))
-fit e = let x = X (Entry e) in state-fit 3 x (inbox-sound 3 x (S (Entry e)) (fine e) .0)
+fit e = let x = X (Entry e) in state-fit 4 x (inbox-sound 4 x (S (Entry e)) (fine e) .0)
 
 message-long : (st : tie.Start) → length (X st .message) ≡ maxMessage
 message-long st = search needs
@@ -71,7 +71,7 @@ held e = length-message (X (Entry e)) (omega (arith, message-long (Entry e), fit
 
 -- a happy party
 relayed : (w : tie.After-relay-own) → let st = Entry (w .before .before .before .before) in
-    stepped (w .relay-own .result) (w .relay-own .last .1 .0) ≡ sent (X st) (Next st []) (ownRelay sha256 (X st)) (Out st)
+    stepped (w .relay-own .result) (w .relay-own .last .1 .0) ≡ writes (X st) (Next st []) (ownRelay sha256 (X st)) (Out st)
 relayed w = w .relay-own .ensures
 
 -- a party that is not happy: what is sent goes by what was taken
@@ -79,7 +79,7 @@ abbrev E : tie.After-first-valid → tie.Else1
 E d = d .before .before .before .before .before
 
 taking : (d : tie.After-first-valid) → let st = Entry (E d) in
-    takeSharesOf sha256 (X st) (S st) (Out st) ≡ sent (X st) (Next st (shareTaken (T st))) (packetTaken (X st) (T st)) (Out st)
+    takeSharesOf sha256 (X st) (S st) (Out st) ≡ writes (X st) (Next st (shareTaken (T st))) (packetTaken (X st) (T st)) (Out st)
 taking d =
     let u = d .before .before .before in
     let st = Entry (E d) in
@@ -126,10 +126,10 @@ part : (k : tie.After-from) → take (F k + L k - F k) (drop (F k) (S (Entry (E 
 part k = part-ends (S (Entry (E (D k)))) (F k) (L k)
 
 goal : (k : tie.After-from) → let st = Entry (E (D k)) in
-    takeSharesOf sha256 (X st) (S st) (Out st) ≡ sent (X st) (Next st (Y k)) (Packet k) (Out st)
+    takeSharesOf sha256 (X st) (S st) (Out st) ≡ writes (X st) (Next st (Y k)) (Packet k) (Out st)
 goal k =
     let st = Entry (E (D k)) in
-    taking (D k) ∙ ap (λ (t : Taken). sent (X st) (Next st (shareTaken t)) (packetTaken (X st) t) (Out st)) (got k .is)
+    taking (D k) ∙ ap (λ (t : Taken). writes (X st) (Next st (shareTaken t)) (packetTaken (X st) t) (Out st)) (got k .is)
 
 -- what was written
 abbrev K : tie.After-write → tie.After-from
@@ -199,7 +199,7 @@ first-valid-requires : tie.Need-first-valid-requires
 first-valid-requires c κs =
     let e = c .before .before .before .before in
     let f = fit e in
-    (f .low, f .high, f .first, f .last, inbox-sound 3 (X (Entry e)) (S (Entry e)) (fine e) .1, root-long (Entry e))
+    (f .low, f .high, f .first, f .last, inbox-sound 4 (X (Entry e)) (S (Entry e)) (fine e) .1, root-long (Entry e))
 
 enum-known-from : tie.Need-enum-known-from
 enum-known-from c = search needs
@@ -221,9 +221,9 @@ returns-3 c =
     (c .waiting .ensures
     ∙ waiting-kept (x .n) (x .t) (x .own) Second _ (messageIn x) _ (x .root) _ [] (x .len) 0 refl (sym (held (E d))) refl refl refl)
     ∙ sym (taking d
-    ∙ ap (λ (t : Taken). sent x (Next st (shareTaken t)) (packetTaken x t) (Out st))
+    ∙ ap (λ (t : Taken). writes x (Next st (shareTaken t)) (packetTaken x t) (Out st))
     (taken-none (T st) (S st) (took d Nowhere (b .enum-told .given .1)))
-    ∙ sent-nothing x (Next st []) (Out st))
+    ∙ writes-nothing x (Next st []) (Out st))
 
 add-end : tie.Need-add-end
 add-end c =
@@ -256,7 +256,7 @@ returns-4 c =
     let w = c .before .before .before in
     let k = K w in
     let st = Entry (E (D k)) in
-    sent-short (X st) (Next st (Y k)) (Packet k) (Out st) (w .write .result) (O w) (wrote w) (c .match2 .keys2) ∙ sym (goal k)
+    writes-short (X st) (Next st (Y k)) (Packet k) (Out st) (w .write .result) (O w) (wrote w) (c .match2 .keys2) ∙ sym (goal k)
 
 slice-aggregate-put : tie.Need-slice-aggregate-put
 slice-aggregate-put c = search needs
@@ -298,7 +298,7 @@ returns-5 c =
     ∙ waiting-kept (x .n) (x .t) (x .own) Second _ (messageIn x) _ (x .root) _ (Y k) (x .len) (L k) refl (sym (held (E (D k)))) refl
     (p .put .ensures .1 ∙ ap (putOf (replicate maxShare 0) 0) (part k) ∙ put-padded maxShare (Y k) (omega (arith, size k, g .most)))
     (sym (size k)))
-    ∙ sent-done x (Next st (Y k)) (Packet k) (Out st) (w .write .result) (O w) (wrote w) _ (t .enum-told2 .given .1)
+    ∙ writes-done x (Next st (Y k)) (Packet k) (Out st) (w .write .result) (O w) (wrote w) _ (t .enum-told2 .given .1)
     ∙ sym (goal k)
 
 pub take-shares-spec : {M : Type 1} → statement M
