@@ -32,8 +32,8 @@ use Rattle.party.specs.State.{Result, nothing, settled, atRoot, atBit, a
 use Rattle.party.specs.Steps.{stateCause, openCause, openOf, rootCause, agreeRootOf, packetFor, bitCause, outboxOf, agreeBitOf, inboxCause, firstValid}
 use Rattle.party.specs.Steps.{relayOf, heldOf, takeSharesOf, gathered, resultOf, takeRelaysOf}
 use Rattle.party.specs.Calls.{Call, agreeRoot, agreeBit, takeShares, takeRelays, Event, accepted, first, entry, lengths, sentOver, made, events, final}
-use Rattle.party.specs.Calls.{shareStrings, relayStrings, checkedIn, checkedOver, did, hashed, sentBy, heard, packetTo, wrote, opening, bitGiven}
-use Rattle.party.specs.Agreement.{Good, among, different, absent, sumOver, joinOver, step, allHashed, CalledAll, DeliveredAll, Premises, sent, Conclusions}
+use Rattle.party.specs.Calls.{shareStrings, relayStrings, checkedIn, checkedOver, did, hashed, sentBy, heard, packetTo, wrote, opening, resultAfter}
+use Rattle.party.specs.Agreement.{Good, among, different, absent, sumOver, joinOver, step, allHashed, Premises, sent, Conclusions}
 use Rattle.party.proofs.Run.{Way, on, off, way, clash}
 use Rattle.party.proofs.Agreement.{agreement}
 
@@ -103,6 +103,9 @@ pick (some e) p = (e, refl)
 
 same-some : {A : Type 0} {x y : A} → _≡_ {A = Option A} (some x) (some y) → x ≡ y
 same-some p = cc
+
+zero-one : _≡_ {A = ℕ} 0 1 → ⊥
+zero-one e = omega arith
 
 -- short messages are bytes
 one-byte : (a : ℕ) → a < 256 → Bytes (a ∷ [])
@@ -204,45 +207,112 @@ First A B = A .own ≢ B .own → heard 3 (B .own) (step toy 3 1 good 4 A) ≡ p
 abbrev Relay : Good → Good → Type 0
 Relay A B = A .own ≢ B .own → heard 3 (B .own) (step toy 3 1 good 5 A) ≡ wrote (step toy 3 1 good 4 B)
 
--- the premises on bit 1, part by part
-called : CalledAll toy 3 1 good z 1
-unfolding size body rest fills bodies spliced tabulate groupCause timesX productOf product power inverse sum pow value factor unit numerator denominator basis through shareLength headed frame block shareByte shareOf share shares present point framed other unframed joined recovered splitFrom split shapeOf shape leaves nodeString sides beside root path folded treeStrings foldStrings checkStrings topHash pathHashes leafString leafStrings sharesCause same leavesOf rootOf pathOf passes codingStrings stringsOf chained hashes packetOf entryOf shareIn readOf inboxOf classOf classStrings atRoot atBit atFirst atSecond atEnd blankState broken messageRoot happy stateCause openCause openOf rootCause agreeRootOf packetFor bitCause outboxOf agreeBitOf inboxCause firstValid relayOf heldOf takeSharesOf gathered resultOf takeRelaysOf accepted first entry lengths sentOver made events final shareStrings relayStrings checkedIn checkedOver did hashed sentBy among different absent sumOver joinOver clean cleanOf there mix digest
-called = record {
-  step2 = each P2 P3 (Second good) (let p = pick (step toy 3 1 good 2 P2) refl in (p .0, p .1, refl))
-      (let p = pick (step toy 3 1 good 2 P3) refl in (p .0, p .1, refl));
-  step3 = each P2 P3 (Third good 1) (let p = pick (step toy 3 1 good 3 P2) refl in (p .0, room, p .1, refl))
-      (let p = pick (step toy 3 1 good 3 P3) refl in (p .0, room, p .1, refl));
-  step4 = λ e. each P2 P3 (Step 4) (pick (step toy 3 1 good 4 P2) refl) (pick (step toy 3 1 good 4 P3) refl);
-  step5 = λ e. each P2 P3 (Step 5) (pick (step toy 3 1 good 5 P2) refl) (pick (step toy 3 1 good 5 P3) refl);
-}
+-- the worked plans of document 01: n 3, t 1, party 3 silent, and parties 1 and 2 with the calls that their host makes
+abbrev pub calls : List ℕ → List ℕ → List ℕ → List Call
+calls root first second = agreeRoot root ∷ agreeBit 1 room ∷ takeShares first room ∷ takeRelays second room ∷ []
 
-delivered : DeliveredAll toy 3 1 good
-unfolding size body rest fills bodies spliced tabulate groupCause timesX productOf product power inverse sum pow value factor unit numerator denominator basis through shareLength headed frame block shareByte shareOf share shares present point framed other unframed joined recovered splitFrom split shapeOf shape leaves nodeString sides beside root path folded treeStrings foldStrings checkStrings topHash pathHashes leafString leafStrings sharesCause same leavesOf rootOf pathOf passes codingStrings stringsOf chained hashes packetOf entryOf shareIn readOf inboxOf classOf classStrings atRoot atBit atFirst atSecond atEnd blankState broken messageRoot happy stateCause openCause openOf rootCause agreeRootOf packetFor bitCause outboxOf agreeBitOf inboxCause firstValid relayOf heldOf takeSharesOf gathered resultOf takeRelaysOf accepted first entry lengths sentOver made events final shareStrings relayStrings checkedIn checkedOver did hashed sentBy among different absent sumOver joinOver clean cleanOf there mix digest
-delivered = record {
-  firstInbox = each P2 P3 (λ A. (B : Good) → List·Memᴰ B good → First A B)
-      (each P2 P3 (First P2) (λ d. absurd (d refl)) (λ d. refl)) (each P2 P3 (First P3) (λ d. refl) (λ d. absurd (d refl)));
-  secondInbox = each P2 P3 (λ A. (B : Good) → List·Memᴰ B good → Relay A B)
-      (each P2 P3 (Relay P2) (λ d. absurd (d refl)) (λ d. refl)) (each P2 P3 (Relay P3) (λ d. refl) (λ d. absurd (d refl)));
-}
+-- both open with 0x41 0x42
+abbrev pub same-books : List Good
+same-books =
+    record { own = 1; message = M; calls = calls z (inboxOf ([] ∷ pk 1 ∷ [] ∷ [])) (inboxOf ([] ∷ pk 2 ∷ [] ∷ [])) }
+    ∷ record { own = 2; message = M; calls = calls z (inboxOf (pk 2 ∷ [] ∷ [] ∷ [])) (inboxOf (pk 1 ∷ [] ∷ [] ∷ [])) } ∷ []
 
-tested : clean (allHashed toy 3 1 good) (allHashed toy 3 1 good) ≡ true
-unfolding size body rest fills bodies spliced tabulate groupCause timesX productOf product power inverse sum pow value factor unit numerator denominator basis through shareLength headed frame block shareByte shareOf share shares present point framed other unframed joined recovered splitFrom split shapeOf shape leaves nodeString sides beside root path folded treeStrings foldStrings checkStrings topHash pathHashes leafString leafStrings sharesCause same leavesOf rootOf pathOf passes codingStrings stringsOf chained hashes packetOf entryOf shareIn readOf inboxOf classOf classStrings atRoot atBit atFirst atSecond atEnd blankState broken messageRoot happy stateCause openCause openOf rootCause agreeRootOf packetFor bitCause outboxOf agreeBitOf inboxCause firstValid relayOf heldOf takeSharesOf gathered resultOf takeRelaysOf accepted first entry lengths sentOver made events final shareStrings relayStrings checkedIn checkedOver did hashed sentBy among different absent sumOver joinOver clean cleanOf there mix digest
-tested = refl
+-- they open with 0x41 and 0x42, and the root of the first is agreed
+abbrev pub y : List ℕ
+y = messageRoot toy 3 1 (0x41 ∷ [])
 
-pub premises : Premises toy 3 1 good z 1
+abbrev pub qk : ℕ → List ℕ
+qk j = packetFor toy (atBit 3 1 1 (0x41 ∷ []) y) j
+
+abbrev pub calls1 : List Call
+calls1 = calls y (inboxOf ([] ∷ [] ∷ [] ∷ [])) (inboxOf ([] ∷ qk 2 ∷ [] ∷ []))
+
+abbrev pub calls2 : List Call
+calls2 = calls y (inboxOf (qk 2 ∷ [] ∷ [] ∷ [])) (inboxOf (qk 1 ∷ [] ∷ [] ∷ []))
+
+abbrev pub two-books : List Good
+two-books = record { own = 1; message = 0x41 ∷ []; calls = calls1 } ∷ record { own = 2; message = 0x42 ∷ []; calls = calls2 } ∷ []
+
+-- what is computed
+pub record Computed : Type 0 where
+  -- all premises, on bit 1 and on bit 0
+  pub premises : Premises toy 3 1 good z 1
+  pub idle-premises : Premises toy 3 1 idle z 0
+  -- on bit 1 party 2 ends with M, though it opened with another message, and 356 bytes were sent
+  pub party-2 : resultAfter toy 3 1 2 (0x43 ∷ []) (P2 .calls) ≡ some (settled M)
+  pub sent-there : sent toy 3 1 good ≡ 356
+  -- the bytes sent in the two plans
+  pub same-books-sent : sent toy 3 1 same-books ≡ 496
+  pub two-books-sent : sent toy 3 1 two-books ≡ 388
+  -- in the second, party 1 hashes the five strings of its message's tree; party 2 those of its own, and three in each exchange
+  pub first-hashes : length (hashed toy 3 1 1 (0x41 ∷ []) calls1) ≡ 5
+  pub second-hashes : length (hashed toy 3 1 2 (0x42 ∷ []) calls2) ≡ 5 + 3 + 3
+  pub second-ends : resultAfter toy 3 1 2 (0x42 ∷ []) calls2 ≡ some (settled (0x41 ∷ []))
+
+pub computed : Computed
 unfolding size body rest fills bodies spliced tabulate groupCause timesX productOf product power inverse sum pow value factor unit numerator denominator basis through shareLength headed frame block shareByte shareOf share shares present point framed other unframed joined recovered splitFrom split shapeOf shape leaves nodeString sides beside root path folded treeStrings foldStrings checkStrings topHash pathHashes leafString leafStrings sharesCause same leavesOf rootOf pathOf passes codingStrings stringsOf chained hashes packetOf entryOf shareIn readOf inboxOf classOf classStrings atRoot atBit atFirst atSecond atEnd blankState broken messageRoot happy stateCause openCause openOf rootCause agreeRootOf packetFor bitCause outboxOf agreeBitOf inboxCause firstValid relayOf heldOf takeSharesOf gathered resultOf takeRelaysOf accepted first entry lengths sentOver made events final shareStrings relayStrings checkedIn checkedOver did hashed sentBy among different absent sumOver joinOver clean cleanOf there mix digest
-premises = record {
-  opened = record {
-    bytes = each P2 P3 (λ A. Bytes (A .message)) (one-byte 0x43 (lit< tt)) (two-bytes 0x41 0x42 (lit< tt) (lit< tt));
-    accepted = each P2 P3 (λ A. opening toy 3 1 (A .own) (A .message) .cause ≡ 0) refl refl;
-    apart = refl;
-    bad = le-refl 1;
+computed = record {
+  premises = record {
+    opened = record {
+      bytes = each P2 P3 (λ A. Bytes (A .message)) (one-byte 0x43 (lit< tt)) (two-bytes 0x41 0x42 (lit< tt) (lit< tt));
+      accepted = each P2 P3 (λ A. opening toy 3 1 (A .own) (A .message) .cause ≡ 0) refl refl;
+      apart = refl;
+      bad = le-refl 1;
+    };
+    called = record {
+      step2 = each P2 P3 (Second good) (let p = pick (step toy 3 1 good 2 P2) refl in (p .0, p .1, refl))
+          (let p = pick (step toy 3 1 good 2 P3) refl in (p .0, p .1, refl));
+      step3 = each P2 P3 (Third good 1) (let p = pick (step toy 3 1 good 3 P2) refl in (p .0, room, p .1, refl))
+          (let p = pick (step toy 3 1 good 3 P3) refl in (p .0, room, p .1, refl));
+      step4 = λ e. each P2 P3 (Step 4) (pick (step toy 3 1 good 4 P2) refl) (pick (step toy 3 1 good 4 P3) refl);
+      step5 = λ e. each P2 P3 (Step 5) (pick (step toy 3 1 good 5 P2) refl) (pick (step toy 3 1 good 5 P3) refl);
+    };
+    ruled = record {
+      root = λ v f. same-some (f P3 (List·Memᴰ·tail (List·Memᴰ·head refl)));
+      vote = λ v f. same-some (f P3 (List·Memᴰ·tail (List·Memᴰ·head refl)));
+    };
+    delivered = λ e. record {
+      firstInbox = each P2 P3 (λ A. (B : Good) → List·Memᴰ B good → First A B)
+          (each P2 P3 (First P2) (λ d. absurd (d refl)) (λ d. refl)) (each P2 P3 (First P3) (λ d. refl) (λ d. absurd (d refl)));
+      secondInbox = each P2 P3 (λ A. (B : Good) → List·Memᴰ B good → Relay A B)
+          (each P2 P3 (Relay P2) (λ d. absurd (d refl)) (λ d. refl)) (each P2 P3 (Relay P3) (λ d. refl) (λ d. absurd (d refl)));
+    };
+    clean = λ x y h k e. clean-sound x y (allHashed toy 3 1 good) (allHashed toy 3 1 good) refl h k e;
   };
-  called = called;
-  ruled = record {
-    root = λ v f. same-some (f P3 (List·Memᴰ·tail (List·Memᴰ·head refl)));
-    vote = λ v f. same-some (f P3 (List·Memᴰ·tail (List·Memᴰ·head refl)));
+  idle-premises = record {
+    opened = record {
+      bytes = each Q2 Q3 (λ A. Bytes (A .message)) (one-byte 0x43 (lit< tt)) (two-bytes 0x41 0x42 (lit< tt) (lit< tt));
+      accepted = each Q2 Q3 (λ A. opening toy 3 1 (A .own) (A .message) .cause ≡ 0) refl refl;
+      apart = refl;
+      bad = le-refl 1;
+    };
+    called = record {
+      step2 = each Q2 Q3 (Second idle) (let p = pick (step toy 3 1 idle 2 Q2) refl in (p .0, p .1, refl))
+          (let p = pick (step toy 3 1 idle 2 Q3) refl in (p .0, p .1, refl));
+      step3 = each Q2 Q3 (Third idle 0) (let p = pick (step toy 3 1 idle 3 Q2) refl in (p .0, room, p .1, refl))
+          (let p = pick (step toy 3 1 idle 3 Q3) refl in (p .0, room, p .1, refl));
+      step4 = λ e. absurd (zero-one e);
+      step5 = λ e. absurd (zero-one e);
+    };
+    ruled = record {
+      root = λ v f. same-some (f Q3 (List·Memᴰ·tail (List·Memᴰ·head refl)));
+      vote = λ v f. same-some (f Q2 (List·Memᴰ·head refl));
+    };
+    delivered = λ e. absurd (zero-one e);
+    clean = λ x y h k e. clean-sound x y (allHashed toy 3 1 idle) (allHashed toy 3 1 idle) refl h k e;
   };
-  delivered = λ e. delivered;
-  clean = λ x y h k e. clean-sound x y (allHashed toy 3 1 good) (allHashed toy 3 1 good) tested h k e;
+  party-2 = refl;
+  sent-there = refl;
+  same-books-sent = refl;
+  two-books-sent = refl;
+  first-hashes = refl;
+  second-hashes = refl;
+  second-ends = refl;
 }
+
+-- so all that is promised holds of both sessions
+pub agreed : (R : Result) × Conclusions toy 3 1 good 1 R
+agreed = agreement toy wide 3 1 good z 1 (computed .premises)
+
+pub idle-agreed : (R : Result) × Conclusions toy 3 1 idle 0 R
+idle-agreed = agreement toy wide 3 1 idle z 0 (computed .idle-premises)
