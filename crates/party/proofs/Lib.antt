@@ -12,6 +12,7 @@ pub mod Relay
 pub mod Run
 pub mod Ran
 pub mod Checks
+pub mod Progress
 pub mod Tree
 pub mod Lists
 pub mod Agreement

@@ -1,0 +1,142 @@
+-- Progress: a lawful call is accepted. In turn, on a state that is not broken, with arguments within their limits and a buffer as long as
+-- what is written, no step turns its call away; and an accepted call gives back a state that is not broken. So no party can meet its
+-- contracts by refusing. By the laws of the causes. Assumes nothing.
+use mathlib.Core.Path.{_≡_, refl, sym, ap, _∙_, subst}
+use mathlib.Core.Bool.{Bool, true, false, cond}
+use mathlib.Core.List.{List, [], _∷_}
+use Prim.Native.Nat.{ℕ, _+_, _-_, _*_, _≤_, _<_}
+use native.Mathlib.Omega.{arith}
+use borrow.Author.Tests.{le-ltb, eq-eqb}
+use lib.Dec.{ltb, eqb}
+use lib.ListN.{length, take, length-take}
+use Rattle.limits.specs.Limits.{maxParties, maxMessage, maxShare, groupCause}
+use Rattle.limits.proofs.Group.{group-fine}
+use Rattle.buffer.specs.Entries.{fills, bodies}
+use Rattle.buffer.specs.Splice.{spliced}
+use Rattle.buffer.specs.declared.Written.the-variants as written
+use Rattle.erasure.specs.Rebuild.{Recovered, present, recovered}
+use Rattle.erasure.specs.Rebuild as rebuild
+use Rattle.packet.specs.Class.{valid, classOf}
+use Rattle.packet.proofs.Reading.{fields-of}
+use Rattle.party.specs.State.{Result, nothing, settled, bytesOf, messageIn, atRoot, atBit, atFirst, atSecond, atEnd, broken, overlong, happy}
+use Rattle.party.specs.Steps.{turnOf, stateCause, openCause, openOf, bitCause, inboxCause, agreeRootOf, outboxOf, agreeBitOf, Taken, missing, found, takenBy}
+use Rattle.party.specs.Steps.{shareTaken, relayOf, heldOf, takeSharesOf, gathered, rebuilt, resultOf, ending, takeRelaysOf, Stepped, gives, writes, Ending, Ballot}
+use Rattle.party.specs.declared.Party.{Party}
+use Rattle.party.specs.declared.Opened.{Opened}
+use Rattle.party.proofs.Causes.{fit-of, broken-stage, state-fine, open-fine, root-fine, bit-fine, inbox-fine}
+use Rattle.party.proofs.Outcomes.{open-given, root-given}
+use Rattle.party.proofs.Taking.{Short, short-recovered}
+use Rattle.party.proofs.Checks.{Took, took, passing}
+
+-- a buffer that is long enough is written to
+room-for : (x next : Party) (bs out : List ℕ) → length bs ≤ length out → writes x next bs out .cause ≡ 0
+room-for x next bs out h = rw (le-ltb (length out) (length bs) h)
+
+room-for-end : (x : Party) (r : Result) (out : List ℕ) → length (bytesOf r) ≤ length out → ending x r out .cause ≡ 0
+room-for-end x nothing out h = refl
+room-for-end x (settled m) out h = rw (le-ltb (length out) (length m) h)
+
+module _ (H : List ℕ → List ℕ) where
+  -- step 1
+  pub open-accepted : (n t own : ℕ) (m : List ℕ) → 1 ≤ n → n ≤ maxParties → 2 * t < n → 1 ≤ own → own ≤ n → length m ≤ maxMessage
+      → openOf H n t own m .cause ≡ 0
+  open-accepted n t own m low high faults first last short =
+      ap (λ (r : Opened). r .cause)
+      (open-given H n t own m (open-fine n t own (length m) (group-fine n t low high faults) first last short))
+
+  module _ (x : Party) (whole : broken x ≡ false) where
+    -- step 2
+    pub root-accepted : (z : List ℕ) → turnOf (x .stage) ≡ 2 → length z ≡ 32 → agreeRootOf H x z .cause ≡ 0
+    root-accepted z turn long =
+        ap (λ (r : Ballot). r .cause) (root-given H x z (root-fine x z (state-fine 2 x whole turn) long))
+
+    -- step 3
+    pub bit-accepted : (bit : ℕ) (out : List ℕ) → turnOf (x .stage) ≡ 3 → bit ≤ 1 → length (outboxOf H x bit) ≤ length out
+        → agreeBitOf H x bit out .cause ≡ 0
+    unfolding agreeBitOf
+    bit-accepted bit out turn low room =
+        let e = bit-fine x bit (state-fine 3 x whole turn) low in
+        rw (eq-eqb (bitCause x bit) 0 e)
+        (room-for x
+        (cond (eqb bit 0) (atEnd (x .n) (x .t) (x .own) nothing) (atFirst (x .n) (x .t) (x .own) (messageIn x) (x .root)))
+        (outboxOf H x bit) out room)
+
+    -- step 4
+    pub shares-accepted : (inbox out : List ℕ) → turnOf (x .stage) ≡ 4 → fills (x .n) inbox ≡ true
+        → length (relayOf H x inbox) ≤ length out → takeSharesOf H x inbox out .cause ≡ 0
+    unfolding takeSharesOf
+    shares-accepted inbox out turn filled room =
+        let e = inbox-fine 4 x inbox (state-fine 4 x whole turn) filled in
+        rw (eq-eqb (inboxCause 4 x inbox) 0 e)
+        (room-for x (atSecond (x .n) (x .t) (x .own) (messageIn x) (x .root) (heldOf H x inbox)) (relayOf H x inbox) out room)
+
+    -- step 5
+    pub relays-accepted : (inbox out : List ℕ) → turnOf (x .stage) ≡ 5 → fills (x .n) inbox ≡ true
+        → length (bytesOf (resultOf H x inbox)) ≤ length out → takeRelaysOf H x inbox out .cause ≡ 0
+    unfolding takeRelaysOf
+    relays-accepted inbox out turn filled room =
+        let e = inbox-fine 5 x inbox (state-fine 5 x whole turn) filled in
+        rw (eq-eqb (inboxCause 5 x inbox) 0 e) (room-for-end x (resultOf H x inbox) out room)
+
+-- the forms of states within their limits are not broken
+module _ (n t own : ℕ) (low : 1 ≤ n) (high : n ≤ maxParties) (faults : 2 * t < n) (first : 1 ≤ own) (last : own ≤ n) where
+  group : groupCause n t ≡ 0
+  group = group-fine n t low high faults
+
+  module _ (m : List ℕ) (short : length m ≤ maxMessage) where
+    pub root-whole : broken (atRoot n t own m) ≡ false
+    unfolding atRoot
+    root-whole = broken-stage (atRoot n t own m) group first last short (omega arith)
+
+    pub bit-whole : (z : List ℕ) → broken (atBit n t own m z) ≡ false
+    unfolding atBit
+    bit-whole z = broken-stage (atBit n t own m z) group first last short (omega arith)
+
+    pub first-whole : (z : List ℕ) → broken (atFirst n t own m z) ≡ false
+    unfolding atFirst
+    first-whole z = broken-stage (atFirst n t own m z) group first last short (omega arith)
+
+    pub second-whole : (z y : List ℕ) → length y ≤ maxShare → broken (atSecond n t own m z y) ≡ false
+    unfolding atSecond
+    second-whole z y few = broken-stage (atSecond n t own m z y) group first last short few
+
+  pub end-whole : (r : Result) → length (bytesOf r) ≤ maxMessage → broken (atEnd n t own r) ≡ false
+  unfolding atEnd
+  end-whole nothing h = broken-stage (atEnd n t own nothing) group first last (omega arith) (omega arith)
+  end-whole (settled m) h =
+      broken-stage (atEnd n t own (settled m)) group first last (omega arith) (omega arith) ∙ le-ltb maxMessage (length m) h
+
+-- what an accepted call keeps is within the limits: the message, the share taken, and the result
+module _ (H : List ℕ → List ℕ) (x : Party) (whole : broken x ≡ false) where
+  pub message-short : length (messageIn x) ≤ maxMessage
+  message-short = omega (arith, length-take (x .len) (x .message), fit-of x whole .short)
+
+  pub held-short : (inbox : List ℕ) → length (heldOf H x inbox) ≤ maxShare
+  unfolding heldOf
+  held-short inbox = go (happy H x) (takenBy H x inbox) refl
+    where
+      go : (b : Bool) (t : Taken) → takenBy H x inbox ≡ t → length (cond b [] (shareTaken (takenBy H x inbox))) ≤ maxShare
+      go true t e = omega arith
+      go false missing e = rw e (omega arith)
+      go false (found y p) e =
+          let k = took H (x .n) (x .own) (x .root) 1 (bodies (x .n) inbox) y p e in
+          let q = passing H (x .n) (x .own) (x .root) (k .packet) y p (k .good) in
+          rw e (fields-of (x .n) (k .packet) (x .own) y p (q .reads) .most)
+
+  rebuilt-short : (r : Recovered) → Short r → length (bytesOf (rebuilt r)) ≤ maxMessage
+  rebuilt-short (rebuild.cause k) h = omega arith
+  rebuilt-short (rebuild.message m) h = h
+
+  pub result-short : (inbox : List ℕ) → length (bytesOf (resultOf H x inbox)) ≤ maxMessage
+  unfolding resultOf
+  result-short inbox = go (happy H x)
+    where
+      r : Recovered
+      r = recovered (x .n - x .t) (present 1 (gathered H x 1 (bodies (x .n) inbox)))
+
+      go : (b : Bool) → length (bytesOf (cond b (settled (messageIn x))
+          (rebuilt (recovered (x .n - x .t) (present 1 (gathered H x 1 (bodies (x .n) inbox))))))) ≤ maxMessage
+      go true = message-short
+      go false =
+          rebuilt-short (recovered (x .n - x .t) (present 1 (gathered H x 1 (bodies (x .n) inbox))))
+          (short-recovered (x .n - x .t) (present 1 (gathered H x 1 (bodies (x .n) inbox))))
