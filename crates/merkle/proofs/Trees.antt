@@ -1,7 +1,7 @@
 -- What the tree over n shares gives, for any hash of 32 bytes: the path made for a share passes, a path that passes is that of the tree's own share,
 -- two lists of shares with one root are one, each unless two different strings with one hash are among those hashed; and roots, paths
 -- and checks depend on the hash only at the strings hashed. By the laws for all shapes and hashes. Assumes nothing.
-use mathlib.Core.Path.{_≡_, refl, sym, ap, ap₂, _∙_}
+use mathlib.Core.Path.{_≡_, refl, sym, ap, ap₂, subst, _∙_}
 use mathlib.Core.Logic.{_⊎_, inl, inr}
 use mathlib.Core.Bool.{Bool, true, false}
 use mathlib.Core.List.{List, [], _∷_, _++_}
@@ -148,7 +148,13 @@ module _ (H : List ℕ → List ℕ) (wide : (s : List ℕ) → length (H s) ≡
         ∙ take-at (path H (shape n) (j - 1) (leafStrings n shares)) (replicate (maxPath - length (sidesOf n j)) blank)
         (length (sidesOf n j)) (sym (length-path H (shape n) (j - 1) (leafStrings n shares)))
 
-    -- its hashes have 32 bytes
+    -- it has a hash for each side, of 32 bytes
+    pub path-counted : length (take (length (sidesOf n j)) (pathOf H n j (leavesOf H n shares))) ≡ length (sidesOf n j)
+    path-counted = ap length made ∙ sym (length-path H (shape n) (j - 1) (leafStrings n shares))
+
+    pub path-hashes-wide : Wide 32 (take (length (sidesOf n j)) (pathOf H n j (leavesOf H n shares)))
+    path-hashes-wide = subst (Wide 32) (sym made) (wide-path H 32 wide (shape n) (j - 1) (leafStrings n shares))
+
     pub path-wide : (i : ℕ) → i < length (sidesOf n j) → length (getD (pathOf H n j (leavesOf H n shares)) i []) ≡ 32
     path-wide i h =
         ap length (sym (getD-take (length (sidesOf n j)) (pathOf H n j (leavesOf H n shares)) i [] h)

@@ -1,18 +1,15 @@
 -- Writing and reading a packet are inverse: what is read of a written packet is its number, share and path, and bytes that are
 -- read as a share are the one packet of what was read. By the tests of the definition, each of which is settled. Assumes nothing.
 use mathlib.Core.Path.{_≡_, refl, sym, ap, ap₂, _∙_}
-use mathlib.Core.Bool.{Bool, true, false, cond, not, _&&_, _||_}
 use mathlib.Core.List.{List, [], _∷_, _++_, append-nil}
 use Prim.Native.Nat.{ℕ, _+_, _*_, _/_, _%_, _<_, _≤_}
 use native.Mathlib.Omega.{arith}
-use borrow.Author.Tests.{le-ltb, eq-eqb, ne-eqb, ltb-false, eqb-true}
-use lib.Dec.{ltb, eqb}
-use lib.ListN.{length, getD, take, drop, length-drop, take-append-drop}
+use lib.ListN.{length, take, drop, length-drop, take-append-drop}
 use lib.Seq.{take-all, take-append-seam, drop-append-seam, drop-drop, length-take-le}
 use Rattle.limits.specs.Limits.{maxShare}
 use Rattle.merkle.specs.Shares.{sidesOf}
 use Rattle.merkle.proofs.Sound.{Wide}
-use Rattle.packet.specs.Format.{Reading, silence, unreadable, shared, chained, hashes, packetOf, readOf, shareIn}
+use Rattle.packet.specs.Format.{shared, chained, hashes, packetOf, readOf}
 use Rattle.packet.specs.Format.{numberIn, lengthIn, countIn}
 use Rattle.buffer.specs.Bounds.{Bytes}
 use Rattle.packet.proofs.Reading.{Readable, partsOf, readable-read, read-readable}

@@ -11,8 +11,8 @@ use lib.ListN.{length, take}
 use Rattle.limits.specs.Limits.{maxParties, maxPath, maxShare}
 use Rattle.buffer.specs.Given.{gave, written}
 use Rattle.buffer.specs.declared.Written.the-variants as given
-use Rattle.merkle.specs.Shares.{numbered, sidesOf, pathLengthOf}
-use Rattle.merkle.specs.declared.Counted.the-variants.{Refused, Hashes}
+use Rattle.merkle.specs.Shares.{numbered, sidesOf}
+use Rattle.merkle.specs.declared.Counted.the-variants.{Refused}
 use Rattle.merkle.proofs.Descend.{sides-fit}
 use Rattle.packet.specs.Format.{packetOf, entryOf}
 use Rattle.packet.specs.Answer.{writeCause, writeOf, writeEntryOf}

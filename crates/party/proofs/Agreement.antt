@@ -4,10 +4,10 @@
 -- others. No two hashed strings have one hash: that is used for what has or passes under M's root, and nowhere else. Assumes nothing.
 use mathlib.Core.Path.{_≡_, refl, sym, ap, ap₂, _∙_, subst}
 use mathlib.Core.Logic.{_⊎_, inl, inr, _≢_}
-use mathlib.Core.Bool.{Bool, true, false, cond, _&&_}
-use mathlib.Core.List.{List, [], _∷_, _++_, List·Memᴰ, List·Memᴰ·head, List·Memᴰ·not-nil}
-use mathlib.Core.Option.{Option, none, some}
-use Prim.Native.Nat.{ℕ, zero, suc, _+_, _-_, _*_, _≤_, _<_}
+use mathlib.Core.Bool.{Bool, true, false, cond}
+use mathlib.Core.List.{List, [], _∷_, List·Memᴰ, List·Memᴰ·head, List·Memᴰ·not-nil}
+use mathlib.Core.Option.{Option, some}
+use Prim.Native.Nat.{ℕ, _+_, _-_, _*_, _≤_, _<_}
 use native.Mathlib.Nat.{mul-le-mul-left}
 use native.Mathlib.Decide.{ℕ-discrete}
 use native.Mathlib.Omega.{arith}
@@ -16,16 +16,13 @@ use lib.Dec.{eqb}
 use lib.ListN.{length, getD, take, replicate, length-replicate}
 use Rattle.sha256.specs.Sha256.{sha256}
 use Rattle.sha256.proofs.Laws.{sha256-length}
-use Rattle.limits.specs.Limits.{groupCause}
 use Rattle.limits.proofs.Group.{group-of}
 use Rattle.buffer.specs.Splice.{tabulate}
-use Rattle.buffer.specs.Bounds.{Bytes}
 use Rattle.buffer.specs.Entries.{bodies}
 use Rattle.buffer.proofs.Entries.{length-bodies}
 use Rattle.buffer.proofs.Tabulate.{length-tabulate, getD-tabulate}
 use Rattle.erasure.specs.Coding.{shareLength, share, shares}
-use Rattle.erasure.specs.Rebuild.{present, point, recovered}
-use Rattle.erasure.specs.Rebuild as rebuild
+use Rattle.erasure.specs.Rebuild.{present, point}
 use Rattle.erasure.proofs.Frame.{length-share}
 use Rattle.erasure.proofs.Present.{taken}
 use Rattle.erasure.proofs.Complete.{complete}
@@ -37,16 +34,16 @@ use Rattle.merkle.proofs.Judged.{same-true, same-refl}
 use Rattle.merkle.proofs.Sound.{Wide}
 use Rattle.packet.specs.Format.{shared, packetOf, readOf}
 use Rattle.packet.specs.Inbox.{inboxOf}
-use Rattle.packet.specs.Class.{Class, silent, faulty, valid, classOf, classStrings}
+use Rattle.packet.specs.Class.{Class, silent, faulty, valid, classOf}
 use Rattle.packet.proofs.Inbox.{inbox-bodies}
 use Rattle.packet.proofs.Inverse.{written-read}
 use Rattle.packet.proofs.Reading.{fields-of, read-wide}
-use Rattle.party.specs.State.{Result, nothing, settled, messageIn, shareHeld, atBit, atFirst, atSecond, messageRoot, happy}
-use Rattle.party.specs.Steps.{packetFor, outboxOf, Taken, missing, found, firstValid, takenBy, shareTaken, packetTaken, ownRelay, relayOf, heldOf}
+use Rattle.party.specs.State.{Result, nothing, settled, atBit, atFirst, atSecond, messageRoot, happy}
+use Rattle.party.specs.Steps.{packetFor, outboxOf, found, firstValid, relayOf, heldOf}
 use Rattle.party.specs.Steps.{shareFrom, gathered, rebuilt, resultOf}
-use Rattle.party.specs.Calls.{agreeBit, bitGiven, resultShown, resultAfter}
-use Rattle.party.specs.Calls.{Event, takeShares, takeRelays, entry, heard, wrote, packetTo, lengths, checkedIn, shareStrings, relayStrings, opening, hashed, sentBy}
-use Rattle.party.specs.Agreement.{Good, among, different, absent, sumOver, joinOver, Each, owns, step, Premises, sent, Conclusions, Agreement}
+use Rattle.party.specs.Calls.{agreeBit, bitGiven, resultAfter}
+use Rattle.party.specs.Calls.{entry, lengths, checkedIn, opening, hashed, sentBy}
+use Rattle.party.specs.Agreement.{Good, among, different, absent, Each, owns, step, Premises, sent, Conclusions, Agreement}
 use Rattle.party.specs.declared.Party.{Party}
 use Rattle.party.specs.declared.Opened.{Opened}
 use Rattle.party.proofs.Causes.{open-bounds}

@@ -2,19 +2,19 @@
 -- one, and what step 5 gathers. By cases of a packet's class, and by induction along an inbox. Assumes nothing.
 use mathlib.Core.Path.{_≡_, refl, sym, ap, ap₂, _∙_, subst}
 use mathlib.Core.Logic.{_≢_}
-use mathlib.Core.Bool.{Bool, true, false, cond, _&&_}
-use mathlib.Core.List.{List, [], _∷_, _++_, List·Memᴰ, Memᴰ·append-left, Memᴰ·append-right}
+use mathlib.Core.Bool.{true, cond}
+use mathlib.Core.List.{List, [], _∷_, List·Memᴰ, Memᴰ·append-left, Memᴰ·append-right}
 use Prim.Native.Nat.{ℕ, zero, suc, _+_, _<_}
 use native.Mathlib.Nat.{add-zero}
 use native.Mathlib.Omega.{arith}
-use borrow.Author.Tests.{eqb-true, eqb-false, eq-eqb, ne-eqb}
+use borrow.Author.Tests.{eqb-true, eq-eqb, ne-eqb}
 use lib.Dec.{eqb}
 use lib.ListN.{length, getD}
 use Rattle.merkle.specs.Shares.{passes, stringsOf}
 use Rattle.packet.specs.Format.{Reading, silence, unreadable, shared, readOf}
 use Rattle.packet.specs.Class.{Class, silent, faulty, valid, judged, classOf, checkedStrings, classStrings}
 use Rattle.party.specs.State.{shareHeld}
-use Rattle.party.specs.Steps.{Taken, missing, found, orLater, firstValid, shareFrom, gathered}
+use Rattle.party.specs.Steps.{missing, found, firstValid, shareFrom, gathered}
 use Rattle.party.specs.Calls.{unlessValid, shareStrings, relayStrings}
 use Rattle.party.specs.declared.Party.{Party}
 use Rattle.party.proofs.Run.{Way, on, off, way}

@@ -1,32 +1,29 @@
 -- Progress: a lawful call is accepted. In turn, on a state that is not broken, with arguments within their limits and a buffer as long as
 -- what is written, no step turns its call away; and an accepted call gives back a state that is not broken. So no party can meet its
 -- contracts by refusing. By the laws of the causes. Assumes nothing.
-use mathlib.Core.Path.{_≡_, refl, sym, ap, _∙_, subst}
+use mathlib.Core.Path.{_≡_, refl, ap, _∙_}
 use mathlib.Core.Bool.{Bool, true, false, cond}
-use mathlib.Core.List.{List, [], _∷_}
-use Prim.Native.Nat.{ℕ, _+_, _-_, _*_, _≤_, _<_}
+use mathlib.Core.List.{List, []}
+use Prim.Native.Nat.{ℕ, _-_, _*_, _≤_, _<_}
 use native.Mathlib.Omega.{arith}
 use borrow.Author.Tests.{le-ltb, eq-eqb}
-use lib.Dec.{ltb, eqb}
-use lib.ListN.{length, take, length-take}
+use lib.Dec.{eqb}
+use lib.ListN.{length, length-take}
 use Rattle.limits.specs.Limits.{maxParties, maxMessage, maxShare, groupCause}
 use Rattle.limits.proofs.Group.{group-fine}
 use Rattle.buffer.specs.Entries.{fills, bodies}
-use Rattle.buffer.specs.Splice.{spliced}
-use Rattle.buffer.specs.declared.Written.the-variants as written
 use Rattle.erasure.specs.Rebuild.{Recovered, present, recovered}
 use Rattle.erasure.specs.Rebuild as rebuild
-use Rattle.packet.specs.Class.{valid, classOf}
 use Rattle.packet.proofs.Reading.{fields-of}
-use Rattle.party.specs.State.{Result, nothing, settled, bytesOf, messageIn, atRoot, atBit, atFirst, atSecond, atEnd, broken, overlong, happy}
-use Rattle.party.specs.Steps.{turnOf, stateCause, openCause, openOf, bitCause, inboxCause, agreeRootOf, outboxOf, agreeBitOf, Taken, missing, found, takenBy}
-use Rattle.party.specs.Steps.{shareTaken, relayOf, heldOf, takeSharesOf, gathered, rebuilt, resultOf, ending, takeRelaysOf, Stepped, gives, writes, Ending, Ballot}
+use Rattle.party.specs.State.{Result, nothing, settled, bytesOf, messageIn, atRoot, atBit, atFirst, atSecond, atEnd, broken, happy}
+use Rattle.party.specs.Steps.{turnOf, openOf, bitCause, inboxCause, agreeRootOf, outboxOf, agreeBitOf, Taken, missing, found, takenBy}
+use Rattle.party.specs.Steps.{shareTaken, relayOf, heldOf, takeSharesOf, gathered, rebuilt, resultOf, ending, takeRelaysOf, gives, writes, Ballot}
 use Rattle.party.specs.declared.Party.{Party}
 use Rattle.party.specs.declared.Opened.{Opened}
 use Rattle.party.proofs.Causes.{fit-of, broken-stage, state-fine, open-fine, root-fine, bit-fine, inbox-fine}
 use Rattle.party.proofs.Outcomes.{open-given, root-given}
 use Rattle.party.proofs.Taking.{Short, short-recovered}
-use Rattle.party.proofs.Checks.{Took, took, passing}
+use Rattle.party.proofs.Checks.{took, passing}
 
 -- a buffer that is long enough is written to
 room-for : (x next : Party) (bs out : List ℕ) → length bs ≤ length out → writes x next bs out .cause ≡ 0

@@ -1,31 +1,30 @@
 -- One good party of a session: all that the others need to know of its list of calls, with no event left. Its accepted calls are
 -- step 2, step 3 and, on bit 1, steps 4 and 5, each on the state that the one before gave; what comes after changes nothing.
 -- Assumes nothing.
-use mathlib.Core.Path.{_≡_, refl, sym, ap, ap₂, _∙_, subst}
-use mathlib.Core.Logic.{_⊎_, inl, inr, _≢_}
-use mathlib.Core.Bool.{Bool, true, false, cond, not}
-use mathlib.Core.List.{List, [], _∷_, _++_, List·Memᴰ, Memᴰ·append-left, Memᴰ·append-right}
+use mathlib.Core.Path.{_≡_, refl, sym, ap, _∙_, subst}
+use mathlib.Core.Bool.{cond}
+use mathlib.Core.List.{List, [], _∷_, List·Memᴰ, Memᴰ·append-left, Memᴰ·append-right}
 use mathlib.Core.Option.{Option, none, some}
-use Prim.Native.Nat.{ℕ, zero, suc, _+_, _-_, _*_, _≤_, _<_}
+use Prim.Native.Nat.{ℕ, _+_, _-_, _*_, _≤_}
 use native.Mathlib.Omega.{arith}
-use borrow.Author.Tests.{eqb-true, eqb-false, eq-eqb, ne-eqb}
+use borrow.Author.Tests.{eqb-true, eqb-false}
 use lib.Dec.{eqb}
-use lib.ListN.{length, getD, take}
-use Rattle.limits.specs.Limits.{maxMessage, maxShare, groupCause}
+use lib.ListN.{length}
+use Rattle.limits.specs.Limits.{maxMessage, maxShare}
 use Rattle.buffer.specs.Splice.{spliced}
 use Rattle.buffer.specs.Entries.{bodies}
 use Rattle.erasure.specs.Coding.{shares}
-use Rattle.merkle.specs.Shares.{same, codingStrings}
-use Rattle.party.specs.State.{Result, nothing, settled, told, outcomeOf, bytesOf, padded, messageIn, shareHeld, atRoot, atBit, atFirst, atSecond, atEnd}
+use Rattle.merkle.specs.Shares.{codingStrings}
+use Rattle.party.specs.State.{Result, nothing, settled, bytesOf, messageIn, shareHeld, atRoot, atBit, atFirst, atSecond, atEnd}
 use Rattle.party.specs.State.{resultIn, messageRoot, happy}
-use Rattle.party.specs.Steps.{turnOf, openCause, openOf, outboxOf, relayOf, heldOf, resultOf}
-use Rattle.party.specs.Calls.{Call, agreeRoot, agreeBit, takeShares, takeRelays, stepOf, Reply, Event, accepted, first, entry, heard, writtenBy, wrote}
-use Rattle.party.specs.Calls.{packetTo, bitGiven, resultShown, lengths, sentIn, sentOver, events, final, shareStrings, relayStrings, checkedIn, checkedOver}
+use Rattle.party.specs.Steps.{turnOf, openCause, outboxOf, relayOf, heldOf, resultOf}
+use Rattle.party.specs.Calls.{Call, agreeRoot, agreeBit, takeShares, takeRelays, stepOf, Reply, Event, accepted, first, entry, heard, wrote}
+use Rattle.party.specs.Calls.{bitGiven, resultShown, lengths, sentOver, events, final, checkedIn, checkedOver}
 use Rattle.party.specs.Calls.{opening, did, firstOf, resultAfter, hashed, sentBy}
 use Rattle.party.specs.declared.Party.{Party}
 use Rattle.party.specs.declared.Opened.{Opened}
 use Rattle.party.proofs.Kept.{take-padded, take-spliced}
-use Rattle.party.proofs.Causes.{open-bounds}
+use Rattle.party.proofs.Outcomes.{open-given, open-refused}
 use Rattle.party.proofs.Run.{Way, on, off, way, made2, made3, made4, made5, left, did2, did3, did4, did5, in-turn, event, Chain, chain, next, Still, still}
 
 -- the message of a state that waits, its relayed share, and the result of one that has ended
@@ -64,14 +63,15 @@ ended-turn n t i r = refl
 pub opened-is : (H : List ℕ → List ℕ) (n t i : ℕ) (m : List ℕ) → opening H n t i m .cause ≡ 0
     → (openCause n t i (length m) ≡ 0)
     × (opening H n t i m ≡ record { state = atRoot n t i m; cause = 0; root = messageRoot H n t m })
-unfolding openOf
 opened-is H n t i m e = go (way (eqb (openCause n t i (length m)) 0))
   where
     go : Way (eqb (openCause n t i (length m)) 0)
         → (openCause n t i (length m) ≡ 0)
         × (opening H n t i m ≡ record { state = atRoot n t i m; cause = 0; root = messageRoot H n t m })
-    go (on q) = (eqb-true (openCause n t i (length m)) 0 q, rw q)
-    go (off q) = absurd (eqb-false (openCause n t i (length m)) 0 q (rw q at e))
+    go (on q) = let c = eqb-true (openCause n t i (length m)) 0 q in (c, open-given H n t i m c)
+    go (off q) =
+        let c = eqb-false (openCause n t i (length m)) 0 q in
+        absurd (c (sym (ap (λ (r : Opened). r .cause) (open-refused H n t i m c)) ∙ e))
 
 abbrev ev : Party → Call → Reply → Event
 ev x c r = record { before = x; call = c; reply = r }

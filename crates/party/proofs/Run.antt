@@ -1,29 +1,27 @@
 -- The accepted calls of a party, one after the other: a refused call keeps the state, an accepted one is the step that the stage awaits
 -- and gives what its definition says, and once the party has ended its result is kept and nothing more is sent. By the tests of
 -- the steps, and by one induction over the list of calls. Assumes nothing.
-use mathlib.Core.Path.{_≡_, refl, sym, ap, ap₂, _∙_, subst}
+use mathlib.Core.Path.{_≡_, refl, sym, ap, _∙_, subst}
 use mathlib.Core.Logic.{_⊎_, inl, inr, _≢_}
-use mathlib.Core.Bool.{Bool, true, false, cond, not, true≢false, false≢true}
-use mathlib.Core.List.{List, [], _∷_, _++_}
+use mathlib.Core.Bool.{Bool, true, false, cond, not, true≢false}
+use mathlib.Core.List.{List, [], _∷_}
 use mathlib.Core.Option.{Option, none, some}
-use Prim.Native.Nat.{ℕ, zero, suc, _+_, _-_, _*_, _≤_, _<_}
+use Prim.Native.Nat.{ℕ, _-_, _≤_}
 use native.Mathlib.Omega.{arith}
-use borrow.Author.Tests.{ltb-false, eqb-true, eqb-false, eq-eqb, ne-eqb}
+use borrow.Author.Tests.{ltb-false, eqb-true, eqb-false, eq-eqb}
 use lib.Dec.{eqb, ltb}
-use lib.ListN.{length, take, drop}
+use lib.ListN.{length}
 use Rattle.buffer.specs.Splice.{spliced}
-use Rattle.buffer.specs.Entries.{fills}
-use Rattle.buffer.specs.declared.Written.{Written}
 use Rattle.buffer.specs.declared.Written.the-variants as written
-use Rattle.party.specs.State.{Result, nothing, settled, bytesOf, messageIn, atBit, atFirst, atSecond, atEnd, broken, resultIn, happy}
-use Rattle.party.specs.Steps.{turnOf, stateCause, rootCause, withRoot, ballot, agreeRootOf, Stepped, gives, refused, writes, bitCause, outboxOf}
+use Rattle.party.specs.State.{Result, nothing, settled, bytesOf, messageIn, atFirst, atSecond, atEnd, resultIn, happy}
+use Rattle.party.specs.Steps.{turnOf, stateCause, rootCause, withRoot, Ballot, Stepped, gives, refused, writes, bitCause, outboxOf}
 use Rattle.party.specs.Steps.{agreeBitOf, inboxCause, relayOf, heldOf, takeSharesOf, resultOf, Ending, givesEnd, ending, takeRelaysOf}
-use Rattle.party.specs.Calls.{Call, agreeRoot, agreeBit, takeShares, takeRelays, stepOf, Reply, Event, accepted, first, writtenBy, sentIn, sentOver}
+use Rattle.party.specs.Calls.{Call, agreeRoot, agreeBit, takeShares, takeRelays, stepOf, Reply, Event, accepted, first, sentOver}
 use Rattle.party.specs.Calls.{made, events, final}
 use Rattle.party.specs.declared.Party.{Party}
-use Rattle.party.specs.declared.Vote.the-variants as vote
 use Rattle.party.specs.declared.Settled.the-variants as answer
 use Rattle.party.proofs.Causes.{state-sound}
+use Rattle.party.proofs.Outcomes.{root-refused, root-given}
 use Rattle.party.proofs.Kept.{take-spliced}
 
 -- a test, and which way it went
@@ -48,6 +46,10 @@ none-some p = let z : _≡_ {A = ℕ} 0 1 = cc in omega arith
 
 same-some : {x y : Event} → _≡_ {A = Option Event} (some x) (some y) → x ≡ y
 same-some p = cc
+
+-- the replies of step 2
+abbrev voted-reply : Ballot → Reply
+voted-reply b = record { state = b .state; cause = b .cause; value = b .bit; result = none; buffer = [] }
 
 -- a call of a step that writes: taken with what it writes, or turned away with the state kept
 abbrev reply : Stepped → Reply
@@ -177,12 +179,12 @@ module _ (H : List ℕ → List ℕ) where
   -- each step, taken or turned away
   root-or : (x : Party) (z : List ℕ)
       → ((rootCause x z ≡ 0) × (made H x (agreeRoot z) ≡ made2 x z)) ⊎ Turned x (made H x (agreeRoot z))
-  unfolding made agreeRootOf
+  unfolding made
   root-or x z = go (way (eqb (rootCause x z) 0))
     where
       go : Way (eqb (rootCause x z) 0) → ((rootCause x z ≡ 0) × (made H x (agreeRoot z) ≡ made2 x z)) ⊎ Turned x (made H x (agreeRoot z))
-      go (on e) = inl (eqb-true (rootCause x z) 0 e, rw e)
-      go (off e) = inr (rw e (eqb-false (rootCause x z) 0 e, refl))
+      go (on e) = let c = eqb-true (rootCause x z) 0 e in inl (c, ap voted-reply (root-given H x z c))
+      go (off e) = let c = eqb-false (rootCause x z) 0 e in inr (rw (root-refused H x z c) (c, refl))
 
   bit-or : (x : Party) (bit : ℕ) (out : List ℕ)
       → ((bitCause x bit ≡ 0) × (made H x (agreeBit bit out) ≡ made3 x bit out)) ⊎ Turned x (made H x (agreeBit bit out))

@@ -3,23 +3,16 @@
 use mathlib.Core.Path.{_≡_, refl, sym, ap, ap₂, _∙_}
 use mathlib.Core.Bool.{Bool, true, false, cond, _&&_}
 use mathlib.Core.List.{List, [], _∷_, _++_, append-nil, append-assoc}
-use Prim.Native.Nat.{ℕ, zero, suc, _+_, _-_, _*_, _%_, _<_, _≤_}
-use native.Mathlib.Nat.{mul-mod-right}
+use Prim.Native.Nat.{ℕ, zero, suc, _+_, _-_, _*_, _≤_}
 use native.Mathlib.Decide.{ℕ-discrete}
 use native.Mathlib.Numerals.{add-one}
 use native.Mathlib.Omega.{arith}
 use lib.Dec.{eqb}
 use lib.ListN.{length, take, drop, replicate, length-append}
-use lib.Seq.{getD-take, length-take-le}
-use Rattle.limits.specs.Limits.{maxParties, maxPath, maxShare}
+use Rattle.limits.specs.Limits.{maxParties, maxShare}
 use Rattle.buffer.specs.Splice.{tabulate}
-use Rattle.merkle.specs.Tree.{shape, path}
-use Rattle.merkle.specs.Shares.{blank, leafStrings, sharesCause, leavesOf, sidesOf, pathOf}
-use Rattle.merkle.proofs.Judged.{cause-fine}
-use Rattle.merkle.proofs.Way.{length-path}
-use Rattle.merkle.proofs.Shares.{tree-path}
-use Rattle.merkle.proofs.Trees.{path-wide}
-use Rattle.merkle.proofs.Sound.{Wide}
+use Rattle.merkle.specs.Shares.{sharesCause, leavesOf, sidesOf, pathOf}
+use Rattle.merkle.proofs.Trees.{path-counted, path-hashes-wide}
 use Rattle.packet.specs.Format.{packetOf, entryOf}
 use Rattle.packet.specs.Inbox.{inboxOf}
 use Rattle.packet.proofs.Parts.{packet-length, entry-length}
@@ -28,7 +21,7 @@ use Rattle.party.specs.Steps.{leavesIn, packetFor, outboxOf}
 use Rattle.party.specs.Private.{entryFor, outboxUpTo, entryLength, outboxLength}
 use Rattle.party.specs.declared.Party.{Party}
 use Rattle.party.proofs.Parts.{length-part}
-use Rattle.party.proofs.Shared.{share-inside, one-of, sizeIn, sharesIn, own-share}
+use Rattle.party.proofs.Shared.{share-inside, shares-fine, sizeIn, sharesIn, own-share}
 use Rattle.party.proofs.Outbox.{length-own, length-other, entry-own, entry-other}
 
 inbox-more : (ps : List (List ℕ)) (p : List ℕ) → inboxOf (ps ++ (p ∷ [])) ≡ inboxOf ps ++ entryOf p
@@ -49,31 +42,12 @@ module _ (H : List ℕ → List ℕ) where
   -- n shares of s bytes, whose leaves are hashed
   module _ (wide : (s : List ℕ) → length (H s) ≡ 32) (n own s : ℕ) (all : List ℕ) (low : 1 ≤ n) (high : n ≤ maxParties)
       (short : s ≤ maxShare) (long : length all ≡ n * s) where
-    shares-fine : sharesCause n (length all) ≡ 0
-    shares-fine =
-        let each = one-of n s (length all) low long in
-        cause-fine n (length all) low high (omega arith) (ap (λ (k : ℕ). k % n) long ∙ mul-mod-right n s)
-
     module _ (j : ℕ) (first : 1 ≤ j) (last : j ≤ n) where
       abbrev Path : List (List ℕ)
       Path = pathOf H n j (leavesOf H n all)
 
-      -- the path sent has a hash for each side, of 32 bytes
-      counted : length (take (length (sidesOf n j)) Path) ≡ length (sidesOf n j)
-      counted =
-          let own : List (List ℕ) = path H (shape n) (j - 1) (leafStrings n all) in
-          length-take-le (length (sidesOf n j)) Path
-          (omega (
-            arith,
-            ap length (tree-path H n all shares-fine low high j first last),
-            length-append own (replicate (maxPath - length (sidesOf n j)) blank),
-            length-path H (shape n) (j - 1) (leafStrings n all),
-          ))
-
-      hashed : Wide 32 (take (length (sidesOf n j)) Path)
-      hashed i h =
-          let inside : i < length (sidesOf n j) = omega (arith, counted) in
-          ap length (getD-take (length (sidesOf n j)) Path i [] inside) ∙ path-wide H wide n all shares-fine j first last i inside
+      fine : sharesCause n (length all) ≡ 0
+      fine = shares-fine n s all low high short long
 
       entry-counted : length (entryFor H n own s all (leavesOf H n all) j) ≡ entryLength n own s j
       entry-counted =
@@ -86,8 +60,8 @@ module _ (H : List ℕ → List ℕ) where
                 ∙ omega (
                   arith,
                   entry-length (packetOf j one way),
-                  packet-length j one way hashed,
-                  counted,
+                  packet-length j one way (path-hashes-wide H wide n all fine j first last),
+                  path-counted H wide n all fine j first last,
                   length-part all ((j - 1) * s) s (omega (arith, share-inside n j s first last)),
                   length-other n own s j e,
                 )

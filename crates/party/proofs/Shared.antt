@@ -4,8 +4,8 @@
 use mathlib.Core.Path.{_≡_, refl, sym, ap, _∙_}
 use mathlib.Core.Bool.{Bool, true, false}
 use mathlib.Core.List.{List, _++_}
-use Prim.Native.Nat.{ℕ, zero, suc, _+_, _-_, _*_, _/_, _<_, _≤_}
-use native.Mathlib.Nat.{mul-le-mul-right, mul-assoc, div-eq-of-eq-mul-right}
+use Prim.Native.Nat.{ℕ, zero, suc, _+_, _-_, _*_, _/_, _%_, _<_, _≤_}
+use native.Mathlib.Nat.{mul-le-mul-right, mul-assoc, mul-mod-right, div-eq-of-eq-mul-right}
 use native.Mathlib.Decide.{ℕ-discrete}
 use native.Mathlib.Omega.{arith}
 use lib.ListN.{length, take, drop, length-drop}
@@ -21,8 +21,8 @@ use Rattle.erasure.specs.Coding.{shareLength, share, shares, frame, encodeOf}
 use Rattle.erasure.proofs.Arrays.{shares-frame, length-sharesOf}
 use Rattle.erasure.proofs.Frame.{share-high, share-positive, share-most, length-share}
 use Rattle.erasure.proofs.Outcomes.{encode-written}
-use Rattle.merkle.specs.Shares.{same}
-use Rattle.merkle.proofs.Judged.{same-true, same-refl}
+use Rattle.merkle.specs.Shares.{sharesCause, same}
+use Rattle.merkle.proofs.Judged.{cause-fine, same-true, same-refl}
 use Rattle.party.specs.State.{messageIn}
 use Rattle.party.specs.Private.{Fit}
 use Rattle.party.specs.declared.Party.{Party}
@@ -35,6 +35,12 @@ share-inside n j s first last = row-inside n (j - 1) s (omega arith)
 -- the length of one share, from that of all
 pub one-of : (n s size : ℕ) → 1 ≤ n → size ≡ n * s → size / n ≡ s
 one-of n s size low e = div-eq-of-eq-mul-right (omega arith) e
+
+-- n shares of s bytes each are hashed
+pub shares-fine : (n s : ℕ) (all : List ℕ) → 1 ≤ n → n ≤ maxParties → s ≤ maxShare → length all ≡ n * s → sharesCause n (length all) ≡ 0
+shares-fine n s all low high short long =
+    let each = one-of n s (length all) low long in
+    cause-fine n (length all) low high (omega arith) (ap (λ (k : ℕ). k % n) long ∙ mul-mod-right n s)
 
 -- n is less than 2·b, and b·s less than the message with its length and b
 pub shares-bound : (n t l : ℕ) → 2 * t < n → n ≤ maxParties → l ≤ maxMessage

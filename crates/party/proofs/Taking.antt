@@ -2,13 +2,13 @@
 -- written; and the message rebuilt from the shares gathered is within its limit. By cases on the answers of the search, the writer and
 -- rebuilding. Assumes nothing.
 use mathlib.Core.Path.{_≡_, refl, sym, ap, ap₂, subst, _∙_}
-use mathlib.Core.Bool.{Bool, true, false, cond, _&&_}
+use mathlib.Core.Bool.{Bool, true, false, cond}
 use mathlib.Core.List.{List, [], _∷_, map}
-use Prim.Native.Nat.{ℕ, suc, _+_, _-_, _*_, _≤_}
+use Prim.Native.Nat.{ℕ, _+_, _-_, _*_, _≤_}
 use native.Mathlib.Omega.{arith}
 use types.Run.{OneOf, hit}
 use denote.Enum.Declared.{tagOf}
-use lib.Dec.{ltb, eqb}
+use lib.Dec.{ltb}
 use lib.ListN.{length, take, drop, length-take}
 use Rattle.limits.specs.Limits.{maxParties, maxMessage, maxShare, maxPath}
 use Rattle.limits.proofs.Group.{group-fine}
@@ -27,19 +27,19 @@ use Rattle.erasure.proofs.Frame.{is-unframed}
 use Rattle.erasure.proofs.Outcomes.{rebuild-answered}
 use Rattle.merkle.specs.Shares.{passes}
 use Rattle.merkle.proofs.Judged.{passes-true}
-use Rattle.packet.specs.Format.{Reading, silence, unreadable, shared, hashes, readOf, packetOf}
+use Rattle.packet.specs.Format.{hashes, packetOf}
 use Rattle.packet.specs.Inbox.{inboxOf}
-use Rattle.packet.specs.Class.{faulty, valid, judged, classOf}
 use Rattle.packet.specs.Answer.{writeOf}
 use Rattle.packet.proofs.Inbox.{inbox-fills, inbox-bodies}
 use Rattle.packet.proofs.Writing.{cause-fine, write-written}
 use Rattle.party.specs.State.{nothing, settled}
-use Rattle.party.specs.Steps.{Taken, missing, found, orLater, firstValid, gathered, rebuilt}
+use Rattle.party.specs.Steps.{Taken, missing, found, firstValid, gathered, rebuilt}
 use Rattle.party.specs.Private.{Fit, TakenIs}
 use Rattle.party.specs.declared.Party.{Party}
 use Rattle.party.specs.declared.Placed.the-variants.{Nowhere, At}
 use Rattle.party.proofs.Kept.{take-spliced}
 use Rattle.party.proofs.Outcomes.{not-done}
+use Rattle.party.proofs.Checks.{took, passing, gathered-length}
 
 -- nothing was taken
 pub taken-none : (t : Taken) (s : List ℕ) → TakenIs Nowhere t s → t ≡ missing
@@ -53,25 +53,14 @@ module _ (H : List ℕ → List ℕ) where
     Passed missing = Unit {0}
     Passed (found x p) = passes H n own x p (length p) z ≡ true
 
-    of-class : (r : Reading) (t : Taken) → Passed t → Passed (orLater (judged H n own z r) t)
-    of-class silence t h = h
-    of-class unreadable t h = h
-    of-class (shared number x p) t h = go (eqb number own) (passes H n own x p (length p) z) refl
-      where
-        go : (a b : Bool) → passes H n own x p (length p) z ≡ b → Passed (orLater (cond (a && b) (valid x p) faulty) t)
-        go true true q = q
-        go true false q = h
-        go false b q = h
-
     pub passed : (j : ℕ) (ps : List (List ℕ)) → Passed (firstValid H n own z j ps)
-    unfolding firstValid classOf
-    passed j [] = tt
-    passed j (p ∷ ps) = go (eqb j own) (passed (j + 1) ps)
+    passed j ps = go (firstValid H n own z j ps) refl
       where
-        go : (a : Bool) → Passed (firstValid H n own z (j + 1) ps)
-            → Passed (cond a (firstValid H n own z (j + 1) ps) (orLater (classOf H n own z p) (firstValid H n own z (j + 1) ps)))
-        go true h = h
-        go false h = of-class (readOf n p) (firstValid H n own z (j + 1) ps) h
+        go : (t : Taken) → firstValid H n own z j ps ≡ t → Passed t
+        go missing e = tt
+        go (found x p) e =
+            let k = took H n own z j ps x p e in
+            passing H n own z (k .packet) x p (k .good) .leads
 
     -- and it lies at its place in the inbox
     module _ (s : List ℕ) (f l c : ℕ) where
@@ -105,17 +94,12 @@ module _ (H : List ℕ → List ℕ) where
       (cause-fine n own (length y) c low high first last some most (sym count ∙ passes-true H n own y p (length p) z q .0))
       ∙ ap (λ (l : List (List ℕ)). written (packetOf own y l) out) h
 
-  length-gathered : (x : Party) (j : ℕ) (ps : List (List ℕ)) → length (gathered H x j ps) ≡ length ps
-  unfolding gathered
-  length-gathered x j [] = refl
-  length-gathered x j (p ∷ ps) = ap suc (length-gathered x (j + 1) ps)
-
   -- rebuilding from the entries of the shares gathered
   pub rebuilt-of : (x : Party) (inbox es out : List ℕ) → Fit x → es ≡ inboxOf (gathered H x 1 (bodies (x .n) inbox))
       → rebuildOf (x .n) (x .t) es out ≡ answered (recovered (x .n - x .t) (present 1 (gathered H x 1 (bodies (x .n) inbox)))) out
   rebuilt-of x inbox es out f e =
       let gs : List (List ℕ) = gathered H x 1 (bodies (x .n) inbox) in
-      let long : length gs ≡ x .n = length-gathered x 1 (bodies (x .n) inbox) ∙ length-bodies (x .n) inbox in
+      let long : length gs ≡ x .n = gathered-length H x 1 (bodies (x .n) inbox) ∙ length-bodies (x .n) inbox in
       rebuild-answered (x .n) (x .t) es out (group-fine (x .n) (x .t) (f .low) (f .high) (omega (arith, f .faults)))
       (ap₂ fills (sym long) e ∙ inbox-fills gs)
       ∙ ap (λ (l : List (List ℕ)). answered (recovered (x .n - x .t) (present 1 l)) out) (ap₂ bodies (sym long) e ∙ inbox-bodies gs)

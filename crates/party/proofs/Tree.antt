@@ -1,37 +1,33 @@
 -- A message and its tree: the packet made for a share is read back and passes under the message's root, what passes under that root is
 -- the message's own share, and two messages with one root are one, each unless two different strings with one hash are at hand.
 -- For any hash of 32 bytes; by the laws of the coder, the tree and the packets. Assumes nothing.
-use mathlib.Core.Path.{_≡_, refl, sym, ap, ap₂, _∙_, subst}
+use mathlib.Core.Path.{_≡_, sym, ap, _∙_, subst}
 use mathlib.Core.Logic.{_⊎_, inl, inr}
-use mathlib.Core.Bool.{Bool, true, false}
-use mathlib.Core.List.{List, [], _∷_}
-use Prim.Native.Nat.{ℕ, zero, suc, _+_, _-_, _*_, _/_, _%_, _<_, _≤_}
-use native.Mathlib.Nat.{mul-div-cancel-left, mul-mod-right}
+use mathlib.Core.Bool.{true}
+use mathlib.Core.List.{List, []}
+use Prim.Native.Nat.{ℕ, _+_, _-_, _*_, _/_, _<_, _≤_}
 use native.Mathlib.Omega.{arith}
-use borrow.Author.Tests.{ltb-true, ltb-false}
-use lib.Dec.{ltb}
-use lib.ListN.{length, getD, take, drop, List·getD-eq-default}
-use lib.Seq.{getD-take, length-take-le, take-take}
+use lib.ListN.{length, getD, take, drop}
+use lib.Seq.{take-take}
 use Rattle.limits.specs.Limits.{maxParties, maxMessage, maxShare}
 use Rattle.buffer.specs.Bounds.{Bytes}
 use Rattle.erasure.specs.Coding.{shareLength, share, shares}
 use Rattle.erasure.proofs.Frame.{share-positive, share-most, length-share}
 use Rattle.erasure.proofs.Injective.{injective}
-use Rattle.merkle.specs.Tree.{shape, sides}
+use Rattle.merkle.specs.Tree.{shape}
 use Rattle.merkle.specs.Height.{height}
 use Rattle.merkle.specs.Strings.{Collision}
-use Rattle.merkle.specs.Shares.{leafString, leafStrings, sharesCause, leavesOf, sidesOf, pathOf, passes, codingStrings, stringsOf}
-use Rattle.merkle.proofs.Judged.{cause-fine}
+use Rattle.merkle.specs.Shares.{leafStrings, sharesCause, leavesOf, sidesOf, pathOf, passes, codingStrings, stringsOf}
 use Rattle.merkle.proofs.Shape.{size-shape, sides-height}
 use Rattle.merkle.proofs.Shares.{leafString-injective, length-leafStrings, getD-leafStrings, tree-root}
 use Rattle.merkle.proofs.Sound.{Wide, same-roots}
-use Rattle.merkle.proofs.Trees.{path-wide, path-passes, passes-sound}
+use Rattle.merkle.proofs.Trees.{path-counted, path-hashes-wide, path-passes, passes-sound}
 use Rattle.packet.specs.Format.{shared, packetOf, readOf}
 use Rattle.packet.specs.Class.{valid, classOf}
 use Rattle.packet.proofs.Inverse.{written-read}
 use Rattle.packet.proofs.Parts.{packet-length}
 use Rattle.party.specs.State.{messageRoot}
-use Rattle.party.proofs.Shared.{length-shares, share-at}
+use Rattle.party.proofs.Shared.{one-of, shares-fine, length-shares, share-at}
 use Rattle.party.proofs.Checks.{passes-valid}
 
 -- a message among n parties with fault limit t, within the limits
@@ -53,12 +49,10 @@ module _ (n t : ℕ) (m : List ℕ) (c : Coded n t m) where
   all-length = length-shares n (n - t) m
 
   each-length : length (shares n (n - t) m) / n ≡ shareLength (n - t) (length m)
-  each-length = ap (λ (k : ℕ). k / n) all-length ∙ mul-div-cancel-left (shareLength (n - t) (length m)) (c .low)
+  each-length = one-of n (shareLength (n - t) (length m)) (length (shares n (n - t) m)) (c .low) all-length
 
   pub fine : sharesCause n (length (shares n (n - t) m)) ≡ 0
-  fine =
-      cause-fine n (length (shares n (n - t) m)) (c .low) (c .high) (omega (arith, each-length, share-fits))
-      (ap (λ (k : ℕ). k % n) all-length ∙ mul-mod-right n (shareLength (n - t) (length m)))
+  fine = shares-fine n (shareLength (n - t) (length m)) (shares n (n - t) m) (c .low) (c .high) share-fits all-length
 
   -- share j, cut from all
   cut : (j : ℕ) → 1 ≤ j → j ≤ n
@@ -76,27 +70,11 @@ module _ (H : List ℕ → List ℕ) (wide : (s : List ℕ) → length (H s) ≡
     abbrev pub pathTo : List (List ℕ)
     pathTo = take (length (sidesOf n j)) (pathOf H n j (leavesOf H n all))
 
-    enough : length (sidesOf n j) ≤ length (pathOf H n j (leavesOf H n all))
-    enough = go (ltb (length hashes) (length (sidesOf n j))) refl
-      where
-        hashes : List (List ℕ)
-        hashes = pathOf H n j (leavesOf H n all)
-
-        go : (b : Bool) → ltb (length hashes) (length (sidesOf n j)) ≡ b → length (sidesOf n j) ≤ length hashes
-        go true q =
-            let none : length (getD hashes (length hashes) []) ≡ 0 = ap length (List·getD-eq-default hashes [] (omega arith)) in
-            let over : length hashes < length (sidesOf n j) = ltb-true (length hashes) (length (sidesOf n j)) q in
-            absurd (omega (arith, path-wide H wide n all (fine n t m c) j first last (length hashes) over))
-        go false q = ltb-false (length hashes) (length (sidesOf n j)) q
-
     pub path-count : length pathTo ≡ length (sidesOf n j)
-    path-count = length-take-le (length (sidesOf n j)) (pathOf H n j (leavesOf H n all)) enough
+    path-count = path-counted H wide n all (fine n t m c) j first last
 
     path-each : Wide 32 pathTo
-    path-each i h =
-        let inside : i < length (sidesOf n j) = omega (arith, path-count) in
-        ap length (getD-take (length (sidesOf n j)) (pathOf H n j (leavesOf H n all)) i [] inside)
-        ∙ path-wide H wide n all (fine n t m c) j first last i inside
+    path-each = path-hashes-wide H wide n all (fine n t m c) j first last
 
     -- the packet of share j
     abbrev pub packetWith : List ℕ

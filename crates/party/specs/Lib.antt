@@ -3,3 +3,4 @@ pub mod Steps
 pub mod Private
 pub mod Calls
 pub mod Agreement
+pub mod Cases

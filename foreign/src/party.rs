@@ -1,0 +1,519 @@
+//! One party: its state, its opening and steps 2 to 5. A step takes the state apart into
+//! lawful values, works on those, and builds the next state anew.
+
+use crate::coder::{frame_of, rebuild, shares_of, Answer, LONGEST_MESSAGE, MOST_PARTIES};
+use crate::inbox::{entries, lay_out};
+use crate::packet::{self, classify, Standing, LONGEST_SHARE};
+use crate::sha256::Hash;
+use crate::tree;
+
+/// How a party ended: with nothing, or with a message of this length.
+#[derive(Clone, Copy, Debug, PartialEq, Eq)]
+pub enum Outcome {
+    Nothing,
+    Message(u64),
+}
+
+/// What a party waits for.
+#[derive(Clone, Copy, Debug, PartialEq, Eq)]
+pub enum Stage {
+    Root,
+    Bit,
+    First,
+    Second,
+    Ended(Outcome),
+}
+
+/// The state that a caller keeps between the steps; anything at all may stand in it.
+#[derive(Clone, Debug, PartialEq, Eq)]
+pub struct State {
+    pub n: u64,
+    pub t: u64,
+    pub own: u64,
+    pub stage: Stage,
+    pub message: [u8; LONGEST_MESSAGE],
+    pub len: u64,
+    pub root: Hash,
+    pub share: [u8; LONGEST_SHARE],
+    pub held: u64,
+}
+
+/// Why a call was turned away: the cause and, for cause 9, the length needed.
+#[derive(Clone, Copy, Debug, PartialEq, Eq)]
+pub struct Refusal {
+    pub cause: u32,
+    pub needed: usize,
+}
+
+/// What a step gives back: the next state, and its answer or a refusal.
+pub type Given<T> = (State, Result<T, Refusal>);
+
+impl From<u32> for Refusal {
+    fn from(cause: u32) -> Self {
+        Refusal { cause, needed: 0 }
+    }
+}
+
+/// The values of a state that breaks no limit; what lies past a length is left out.
+struct Party {
+    n: usize,
+    t: usize,
+    own: usize,
+    message: Vec<u8>,
+    root: Hash,
+    held: Vec<u8>,
+}
+
+/// The three numbers in range, or the lowest of causes 1 to 3.
+fn group(n: u64, t: u64, own: u64) -> Result<(usize, usize, usize), u32> {
+    if !(1..=MOST_PARTIES as u64).contains(&n) {
+        return Err(1);
+    }
+    if t.checked_mul(2).is_none_or(|doubled| doubled >= n) {
+        return Err(2);
+    }
+    if !(1..=n).contains(&own) {
+        return Err(3);
+    }
+    Ok((n as usize, t as usize, own as usize))
+}
+
+/// The first `length` bytes, if there are as many.
+fn first(bytes: &[u8], length: u64) -> Option<&[u8]> {
+    bytes.get(..usize::try_from(length).ok()?)
+}
+
+/// The bytes with zeros behind them.
+fn padded<const N: usize>(bytes: &[u8]) -> [u8; N] {
+    let mut whole = [0; N];
+    whole[..bytes.len()].copy_from_slice(bytes);
+    whole
+}
+
+/// Copies the bytes to the start of the buffer and counts them, or gives cause 9.
+fn place(bytes: &[u8], out: &mut [u8]) -> Result<usize, Refusal> {
+    let needed = bytes.len();
+    let start = out.get_mut(..needed).ok_or(Refusal { cause: 9, needed })?;
+    start.copy_from_slice(bytes);
+    Ok(needed)
+}
+
+impl State {
+    /// The state that a refused opening gives.
+    pub fn blank() -> State {
+        State {
+            n: 0,
+            t: 0,
+            own: 0,
+            stage: Stage::Root,
+            message: [0; LONGEST_MESSAGE],
+            len: 0,
+            root: [0; 32],
+            share: [0; LONGEST_SHARE],
+            held: 0,
+        }
+    }
+
+    /// Step 1; the answer is the root that goes to the agreement.
+    pub fn open(n: u64, t: u64, own: u64, message: &[u8]) -> Given<Hash> {
+        let opened = group(n, t, own).and_then(|(n, t, own)| {
+            let fits = message.len() <= LONGEST_MESSAGE;
+            let message = fits.then(|| message.to_vec()).ok_or(4u32)?;
+            Ok(Party {
+                n,
+                t,
+                own,
+                message,
+                root: [0; 32],
+                held: Vec::new(),
+            })
+        });
+        match opened {
+            Ok(party) => (party.awaiting(Stage::Root), Ok(party.own_root())),
+            Err(cause) => (State::blank(), Err(cause.into())),
+        }
+    }
+
+    /// Step 2; the answer is whether the party is happy.
+    pub fn agree_root(self, root: &[u8]) -> Given<bool> {
+        self.step(Stage::Root, |mut party| {
+            party.root = root.try_into().map_err(|_| 7u32)?;
+            Ok((party.awaiting(Stage::Bit), party.happy()))
+        })
+    }
+
+    /// Step 3; the answer is the length of the outbox.
+    pub fn agree_bit(self, bit: u8, out: &mut [u8]) -> Given<usize> {
+        self.step(Stage::Bit, |party| {
+            let sends = match bit {
+                0 => false,
+                1 => party.happy(),
+                _ => return Err(7.into()),
+            };
+            let packets: Vec<Vec<u8>> = (1..=party.n)
+                .map(|j| match sends && j != party.own {
+                    true => party.packet(j),
+                    false => Vec::new(),
+                })
+                .collect();
+            let written = place(&lay_out(&packets), out)?;
+            let next = match bit {
+                0 => party.ended(None),
+                _ => party.awaiting(Stage::First),
+            };
+            Ok((next, written))
+        })
+    }
+
+    /// Step 4; the answer is the length of the relay, 0 if there is none.
+    pub fn take_shares(self, inbox: &[u8], out: &mut [u8]) -> Given<usize> {
+        self.step(Stage::First, |mut party| {
+            let senders = entries(party.n, inbox)?;
+            party.held = Vec::new();
+            let relay = if party.n == 1 {
+                Vec::new()
+            } else if party.happy() {
+                party.packet(party.own)
+            } else if let Some((packet, share)) = party.lowest(&senders) {
+                party.held = share;
+                packet.to_vec()
+            } else {
+                Vec::new()
+            };
+            let written = place(&relay, out)?;
+            Ok((party.awaiting(Stage::Second), written))
+        })
+    }
+
+    /// Step 5; the answer is the length of the message, or none for nothing.
+    pub fn take_relays(self, inbox: &[u8], out: &mut [u8]) -> Given<Option<usize>> {
+        self.step(Stage::Second, |party| {
+            let senders = entries(party.n, inbox)?;
+            let found = if party.happy() {
+                Some(party.message.clone())
+            } else {
+                party.rebuilt(&senders)
+            };
+            let written = match &found {
+                Some(message) => Some(place(message, out)?),
+                None => None,
+            };
+            Ok((party.ended(found), written))
+        })
+    }
+
+    /// Judges the state and the turn, then does the step; a refused one keeps the state.
+    fn step<T>(
+        self,
+        turn: Stage,
+        work: impl FnOnce(Party) -> Result<(State, T), Refusal>,
+    ) -> Given<T> {
+        let lawful = self.lawful().ok_or(Refusal::from(5));
+        let in_turn = lawful.and_then(|party| match self.stage == turn {
+            true => Ok(party),
+            false => Err(Refusal::from(6)),
+        });
+        match in_turn.and_then(work) {
+            Ok((next, answer)) => (next, Ok(answer)),
+            Err(refusal) => (self, Err(refusal)),
+        }
+    }
+
+    /// The state's values, if none breaks a limit; lengths are judged at every stage.
+    fn lawful(&self) -> Option<Party> {
+        let (n, t, own) = group(self.n, self.t, self.own).ok()?;
+        if let Stage::Ended(Outcome::Message(length)) = self.stage {
+            first(&self.message, length)?;
+        }
+        Some(Party {
+            n,
+            t,
+            own,
+            message: first(&self.message, self.len)?.to_vec(),
+            root: self.root,
+            held: first(&self.share, self.held)?.to_vec(),
+        })
+    }
+}
+
+impl Party {
+    fn shares(&self) -> Vec<Vec<u8>> {
+        let b = self.n - self.t;
+        shares_of(self.n, b, &frame_of(b, &self.message))
+    }
+
+    fn own_root(&self) -> Hash {
+        tree::root(&self.shares())
+    }
+
+    fn happy(&self) -> bool {
+        self.root == self.own_root()
+    }
+
+    /// Share j of the party's own message, with its path.
+    fn packet(&self, j: usize) -> Vec<u8> {
+        let shares = self.shares();
+        packet::write(j, &shares[j - 1], &tree::path(&shares, j))
+    }
+
+    /// The share in a packet that bears number j and passes the check.
+    fn valid(&self, j: usize, packet: &[u8]) -> Option<Vec<u8>> {
+        match classify(self.n, j, self.root, packet) {
+            Ok(Standing::Valid(share)) => Some(share),
+            _ => None,
+        }
+    }
+
+    /// The packet of the lowest other sender that holds a valid share for this party, and
+    /// that share.
+    fn lowest<'a>(&self, senders: &[&'a [u8]]) -> Option<(&'a [u8], Vec<u8>)> {
+        (1..)
+            .zip(senders)
+            .filter(|&(sender, _)| sender != self.own)
+            .find_map(|(_, &packet)| Some((packet, self.valid(self.own, packet)?)))
+    }
+
+    /// The message in the valid relays and the party's own relayed share.
+    fn rebuilt(&self, senders: &[&[u8]]) -> Option<Vec<u8>> {
+        let present: Vec<Vec<u8>> = (1..)
+            .zip(senders)
+            .map(|(sender, packet)| match sender == self.own {
+                true => self.held.clone(),
+                false => self.valid(sender, packet).unwrap_or_default(),
+            })
+            .collect();
+        let mut message = vec![0; LONGEST_MESSAGE];
+        match rebuild(self.n, self.t, &lay_out(&present), &mut message) {
+            Answer::Done(length) => Some(message[..length].to_vec()),
+            Answer::Refused(11 | 12) => None,
+            other => panic!("a lawful rebuild answers {other:?}"),
+        }
+    }
+
+    /// The state at a stage before the end. Root and share are zero where they are not had.
+    fn awaiting(&self, stage: Stage) -> State {
+        State {
+            n: self.n as u64,
+            t: self.t as u64,
+            own: self.own as u64,
+            stage,
+            message: padded(&self.message),
+            len: self.message.len() as u64,
+            root: match stage {
+                Stage::Root => [0; 32],
+                _ => self.root,
+            },
+            share: match stage {
+                Stage::Second => padded(&self.held),
+                _ => [0; LONGEST_SHARE],
+            },
+            held: match stage {
+                Stage::Second => self.held.len() as u64,
+                _ => 0,
+            },
+        }
+    }
+
+    /// The state at the end, with nothing or with the message found.
+    fn ended(&self, found: Option<Vec<u8>>) -> State {
+        let outcome = match &found {
+            Some(message) => Outcome::Message(message.len() as u64),
+            None => Outcome::Nothing,
+        };
+        State {
+            n: self.n as u64,
+            t: self.t as u64,
+            own: self.own as u64,
+            stage: Stage::Ended(outcome),
+            message: padded(&found.unwrap_or_default()),
+            ..State::blank()
+        }
+    }
+}
+
+#[cfg(test)]
+mod tests {
+    use super::*;
+
+    const LENT: u8 = 0xA5;
+
+    fn cause<T: std::fmt::Debug>(given: Given<T>) -> u32 {
+        given.1.expect_err("a refusal").cause
+    }
+
+    fn short<T: std::fmt::Debug>(given: Given<T>) -> (u32, usize) {
+        let Refusal { cause, needed } = given.1.expect_err("a refusal");
+        (cause, needed)
+    }
+
+    /// An accepted step's state and what it wrote.
+    fn wrote(given: impl FnOnce(&mut [u8]) -> Given<usize>) -> (State, Vec<u8>) {
+        let mut out = vec![LENT; 20_000];
+        let (state, answer) = given(&mut out);
+        let length = answer.expect("accepted");
+        assert!(out[length..].iter().all(|&x| x == LENT));
+        out.truncate(length);
+        (state, out)
+    }
+
+    /// The states of the good parties before the first inbox, and the packets that each sends.
+    /// The agreements settle on the first party's root and bit.
+    fn after_agreement(n: u64, t: u64, messages: &[&[u8]]) -> Vec<(State, Vec<Vec<u8>>)> {
+        let root = State::open(n, t, 1, messages[0]).1.expect("opened");
+        let mut agreed = Vec::new();
+        for (own, message) in (1..).zip(messages) {
+            let (state, bit) = State::open(n, t, own, message).0.agree_root(&root);
+            assert_eq!(bit, Ok(*message == messages[0]));
+            let (state, outbox) = wrote(|out| state.agree_bit(1, out));
+            let packets = entries(n as usize, &outbox).expect("an outbox");
+            agreed.push((state, packets.into_iter().map(<[u8]>::to_vec).collect()));
+        }
+        agreed
+    }
+
+    /// The result that the second inbox gives, which the state holds as well.
+    fn result(state: State, inbox: &[u8]) -> Option<Vec<u8>> {
+        let mut out = vec![LENT; LONGEST_MESSAGE];
+        let (state, answer) = state.take_relays(inbox, &mut out);
+        let found = answer.expect("accepted").map(|length| &out[..length]);
+        let held = match state.stage {
+            Stage::Ended(Outcome::Message(length)) => first(&state.message, length),
+            Stage::Ended(Outcome::Nothing) => None,
+            other => panic!("at the end {other:?}"),
+        };
+        assert_eq!(held, found);
+        found.map(<[u8]>::to_vec)
+    }
+
+    /// The results of good parties 1, 2 and so on under n and t, and the bytes they send; the
+    /// others are silent.
+    fn session(n: u64, t: u64, messages: &[&[u8]]) -> (Vec<Option<Vec<u8>>>, usize) {
+        let agreed = after_agreement(n, t, messages);
+        let others = n as usize - 1;
+        let sent: Vec<Vec<Vec<u8>>> = agreed.iter().map(|(_, sent)| sent.clone()).collect();
+        let mut bytes: usize = sent.iter().flatten().map(Vec::len).sum();
+        let (mut states, mut relays) = (Vec::new(), Vec::new());
+        for (place, (state, _)) in agreed.into_iter().enumerate() {
+            let mut inbox: Vec<Vec<u8>> = sent.iter().map(|to| to[place].clone()).collect();
+            inbox.resize(n as usize, Vec::new());
+            let (state, relay) = wrote(|out| state.take_shares(&lay_out(&inbox), out));
+            bytes += others * relay.len();
+            states.push(state);
+            relays.push(relay);
+        }
+        relays.resize(n as usize, Vec::new());
+        let inbox = lay_out(&relays);
+        let results = states.into_iter().map(|state| result(state, &inbox));
+        (results.collect(), bytes)
+    }
+
+    #[test]
+    fn worked_sessions() {
+        let both = vec![Some(b"AB".to_vec()); 2];
+        assert_eq!(session(3, 1, &[b"AB", b"AB"]), (both, 496));
+        let both = vec![Some(b"A".to_vec()); 2];
+        assert_eq!(session(3, 1, &[b"A", b"B"]), (both, 388));
+        assert_eq!(session(1, 0, &[b"AB"]), (vec![Some(b"AB".to_vec())], 0));
+        assert_eq!(session(1, 0, &[b""]), (vec![Some(Vec::new())], 0));
+    }
+
+    #[test]
+    fn bit_zero_ends_with_nothing() {
+        for (own, message) in [(1, b"A"), (2, b"B")] {
+            let (_, root) = State::open(3, 1, 1, b"A");
+            let (state, _) = State::open(3, 1, own, message);
+            let (state, bit) = state.agree_root(&root.unwrap());
+            assert_eq!(bit, Ok(own == 1));
+            let (state, out) = wrote(|out| state.agree_bit(0, out));
+            assert_eq!(out, [0; 6]);
+            let nothing = State {
+                n: 3,
+                t: 1,
+                own,
+                stage: Stage::Ended(Outcome::Nothing),
+                ..State::blank()
+            };
+            assert_eq!(state, nothing);
+        }
+    }
+
+    #[test]
+    fn an_opening_is_refused_by_its_lowest_cause() {
+        let long = vec![7; 1025];
+        assert!(State::open(16, 7, 16, &long[1..]).1.is_ok());
+        for (n, t, own, want) in [
+            (0, 0, 0, 1),
+            (17, 9, 18, 1),
+            (u64::MAX, 0, 1, 1),
+            (16, 8, 17, 2),
+            (1, 1 << 63, 0, 2),
+            (16, 7, 17, 3),
+            (16, 7, 0, 3),
+            (16, 7, 16, 4),
+        ] {
+            let given = State::open(n, t, own, &long);
+            assert_eq!(given.0, State::blank());
+            assert_eq!(cause(given), want, "n {n}, t {t}, own {own}");
+        }
+    }
+
+    #[test]
+    fn a_refused_step_keeps_the_state_and_the_buffer() {
+        let (fresh, root) = State::open(2, 0, 1, b"A");
+        let root = root.unwrap();
+        assert_eq!(cause(fresh.clone().agree_root(&root[1..])), 7);
+        assert_eq!(cause(fresh.clone().agree_bit(9, &mut [])), 6);
+        let mut state = fresh.agree_root(&root).0;
+        state.message[1] = 9;
+        state.share[5] = 9;
+        let mut out = vec![LENT; 39];
+        for (bit, want) in [(2, (7, 0)), (1, (9, 4 + 38))] {
+            let given = state.clone().agree_bit(bit, &mut out);
+            assert_eq!(given.0, state);
+            assert_eq!(short(given), want);
+        }
+        assert_eq!(short(state.clone().agree_bit(0, &mut out[..3])), (9, 4));
+        assert_eq!(out, vec![LENT; 39]);
+        for change in [
+            |s: &mut State| s.n = 17,
+            |s: &mut State| s.t = u64::MAX,
+            |s: &mut State| s.own = 3,
+            |s: &mut State| s.len = 1025,
+            |s: &mut State| s.held = 1027,
+            |s: &mut State| s.stage = Stage::Ended(Outcome::Message(1025)),
+        ] {
+            let mut broken = state.clone();
+            change(&mut broken);
+            let given = broken.clone().take_relays(&[], &mut out);
+            assert_eq!(given.0, broken);
+            assert_eq!(cause(given), 5);
+        }
+    }
+
+    /// A sender's share is taken only from another party, the lowest valid one; what the
+    /// own entry holds never counts.
+    #[test]
+    fn the_lowest_valid_sender_is_taken() {
+        let (sender, root) = State::open(3, 1, 1, b"AB");
+        let sender = sender.agree_root(&root.unwrap()).0;
+        let (_, outbox) = wrote(|out| sender.agree_bit(1, out));
+        let packet = entries(3, &outbox).unwrap()[1].to_vec();
+        let unhappy = || {
+            let state = State::open(3, 1, 2, b"no").0.agree_root(&root.unwrap()).0;
+            wrote(|out| state.agree_bit(1, out)).0
+        };
+        let none: &[u8] = &[];
+        for (inbox, taken) in [
+            ([&packet, none, none], true),
+            ([none, &packet, none], false),
+            ([none, none, &packet], true),
+            ([&[7], none, &packet], true),
+            ([&packet[1..], none, &packet[..5]], false),
+        ] {
+            let (state, relay) = wrote(|out| unhappy().take_shares(&lay_out(&inbox), out));
+            assert_eq!(relay, if taken { &packet[..] } else { none });
+            assert_eq!(state.held, if taken { 2 } else { 0 });
+            assert_eq!(state.share[..2], if taken { [0x82, 0x86] } else { [0, 0] });
+        }
+    }
+}
