@@ -24,8 +24,13 @@ maxPath = 4
 abbrev pub maxHashed : ℕ
 maxHashed = 65535
 
+-- a plan has up to maxPlan bytes
+abbrev pub maxPlan : ℕ
+maxPlan = 60000
+
 abbrev pub greatest : Greatest
-greatest = record { parties = maxParties; message = maxMessage; share = maxShare; path = maxPath; hashed = maxHashed }
+greatest =
+    record { parties = maxParties; message = maxMessage; share = maxShare; path = maxPath; hashed = maxHashed; plan = maxPlan }
 
 -- cause 1: n outside 1 to maxParties; cause 2: 2·t ≥ n; 0: neither
 unfoldable pub groupCause : ℕ → ℕ → ℕ

@@ -17,6 +17,9 @@ pub const MAX_PATH: usize = 4;
 // The greatest length of a string that is hashed.
 pub const MAX_HASHED: usize = 65535;
 
+// The greatest length of a plan.
+pub const MAX_PLAN: usize = 60000;
+
 // All of them, as one value.
 pub struct Greatest {
     pub parties: usize,
@@ -24,6 +27,7 @@ pub struct Greatest {
     pub share: usize,
     pub path: usize,
     pub hashed: usize,
+    pub plan: usize,
 }
 
 // The code's limits are the definitions': this is where the two are held together.
@@ -36,6 +40,7 @@ pub fn all() -> Greatest
         share: MAX_SHARE,
         path: MAX_PATH,
         hashed: MAX_HASHED,
+        plan: MAX_PLAN,
     }
 }
 

@@ -1,0 +1,47 @@
+-- A plan read: its causes, in document 01's order for a plan, and its parts. The rule of the short agreement (cause 14) is judged with the
+-- parties' roots and bits, not here. Assumes nothing.
+use mathlib.Core.Bool.{Bool, false, cond, not, _||_}
+use mathlib.Core.List.{List}
+use Prim.Native.Nat.{ℕ, _+_, _-_}
+use lib.Dec.{ltb, eqb}
+use lib.ListN.{length}
+use Rattle.limits.specs.Limits.{maxMessage, maxPlan, groupCause}
+use Rattle.buffer.specs.Given.{Given, gave, written}
+use Rattle.buffer.specs.declared.Written.the-variants.{Refused}
+use Rattle.merkle.specs.Shares.{parties}
+use Rattle.plan.specs.Layout.{under, packetFrom, longBook, nIn, tIn, hasRoot, hasBit, afterBit, goodIn, booksIn, firstIn, secondIn, laidOut}
+use Rattle.plan.specs.declared.Plan.{Plan}
+
+-- 13 if under two bytes, then 1, 2, then 13 (over the greatest length, or badly laid out), then 4; 0: none
+unfoldable pub planCause : List ℕ → ℕ
+planCause s =
+    cond (ltb (length s) 2) 13
+    (cond (not (eqb (groupCause (nIn s) (tIn s)) 0)) (groupCause (nIn s) (tIn s))
+    (cond (ltb maxPlan (length s) || not (laidOut s)) 13
+    (cond (longBook maxMessage (nIn s) 1 (goodIn s) (booksIn s)) 4
+    0)))
+
+-- the parts by where they start; nothing is told of a plan that is turned away
+unfoldable pub planOf : List ℕ → Plan
+planOf s =
+    cond (not (eqb (planCause s) 0))
+    (record { cause = planCause s; n = 0; t = 0; rooted = false; voted = false; good = 0; books = 0; first = 0; second = 0 })
+    (record {
+      cause = 0;
+      n = nIn s;
+      t = tIn s;
+      rooted = hasRoot s;
+      voted = hasBit s;
+      good = goodIn s;
+      books = afterBit s + 2;
+      first = length s - length (firstIn s);
+      second = length s - length (secondIn s);
+    })
+
+-- good party q's book among the books s, in a lent buffer: cause 1, then 9
+unfoldable pub bookOf : ℕ → ℕ → ℕ → List ℕ → List ℕ → Given
+bookOf n g q s out = cond (not (parties n)) (gave (Refused 1) out) (written (under n 1 g q s) out)
+
+-- what bad party q sends to party i in the exchange that starts with s, in a lent buffer: cause 1, then 9
+unfoldable pub packetOf : ℕ → ℕ → ℕ → ℕ → List ℕ → List ℕ → Given
+packetOf n g q i s out = cond (not (parties n)) (gave (Refused 1) out) (written (packetFrom n 1 n g q i s) out)

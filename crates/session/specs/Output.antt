@@ -1,0 +1,42 @@
+-- The output of a rehearsal, in bytes: a line for each good party and one for what they sent, each with a newline at its end.
+-- Assumes nothing.
+use mathlib.Core.Bool.{cond}
+use mathlib.Core.List.{List, [], _∷_, _++_}
+use Prim.Native.Nat.{ℕ, zero, suc, _+_, _/_, _%_}
+use lib.Dec.{ltb}
+use Rattle.party.specs.State.{Result, nothing, settled}
+
+abbrev pub space : ℕ
+space = 0x20
+
+abbrev pub newline : ℕ
+newline = 0x0A
+
+-- a number in decimal; a number below 2^64 has at most twenty digits
+unfoldable pub digits : ℕ → ℕ → List ℕ
+digits zero x = []
+digits (suc k) x = cond (ltb x 10) [] (digits k (x / 10)) ++ ((0x30 + x % 10) ∷ [])
+
+abbrev pub decimal : ℕ → List ℕ
+decimal x = digits 20 x
+
+-- a byte as two lower-case hexadecimal digits, and bytes one behind the other
+abbrev pub hexDigit : ℕ → ℕ
+hexDigit x = cond (ltb x 10) (0x30 + x) (0x57 + x)
+
+unfoldable pub hex : List ℕ → List ℕ
+hex [] = []
+hex (x ∷ xs) = hexDigit (x / 16) ∷ hexDigit (x % 16) ∷ hex xs
+
+-- `-` for nothing; `=`, and for a message that is not empty a space and the message
+abbrev pub shown : Result → List ℕ
+shown nothing = 0x2D ∷ []
+shown (settled []) = 0x3D ∷ []
+shown (settled (x ∷ xs)) = 0x3D ∷ space ∷ hex (x ∷ xs)
+
+unfoldable pub line : ℕ → Result → List ℕ
+line p r = decimal p ++ (space ∷ (shown r ++ (newline ∷ [])))
+
+-- `sent` and the bytes
+unfoldable pub sentLine : ℕ → List ℕ
+sentLine x = 0x73 ∷ 0x65 ∷ 0x6E ∷ 0x74 ∷ space ∷ (decimal x ++ (newline ∷ []))

@@ -1,0 +1,135 @@
+-- A plan played (document 01, "The rehearsal"): every good party is opened with its book and taken through its steps, on what the other good
+-- parties wrote and on what the plan says that bad ones send. The hash of the tree is a parameter H. Assumes nothing.
+use mathlib.Core.Bool.{Bool, true, false, cond, not, _&&_, _||_}
+use mathlib.Core.List.{List, [], _∷_, _++_}
+use mathlib.Core.Option.{Option, none, some}
+use Prim.Native.Nat.{ℕ, zero, suc, _+_, _-_, _*_}
+use lib.Dec.{ltb, eqb}
+use lib.ListN.{length, take, replicate}
+use Rattle.limits.specs.Limits.{maxParties, maxMessage, maxShare, maxPath}
+use Rattle.buffer.specs.Splice.{tabulate}
+use Rattle.buffer.specs.Entries.{bodies}
+use Rattle.buffer.specs.Given.{Given, gave, written}
+use Rattle.buffer.specs.declared.Written.the-variants.{Refused}
+use Rattle.merkle.specs.Shares.{same}
+use Rattle.packet.specs.Inbox.{inboxOf}
+use Rattle.party.specs.State.{Result, nothing, settled}
+use Rattle.party.specs.Steps.{openOf, Ballot, agreeRootOf, Stepped, agreeBitOf, takeSharesOf, Ending, takeRelaysOf}
+use Rattle.party.specs.Calls.{entry, lengths}
+use Rattle.party.specs.declared.Opened.{Opened}
+use Rattle.plan.specs.Layout.{names, under, packetFrom, unnamed, lowest, nIn, tIn, hasRoot, hasBit, rootIn, bitIn, goodIn, booksIn, firstIn, secondIn}
+use Rattle.plan.specs.Plan.{planCause}
+use Rattle.session.specs.Output.{line, sentLine}
+
+-- room for any packet, and for any outbox
+abbrev pub maxPacket : ℕ
+maxPacket = 4 + maxShare + 32 * maxPath
+
+abbrev pub maxOutbox : ℕ
+maxOutbox = maxParties * (2 + maxPacket)
+
+-- what a step that writes wrote; nothing where it was turned away
+abbrev pub wroteIn : Stepped → List ℕ
+wroteIn r = cond (eqb (r .cause) 0) (take (r .value) (r .buffer)) []
+
+abbrev pub orNothing : Option Result → Result
+orNothing none = nothing
+orNothing (some r) = r
+
+module _ (H : List ℕ → List ℕ) (s : List ℕ) where
+  -- party p is good, and its message
+  abbrev pub isGood : ℕ → Bool
+  isGood p = names (goodIn s) p
+
+  unfoldable pub messageOf : ℕ → List ℕ
+  messageOf p = under (nIn s) 1 (goodIn s) p (booksIn s)
+
+  -- step 1, and the agreed root: the given one, or that of the lowest-numbered good party
+  unfoldable pub opened : ℕ → Opened
+  opened p = openOf H (nIn s) (tIn s) p (messageOf p)
+
+  abbrev pub first : ℕ
+  first = lowest (nIn s) 1 (goodIn s)
+
+  unfoldable pub agreedRoot : List ℕ
+  agreedRoot = cond (hasRoot s) (rootIn s) (opened first .root)
+
+  -- step 2, and the agreed bit
+  unfoldable pub second : ℕ → Ballot
+  second p = agreeRootOf H (opened p .state) agreedRoot
+
+  unfoldable pub agreedBit : ℕ
+  agreedBit = cond (hasBit s) (bitIn s) (second first .bit)
+
+  -- the rule of the short agreement: of k parties from p on, all good ones have this root, or this bit
+  unfoldable pub sameRoots : ℕ → ℕ → List ℕ → Bool
+  sameRoots zero p w = true
+  sameRoots (suc k) p w = cond (isGood p) (same (opened p .root) w) true && sameRoots k (p + 1) w
+
+  unfoldable pub sameBits : ℕ → ℕ → ℕ → Bool
+  sameBits zero p b = true
+  sameBits (suc k) p b = cond (isGood p) (eqb (second p .bit) b) true && sameBits k (p + 1) b
+
+  -- cause 14: over t bad parties, a bit above 1, or a given root or bit that is not the one that all good parties put in
+  unfoldable pub againstRule : Bool
+  againstRule =
+      ltb (tIn s) (unnamed (nIn s) 1 (goodIn s)) || (hasBit s && ltb 1 (bitIn s))
+      || (sameRoots (nIn s) 1 (opened first .root) && not (same agreedRoot (opened first .root)))
+      || (sameBits (nIn s) 1 (second first .bit) && not (eqb agreedBit (second first .bit)))
+
+  unfoldable pub sessionCause : ℕ
+  sessionCause = cond (not (eqb (planCause s) 0)) (planCause s) (cond againstRule 14 0)
+
+  -- step 3
+  unfoldable pub third : ℕ → Stepped
+  third p = agreeBitOf H (second p .state) agreedBit (replicate maxOutbox 0)
+
+  -- in party i's inbox a good party p stands with its packet for i, a bad one with what the plan says, and i itself with no bytes
+  unfoldable pub firstFrom : ℕ → ℕ → List ℕ
+  firstFrom i p =
+      cond (eqb p i) []
+      (cond (isGood p) (entry (nIn s) i (wroteIn (third p))) (packetFrom (nIn s) 1 (nIn s) (goodIn s) p i (firstIn s)))
+
+  unfoldable pub firstInbox : ℕ → List ℕ
+  firstInbox i = inboxOf (tabulate (nIn s) (λ k. firstFrom i (k + 1)))
+
+  -- step 4, and the second inbox
+  unfoldable pub fourth : ℕ → Stepped
+  fourth p = takeSharesOf H (third p .state) (firstInbox p) (replicate maxPacket 0)
+
+  unfoldable pub secondFrom : ℕ → ℕ → List ℕ
+  secondFrom i p =
+      cond (eqb p i) []
+      (cond (isGood p) (wroteIn (fourth p)) (packetFrom (nIn s) 1 (nIn s) (goodIn s) p i (secondIn s)))
+
+  unfoldable pub secondInbox : ℕ → List ℕ
+  secondInbox i = inboxOf (tabulate (nIn s) (λ k. secondFrom i (k + 1)))
+
+  -- step 5
+  unfoldable pub fifth : ℕ → Ending
+  fifth p = takeRelaysOf H (fourth p .state) (secondInbox p) (replicate maxMessage 0)
+
+  -- on bit 0 the exchanges are unused
+  unfoldable pub resultOf : ℕ → Result
+  resultOf p = cond (eqb agreedBit 0) nothing (orNothing (fifth p .result))
+
+  -- the bytes that party p sent: its packets, and its relay to the n - 1 others
+  unfoldable pub sentOf : ℕ → ℕ
+  sentOf p =
+      lengths (bodies (nIn s) (wroteIn (third p))) + cond (eqb agreedBit 0) 0 ((nIn s - 1) * length (wroteIn (fourth p)))
+
+  -- of k parties from p on, the good ones' lines, and what they sent
+  unfoldable pub linesFrom : ℕ → ℕ → List ℕ
+  linesFrom zero p = []
+  linesFrom (suc k) p = cond (isGood p) (line p (resultOf p)) [] ++ linesFrom k (p + 1)
+
+  unfoldable pub sentFrom : ℕ → ℕ → ℕ
+  sentFrom zero p = 0
+  sentFrom (suc k) p = cond (isGood p) (sentOf p) 0 + sentFrom k (p + 1)
+
+  unfoldable pub output : List ℕ
+  output = linesFrom (nIn s) 1 ++ sentLine (sentFrom (nIn s) 1)
+
+  -- the plan's output in a lent buffer: turned away for a cause, or written; cause 9 where the buffer is shorter
+  unfoldable pub rehearseOf : List ℕ → Given
+  rehearseOf out = cond (not (eqb sessionCause 0)) (gave (Refused sessionCause) out) (written output out)
