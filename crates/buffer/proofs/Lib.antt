@@ -3,3 +3,4 @@ pub mod Tabulate
 pub mod Entries
 pub mod Given
 pub mod Rows
+pub mod Bounds

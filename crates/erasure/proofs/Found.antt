@@ -1,15 +1,14 @@
 -- Laws of the search for the present shares: what one entry adds, and the arrays that hold those found. Assumes nothing.
-use mathlib.Core.Path.{_≡_, refl, sym, ap, ap₂, subst, _∙_}
+use mathlib.Core.Path.{_≡_, sym, ap, ap₂, _∙_}
 use mathlib.Core.Logic.{_≢_}
 use mathlib.Core.List.{List, [], _∷_, _++_, append-assoc}
-use Prim.Native.Nat.{ℕ, zero, suc, _+_, _-_, _*_, _<_, _≤_}
-use native.Mathlib.Nat.{le-refl}
+use Prim.Native.Nat.{ℕ, suc, _+_, _-_, _<_, _≤_}
 use native.Mathlib.Decide.{ℕ-discrete}
 use native.Mathlib.Numerals.{add-one}
 use native.Mathlib.Omega.{arith}
 use borrow.Author.Tests.{eq-eqb, ne-eqb}
 use lib.ListN.{length, getD, take, drop, set, length-take, length-drop}
-use lib.Seq.{getD-set-same, getD-set-other, take-at, length-take-le, take-append-le}
+use lib.Seq.{getD-set-same, getD-set-other, take-at, length-take-le}
 use Rattle.buffer.specs.Splice.{tabulate}
 use Rattle.buffer.specs.Entries.{size, bodies}
 use Rattle.buffer.proofs.Tabulate.{length-tabulate, tabulate-cong}

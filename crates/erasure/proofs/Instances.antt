@@ -5,14 +5,14 @@ use mathlib.Core.List.{List, [], _∷_}
 use Prim.Native.Nat.{ℕ, zero, suc, _<_, _≤_}
 use native.Mathlib.Omega.{arith}
 use lib.Dec.{lit<, lit≤}
-use lib.ListN.{length, getD}
+use lib.ListN.{length}
 use Rattle.limits.specs.Limits.{maxMessage}
 use Rattle.gf256.specs.Field.{timesX, product}
 use Rattle.buffer.specs.Splice.{tabulate}
 use Rattle.polynomial.specs.Polynomial.{sum, pow, value}
 use Rattle.buffer.specs.Bounds.{Bytes}
 use Rattle.erasure.specs.Coding.{shareLength, headed, frame, block, shareByte, shareOf, share}
-use Rattle.erasure.specs.Rebuild.{point, present, recovered, Recovered, message}
+use Rattle.erasure.specs.Rebuild.{point, present, recovered, message}
 use Rattle.erasure.proofs.Complete.{complete}
 use Rattle.erasure.proofs.Sound.{sound}
 use Rattle.erasure.proofs.Injective.{injective}

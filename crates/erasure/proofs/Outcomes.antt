@@ -1,5 +1,5 @@
 -- The outcomes of the definitions, one law for each, from plain facts about numbers. Assumes nothing.
-use mathlib.Core.Path.{_≡_, refl}
+use mathlib.Core.Path.{_≡_}
 use mathlib.Core.Bool.{true, false}
 use mathlib.Core.List.{List, map}
 use Prim.Native.Nat.{ℕ, _-_, _<_, _≤_}
@@ -10,7 +10,7 @@ use Rattle.buffer.specs.Entries.{size, body, rest, fills, bodies}
 use Rattle.buffer.specs.Given.{gave, written}
 use Rattle.erasure.specs.Coding.{shareLength, shares, encodeOf}
 use Rattle.erasure.specs.Rebuild.{Point, point, present, framed, other, unframed, joined, recovered, answered, rebuildOf}
-use Rattle.erasure.specs.Rebuild.{Recovered, cause, message}
+use Rattle.erasure.specs.Rebuild.{cause, message}
 use Rattle.buffer.specs.declared.Written.the-variants.{Refused}
 
 module _ (n t : ℕ) (m out : List ℕ) where

@@ -8,11 +8,12 @@ use native.Mathlib.Decide.{decLt}
 use native.Mathlib.Omega.{arith}
 use borrow.Author.Tests.{eqb-false}
 use lib.Dec.{eqb, lit<}
-use lib.ListN.{length, getD, take, drop, length-take, List·getD-eq-default}
-use lib.Seq.{getD-take, getD-drop}
-use Rattle.buffer.specs.Entries.{size, body, rest, bodies}
+use lib.ListN.{length, getD, take, List·getD-eq-default}
+use lib.Seq.{getD-take}
+use Rattle.buffer.specs.Entries.{rest, bodies}
 use Rattle.polynomial.specs.Polynomial.{Distinct}
 use Rattle.buffer.specs.Bounds.{Bytes}
+use Rattle.buffer.proofs.Bounds.{body-bytes, rest-bytes}
 use Rattle.erasure.specs.Rebuild.{Point, present, point}
 
 -- points ps taken in order from the entries es, which are numbered from j on
@@ -117,17 +118,8 @@ point-used b ps i h = getD-take b ps i _ h
 
 -- entries that lie one behind the other in a list
 
-drop-bytes : (n : ℕ) (l : List ℕ) → Bytes l → Bytes (drop n l)
-drop-bytes n l h i = subst (λ (x : ℕ). x < 256) (sym (getD-drop n l i 0)) (h (n + i))
-
-take-bytes : (n : ℕ) (l : List ℕ) → Bytes l → Bytes (take n l)
-take-bytes n l h i = elim (decLt i n) [
-  | yes k ↦ subst (λ (x : ℕ). x < 256) (sym (getD-take n l i 0 k)) (h i)
-  | no k ↦ subst (λ (x : ℕ). x < 256) (sym (List·getD-eq-default (take n l) 0 {n = i} (omega (arith, length-take n l)))) (lit< tt)
-]
-
 pub bodies-bytes : (n : ℕ) (l : List ℕ) → Bytes l → (i : ℕ) → Bytes (getD (bodies n l) i [])
-unfolding bodies body rest
+unfolding bodies
 bodies-bytes zero l h i = λ c. lit< tt
-bodies-bytes (suc n) l h zero = take-bytes (size l) (drop 2 l) (drop-bytes 2 l h)
-bodies-bytes (suc n) l h (suc i) = bodies-bytes n (rest l) (drop-bytes (2 + size l) l h) i
+bodies-bytes (suc n) l h zero = body-bytes l h
+bodies-bytes (suc n) l h (suc i) = bodies-bytes n (rest l) (rest-bytes l h) i

@@ -1,7 +1,7 @@
 -- The cases of document 01 on the field and the coder that are marked P, in one table, which the definitions satisfy by computation.
 -- Assumes nothing.
 use mathlib.Core.Path.{_≡_, refl}
-use mathlib.Core.List.{List, [], _∷_, _++_}
+use mathlib.Core.List.{List, [], _∷_}
 use Prim.Native.Nat.{ℕ}
 use Rattle.gf256.specs.Field.{timesX, product, power, inverse}
 use Rattle.gf256.specs.Cases.{product-case, inverse-case}
@@ -11,7 +11,7 @@ use Rattle.buffer.specs.Entries.{size, body, rest, fills, bodies}
 use Rattle.polynomial.specs.Polynomial.{sum, pow, value, factor, unit, numerator, denominator, basis, through}
 use Rattle.buffer.specs.Given.{gave, written}
 use Rattle.erasure.specs.Coding.{shareLength, headed, frame, block, shareByte, shareOf, share}
-use Rattle.erasure.specs.Rebuild.{present, point, framed, other, unframed, joined, recovered, answered, rebuildOf}
+use Rattle.erasure.specs.Rebuild.{present, point, framed, other, unframed, joined, recovered, rebuildOf}
 use Rattle.buffer.specs.declared.Written.the-variants.{Done}
 
 -- the message 0x41 0x42, and the entries of its shares 2 and 3 alone, for n 3 and t 1

@@ -1,17 +1,18 @@
 -- Packing packets into an inbox and taking it apart are inverse: the packets' entries fill it and are its bodies, and bytes that
 -- entries fill are the inbox of their bodies. By induction on the entries. Assumes nothing.
-use mathlib.Core.Path.{_≡_, refl, sym, ap, ap₂, subst, _∙_}
+use mathlib.Core.Path.{_≡_, refl, sym, ap, ap₂, _∙_}
 use mathlib.Core.Bool.{true}
 use mathlib.Core.List.{List, [], _∷_, _++_}
 use Prim.Native.Nat.{ℕ, zero, suc, _+_, _*_, _/_, _%_, _<_, _≤_}
 use native.Mathlib.Omega.{arith}
 use borrow.Author.Tests.{le-ltb, eqb-true}
 use lib.ListN.{length, take, drop, length-append, take-append-drop}
-use lib.Seq.{take-append-seam, drop-append-seam, drop-drop, length-take-le, getD-drop}
+use lib.Seq.{take-append-seam, drop-append-seam, drop-drop, length-take-le}
 use Rattle.buffer.specs.Entries.{size, body, rest, fills, bodies}
 use Rattle.buffer.proofs.Entries.{whole}
 use Rattle.packet.specs.Format.{entryOf}
 use Rattle.buffer.specs.Bounds.{Bytes}
+use Rattle.buffer.proofs.Bounds.{rest-bytes}
 use Rattle.packet.specs.Inbox.{inboxOf}
 
 -- an entry, and bytes behind it
@@ -67,10 +68,6 @@ first-entry (a ∷ b ∷ r) small h =
     ap₂ (λ (x y : ℕ). x ∷ y ∷ (take k r ++ drop (2 + k) (a ∷ b ∷ r))) high low
     ∙ ap (λ (l : List ℕ). a ∷ b ∷ (take k r ++ l)) (sym (drop-drop k 2 (a ∷ b ∷ r)))
     ∙ ap (λ (l : List ℕ). a ∷ b ∷ l) (take-append-drop k r)
-
-rest-bytes : (s : List ℕ) → Bytes s → Bytes (rest s)
-unfolding rest
-rest-bytes s small i = subst (λ (x : ℕ). x < 256) (sym (getD-drop (2 + size s) s i 0)) (small (2 + size s + i))
 
 pub bodies-inbox : (n : ℕ) (s : List ℕ) → Bytes s → fills n s ≡ true → inboxOf (bodies n s) ≡ s
 unfolding rest fills bodies inboxOf

@@ -1,6 +1,6 @@
 -- A plan read: its causes, in document 01's order for a plan, and its parts. The rule of the short agreement (cause 14) is judged with the
 -- parties' roots and bits, not here. Assumes nothing.
-use mathlib.Core.Bool.{Bool, false, cond, not, _||_}
+use mathlib.Core.Bool.{false, cond, not, _||_}
 use mathlib.Core.List.{List}
 use Prim.Native.Nat.{ℕ, _+_, _-_}
 use lib.Dec.{ltb, eqb}

@@ -1,10 +1,9 @@
 -- `erasure::frame_byte` meets its contract: after m turns the total is the sum over the first m shares. Assumes nothing.
 use mathlib.Core.Path.{_≡_, refl, sym, ap, ap₂, _∙_}
-use mathlib.Core.List.{List}
-use Prim.Native.Nat.{ℕ, suc, _+_, _-_, _*_, _/_, _%_, _≤_, _<_}
+use Prim.Native.Nat.{ℕ, _+_, _-_, _*_, _/_, _%_, _≤_, _<_}
 use native.Mathlib.Numerals.{add-one}
 use lib.Bits.{bitXor}
-use lib.ListN.{length, getD}
+use lib.ListN.{getD}
 use Rattle.limits.specs.Limits.{maxParties}
 use Rattle.buffer.proofs.Tabulate.{getD-tabulate}
 use Rattle.gf256.specs.Field.{product}

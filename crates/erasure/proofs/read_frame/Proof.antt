@@ -1,11 +1,11 @@
 -- `erasure::read_frame` meets its contract: each return is one outcome of the definition. Assumes nothing.
-use mathlib.Core.Path.{_≡_, refl, sym, ap, ap₂, subst, _∙_}
+use mathlib.Core.Path.{_≡_, sym, ap, ap₂, subst, _∙_}
 use mathlib.Core.List.{List}
-use Prim.Native.Nat.{ℕ, _+_, _*_, _≤_, _<_}
+use Prim.Native.Nat.{ℕ, _+_, _*_, _≤_}
 use native.Mathlib.Nat.{add-comm}
 use lib.ListN.{length, take, drop, length-drop}
 use lib.Seq.{length-take-le}
-use Rattle.limits.specs.Limits.{maxParties, maxMessage}
+use Rattle.limits.specs.Limits.{maxMessage}
 use Rattle.buffer.specs.Splice.{spliced}
 use Rattle.buffer.specs.Entries.{size, body, rest}
 use Rattle.erasure.specs.Coding.{shareLength}

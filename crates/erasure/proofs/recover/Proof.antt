@@ -1,5 +1,5 @@
 -- `erasure::recover` meets its contract: the points chosen are those used, and their frame is the table's. Assumes nothing.
-use mathlib.Core.Path.{_≡_, refl, sym, ap, subst, _∙_}
+use mathlib.Core.Path.{_≡_, sym, ap, subst, _∙_}
 use mathlib.Core.Bool.{false}
 use mathlib.Core.List.{List, map}
 use Prim.Native.Nat.{ℕ, _+_, _≤_, _<_}
@@ -7,7 +7,7 @@ use lib.ListN.{length, getD, take, length-take}
 use Rattle.buffer.specs.Entries.{bodies}
 use Rattle.buffer.specs.Splice.{tabulate}
 use Rattle.buffer.proofs.Tabulate.{length-tabulate, getD-tabulate}
-use Rattle.erasure.specs.Rebuild.{Point, point, present, framed, Recovered, answered, recovered, unframed, other}
+use Rattle.erasure.specs.Rebuild.{Point, point, present, framed, Recovered, answered, unframed, other}
 use Rattle.erasure.specs.Arrays.{held, Within}
 use Rattle.erasure.proofs.Outcomes.{recovered-few, recovered-uneven, recovered-even}
 use Rattle.erasure.proofs.Found.{length-held}

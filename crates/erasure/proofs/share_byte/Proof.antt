@@ -1,13 +1,11 @@
 -- `erasure::share_byte` meets its contract: the total is the value of the blocks from k on, by Horner's rule. Assumes nothing.
-use mathlib.Core.Path.{_≡_, refl, sym, ap, ap₂, _∙_}
-use Prim.Native.Nat.{ℕ, suc, _+_, _-_, _*_, _≤_, _<_}
+use mathlib.Core.Path.{_≡_, sym, ap, ap₂, _∙_}
+use Prim.Native.Nat.{ℕ, _+_, _-_, _*_, _≤_}
 use lib.Bits.{bitXor}
-use lib.ListN.{length, getD}
-use Rattle.limits.specs.Limits.{maxParties, maxShare}
-use Rattle.gf256.specs.Field.{product}
+use lib.ListN.{getD}
 use Rattle.polynomial.specs.Polynomial.{value, sum}
 use Rattle.erasure.specs.Bytes.{bytes}
-use Rattle.erasure.specs.Coding.{block, shareByte}
+use Rattle.erasure.specs.Coding.{block}
 use Rattle.erasure.proofs.Arrays.{inside, share-more, share-all}
 use borrow.Author.Needs.{needs}
 use native.Mathlib.Omega.{arith}

@@ -1,10 +1,9 @@
 -- `erasure::spoilt` meets its contract: that a byte is not 0 is that one still to come is not. Assumes nothing.
-use mathlib.Core.Path.{_≡_, refl, sym, ap, _∙_}
-use Prim.Native.Nat.{ℕ, _+_, _-_, _*_, _≤_, _<_}
-use lib.ListN.{length, getD, drop}
-use Rattle.limits.specs.Limits.{maxParties}
+use mathlib.Core.Path.{_≡_, refl, sym, _∙_}
+use Prim.Native.Nat.{_-_, _*_, _≤_, _<_}
+use lib.ListN.{length, drop}
 use Rattle.erasure.specs.Rebuild.{other}
-use Rattle.erasure.specs.Arrays.{combined, Reach}
+use Rattle.erasure.specs.Arrays.{combined}
 use Rattle.erasure.proofs.Arrays.{blocks-small, length-combined}
 use Rattle.erasure.proofs.Other.{other-end, other-here, other-more}
 use borrow.Author.Needs.{needs}

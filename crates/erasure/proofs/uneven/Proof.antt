@@ -1,6 +1,6 @@
 -- `erasure::uneven` meets its contract: that a length differs is that one still to come does. Assumes nothing.
-use mathlib.Core.Path.{_≡_, refl, sym, ap, _∙_}
-use Prim.Native.Nat.{ℕ, _+_, _-_, _≤_, _<_}
+use mathlib.Core.Path.{_≡_, refl, sym, _∙_}
+use Prim.Native.Nat.{ℕ, _-_, _≤_}
 use lib.ListN.{length, getD, drop}
 use Rattle.limits.specs.Limits.{maxParties}
 use Rattle.buffer.specs.Splice.{tabulate}

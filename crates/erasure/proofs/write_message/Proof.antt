@@ -1,11 +1,10 @@
 -- `erasure::write_message` meets its contract: after i turns the first i bytes of the message are written. Assumes nothing.
 use mathlib.Core.Path.{_≡_, refl, sym, ap, ap₂, _∙_}
-use Prim.Native.Nat.{ℕ, _+_, _-_, _*_, _≤_, _<_}
-use lib.ListN.{length, getD, take, drop, set, length-set}
-use Rattle.limits.specs.Limits.{maxParties}
+use Prim.Native.Nat.{ℕ, _+_, _-_, _≤_, _<_}
+use lib.ListN.{length, take, drop, set, length-set}
 use Rattle.buffer.specs.Splice.{spliced}
 use Rattle.buffer.proofs.Splice.{spliced-none}
-use Rattle.erasure.specs.Arrays.{combined, Reach}
+use Rattle.erasure.specs.Arrays.{combined}
 use Rattle.erasure.proofs.Arrays.{blocks-small, length-combined, message-more}
 use borrow.Author.Needs.{needs}
 use native.Mathlib.Omega.{arith}

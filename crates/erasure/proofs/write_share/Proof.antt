@@ -1,8 +1,7 @@
 -- `erasure::write_share` meets its contract: after c turns the first c bytes of the share are written. Assumes nothing.
 use mathlib.Core.Path.{_≡_, refl, sym, ap, ap₂, _∙_}
-use Prim.Native.Nat.{ℕ, _+_, _-_, _*_, _≤_, _<_}
-use lib.ListN.{length, getD, set, length-set}
-use Rattle.limits.specs.Limits.{maxParties, maxShare}
+use Prim.Native.Nat.{ℕ, _+_, _-_, _≤_}
+use lib.ListN.{length, set, length-set}
 use Rattle.buffer.specs.Splice.{spliced, tabulate}
 use Rattle.buffer.proofs.Splice.{spliced-none}
 use Rattle.buffer.proofs.Tabulate.{table-set}

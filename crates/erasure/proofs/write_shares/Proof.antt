@@ -1,10 +1,9 @@
 -- `erasure::write_shares` meets its contract: after j turns the first j shares are written. Assumes nothing.
-use mathlib.Core.Path.{_≡_, refl, sym, ap, ap₂, _∙_}
+use mathlib.Core.Path.{_≡_, refl, sym, ap, _∙_}
 use mathlib.Core.List.{List}
-use Prim.Native.Nat.{ℕ, _+_, _-_, _*_, _%_, _≤_, _<_}
+use Prim.Native.Nat.{ℕ, _+_, _-_, _*_, _%_, _≤_}
 use native.Mathlib.Nat.{zero-mul}
-use lib.ListN.{length, getD}
-use Rattle.limits.specs.Limits.{maxParties, maxShare}
+use lib.ListN.{length}
 use Rattle.buffer.specs.Splice.{spliced}
 use Rattle.buffer.proofs.Splice.{spliced-none}
 use Rattle.erasure.specs.Coding.{shareOf}

@@ -1,0 +1,107 @@
+-- What holds of a plan that is taken: n and t are within their limits, a given root has 32 bytes, and no book is over its limit. By the tests
+-- of the definitions, and by induction along the parties. Assumes nothing.
+use mathlib.Core.Path.{_≡_, refl, subst}
+use mathlib.Core.Bool.{Bool, true, false, cond, not, _||_, true≢false, false≢true}
+use mathlib.Core.List.{List, []}
+use mathlib.Core.Option.{Option, none}
+use Prim.Native.Nat.{ℕ, zero, suc, _+_, _≤_, _<_, _^_}
+use native.Mathlib.Omega.{arith}
+use borrow.Author.Tests.{ltb-false, eqb-true, eqb-false}
+use lib.Dec.{ltb, eqb, lit<}
+use lib.ListN.{length, drop, length-take, length-drop}
+use lib.Seq.{length-take-le}
+use Rattle.limits.specs.Limits.{maxMessage, maxPlan, groupCause}
+use Rattle.buffer.specs.Bounds.{Bytes}
+use Rattle.buffer.specs.Entries.{size, body, rest}
+use Rattle.buffer.proofs.Bounds.{body-bytes, rest-bytes}
+use Rattle.plan.specs.Layout.{names, under, longBook, nIn, tIn, optionsIn, afterRoot, afterBit, hasRoot, rootIn, goodIn, booksIn, endOf, empty, laidOut}
+use Rattle.plan.specs.Plan.{planCause}
+
+pub record Accepted (s : List ℕ) : Type 0 where
+  pub group : groupCause (nIn s) (tIn s) ≡ 0
+  pub laid : laidOut s ≡ true
+  pub short : longBook maxMessage (nIn s) 1 (goodIn s) (booksIn s) ≡ false
+
+no-cause : (a : Bool) (k : ℕ) (g b c : Bool) → eqb k 0 ≡ g → cond a 13 (cond (not g) k (cond (not b) 13 (cond c 4 0))) ≡ 0
+    → (k ≡ 0) × (b ≡ true) × (c ≡ false)
+no-cause true k g b c q e = absurd (omega arith)
+no-cause false k false b c q e = absurd (eqb-false k 0 q e)
+no-cause false k true false c q e = absurd (omega arith)
+no-cause false k true true true q e = absurd (omega arith)
+no-cause false k true true false q e = (eqb-true k 0 q, refl, refl)
+
+either : (a b : Bool) → cond (a || not b) false true ≡ true → b ≡ true
+either true b e = absurd (false≢true e)
+either false true e = refl
+either false false e = absurd (false≢true e)
+
+not-or : (a b : Bool) → a || not b ≡ not (cond (a || not b) false true)
+not-or true b = refl
+not-or false true = refl
+not-or false false = refl
+
+pub accepted : (s : List ℕ) → planCause s ≡ 0 → Accepted s
+unfolding planCause
+accepted s e =
+    let k : ℕ = groupCause (nIn s) (tIn s) in
+    let o : Bool = cond (ltb maxPlan (length s) || not (laidOut s)) false true in
+    let h = no-cause (ltb (length s) 2) k (eqb k 0) o (longBook maxMessage (nIn s) 1 (goodIn s) (booksIn s)) refl
+    (subst (λ (b : Bool). cond (ltb (length s) 2) 13 (cond (not (eqb k 0)) k (cond b 13
+    (cond (longBook maxMessage (nIn s) 1 (goodIn s) (booksIn s)) 4 0))) ≡ 0) (not-or (ltb maxPlan (length s)) (laidOut s)) e) in
+    record { group = h .0; laid = either (ltb maxPlan (length s)) (laidOut s) (h .1); short = h .2 }
+
+-- a root that is given has 32 bytes
+first-tests : (a b c d : Bool) (o : Option (List ℕ)) → empty (cond (a || b || c || d) none o) ≡ true → c ≡ false
+first-tests true b c d o e = absurd (false≢true e)
+first-tests false true c d o e = absurd (false≢true e)
+first-tests false false true d o e = absurd (false≢true e)
+first-tests false false false d o e = refl
+
+pub root-length : (s : List ℕ) → laidOut s ≡ true → hasRoot s ≡ true → length (rootIn s) ≡ 32
+unfolding laidOut endOf
+root-length s l r =
+    let h = first-tests (ltb (length s) 3) (not (ltb (optionsIn s) 4)) (ltb (length s) (afterBit s + 2))
+    (not (ltb (goodIn s) (2 ^ nIn s))) _ l in
+    let long : afterBit s + 2 ≤ length s = ltb-false (length s) (afterBit s + 2) h in
+    let at : afterRoot s ≡ 35 = rw r in
+    length-take-le 32 (drop 3 s) (omega (arith, length-drop 3 s))
+
+-- no book is over the limit
+body-short : (s : List ℕ) → length (body s) ≤ size s
+unfolding body
+body-short s = omega (arith, length-take (size s) (drop 2 s))
+
+or-false : (a b : Bool) → a || b ≡ false → (a ≡ false) × (b ≡ false)
+or-false true b e = absurd (true≢false e)
+or-false false b e = (refl, e)
+
+pub under-short : (most k p g q : ℕ) (s : List ℕ) → longBook most k p g s ≡ false → length (under k p g q s) ≤ most
+unfolding longBook under
+under-short most zero p g q s e = omega arith
+under-short most (suc k) p g q s e =
+    go (names g p) (eqb p q) e (under-short most k (p + 1) g q (rest s)) (under-short most k (p + 1) g q s)
+  where
+    go : (a b : Bool) → cond a (ltb most (size s) || longBook most k (p + 1) g (rest s)) (longBook most k (p + 1) g s) ≡ false
+        → (longBook most k (p + 1) g (rest s) ≡ false → length (under k (p + 1) g q (rest s)) ≤ most)
+        → (longBook most k (p + 1) g s ≡ false → length (under k (p + 1) g q s) ≤ most)
+        → length (cond b (cond a (body s) []) (under k (p + 1) g q (cond a (rest s) s))) ≤ most
+    go true true h r t =
+        let w = or-false (ltb most (size s)) (longBook most k (p + 1) g (rest s)) h in
+        omega (arith, body-short s, ltb-false most (size s) (w .0))
+    go true false h r t = r (or-false (ltb most (size s)) (longBook most k (p + 1) g (rest s)) h .1)
+    go false true h r t = omega arith
+    go false false h r t = t h
+
+-- books are bytes if the plan is
+pub under-bytes : (k p g q : ℕ) (s : List ℕ) → Bytes s → Bytes (under k p g q s)
+unfolding under
+under-bytes zero p g q s h = λ i. lit< tt
+under-bytes (suc k) p g q s h =
+    go (names g p) (eqb p q) (under-bytes k (p + 1) g q (rest s) (rest-bytes s h)) (under-bytes k (p + 1) g q s h)
+  where
+    go : (a b : Bool) → Bytes (under k (p + 1) g q (rest s)) → Bytes (under k (p + 1) g q s)
+        → Bytes (cond b (cond a (body s) []) (under k (p + 1) g q (cond a (rest s) s)))
+    go true true r t = body-bytes s h
+    go true false r t = r
+    go false true r t = λ i. lit< tt
+    go false false r t = t
