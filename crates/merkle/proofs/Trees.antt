@@ -95,7 +95,7 @@ module _ (H : List ℕ → List ℕ) (wide : (s : List ℕ) → length (H s) ≡
       sym (take-all (n * s) others (omega arith)) ∙ rows-same n s others shares rows ∙ take-all (n * s) shares (omega arith)
 
   -- the root's length
-  length-root : length (rootOf H n (leavesOf H n shares)) ≡ 32
+  pub length-root : length (rootOf H n (leavesOf H n shares)) ≡ 32
   length-root =
       ap length (tree-root H n shares fine (even .low) (even .high))
       ∙ root-length H 32 wide (shape n) (leafStrings n shares)

@@ -65,7 +65,7 @@ module _ (H : List ℕ → List ℕ) (n t i : ℕ) (m z : List ℕ) where
   unfolding happy atBit
   happy-bit = ap (λ (b : List ℕ). same (messageRoot H n t b) z) (message-bit n t i m z)
 
-  happy-first : happy H (atFirst n t i m z) ≡ glad
+  pub happy-first : happy H (atFirst n t i m z) ≡ glad
   unfolding happy atFirst
   happy-first = ap (λ (b : List ℕ). same (messageRoot H n t b) z) (message-first n t i m z)
 
@@ -74,14 +74,14 @@ module _ (H : List ℕ → List ℕ) (n t i : ℕ) (m z : List ℕ) where
   happy-second x = ap (λ (b : List ℕ). same (messageRoot H n t b) z) (message-second n t i m z x)
 
   module _ (wide : (s : List ℕ) → length (H s) ≡ 32) (c : Coded n t m) (j : ℕ) (first : 1 ≤ j) (last : j ≤ n) where
-    packet-bit : packetFor H (atBit n t i m z) j ≡ packetWith H wide n t m c j first last
+    pub packet-bit : packetFor H (atBit n t i m z) j ≡ packetWith H wide n t m c j first last
     unfolding packetFor atBit
     packet-bit = ap (λ (b : List ℕ). packetOf j (share (n - t) j b) (path b)) (message-bit n t i m z)
       where
         path : List ℕ → List (List ℕ)
         path b = take (length (sidesOf n j)) (pathOf H n j (leavesOf H n (shares n (n - t) b)))
 
-    packet-first : packetFor H (atFirst n t i m z) j ≡ packetWith H wide n t m c j first last
+    pub packet-first : packetFor H (atFirst n t i m z) j ≡ packetWith H wide n t m c j first last
     unfolding packetFor atFirst
     packet-first = ap (λ (b : List ℕ). packetOf j (share (n - t) j b) (path b)) (message-first n t i m z)
       where

@@ -73,7 +73,7 @@ module _ (H : List ℕ → List ℕ) (wide : (s : List ℕ) → length (H s) ≡
     pub path-count : length pathTo ≡ length (sidesOf n j)
     path-count = path-counted H wide n all (fine n t m c) j first last
 
-    path-each : Wide 32 pathTo
+    pub path-each : Wide 32 pathTo
     path-each = path-hashes-wide H wide n all (fine n t m c) j first last
 
     -- the packet of share j

@@ -14,7 +14,7 @@ use Rattle.limits.specs.Limits.{maxMessage, maxPlan, groupCause}
 use Rattle.buffer.specs.Bounds.{Bytes}
 use Rattle.buffer.specs.Entries.{size, body, rest}
 use Rattle.buffer.proofs.Bounds.{body-bytes, rest-bytes}
-use Rattle.plan.specs.Layout.{names, under, longBook, nIn, tIn, optionsIn, afterRoot, afterBit, hasRoot, rootIn, goodIn, booksIn, endOf, empty, laidOut}
+use Rattle.plan.specs.Layout.{names, under, longBook, unnamed, lowest, nIn, tIn, optionsIn, afterRoot, afterBit, hasRoot, rootIn, goodIn, booksIn, endOf, empty, laidOut}
 use Rattle.plan.specs.Plan.{planCause}
 
 pub record Accepted (s : List ℕ) : Type 0 where
@@ -105,3 +105,15 @@ under-bytes (suc k) p g q s h =
     go true false r t = r
     go false true r t = λ i. lit< tt
     go false false r t = t
+
+-- where a map leaves fewer than k of k parties unnamed, the lowest that it names is one of them
+pub lowest-named : (k p g : ℕ) → unnamed k p g < k → (names g (lowest k p g) ≡ true) × (p ≤ lowest k p g) × (lowest k p g < p + k)
+unfolding unnamed lowest
+lowest-named zero p g h = absurd (omega arith)
+lowest-named (suc k) p g h = go (names g p) refl h (lowest-named k (p + 1) g)
+  where
+    go : (b : Bool) → names g p ≡ b → cond b 0 1 + unnamed k (p + 1) g < suc k
+        → (unnamed k (p + 1) g < k → (names g (lowest k (p + 1) g) ≡ true) × (p + 1 ≤ lowest k (p + 1) g) × (lowest k (p + 1) g < p + 1 + k))
+        → (names g (cond b p (lowest k (p + 1) g)) ≡ true) × (p ≤ cond b p (lowest k (p + 1) g)) × (cond b p (lowest k (p + 1) g) < p + suc k)
+    go true e l r = (e, omega arith, omega arith)
+    go false e l r = let w = r (omega arith) in (w .0, omega (arith, w .1), omega (arith, w .2))

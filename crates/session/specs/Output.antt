@@ -2,7 +2,7 @@
 -- Assumes nothing.
 use mathlib.Core.Bool.{cond}
 use mathlib.Core.List.{List, [], _∷_, _++_}
-use Prim.Native.Nat.{ℕ, zero, suc, _+_, _/_, _%_}
+use Prim.Native.Nat.{ℕ, zero, suc, _+_, _-_, _/_, _%_}
 use lib.Dec.{ltb}
 use Rattle.party.specs.State.{Result, nothing, settled}
 
@@ -22,7 +22,7 @@ decimal x = digits 20 x
 
 -- a byte as two lower-case hexadecimal digits, and bytes one behind the other
 abbrev pub hexDigit : ℕ → ℕ
-hexDigit x = cond (ltb x 10) (0x30 + x) (0x57 + x)
+hexDigit x = cond (ltb x 10) (0x30 + x) (0x61 + (x - 10))
 
 unfoldable pub hex : List ℕ → List ℕ
 hex [] = []

@@ -1,6 +1,6 @@
 -- A plan played (document 01, "The rehearsal"): every good party is opened with its book and taken through its steps, on what the other good
 -- parties wrote and on what the plan says that bad ones send. The hash of the tree is a parameter H. Assumes nothing.
-use mathlib.Core.Bool.{Bool, true, false, cond, not, _&&_, _||_}
+use mathlib.Core.Bool.{Bool, true, cond, not, _&&_, _||_}
 use mathlib.Core.List.{List, [], _∷_, _++_}
 use mathlib.Core.Option.{Option, none, some}
 use Prim.Native.Nat.{ℕ, zero, suc, _+_, _-_, _*_}
@@ -13,9 +13,10 @@ use Rattle.buffer.specs.Given.{Given, gave, written}
 use Rattle.buffer.specs.declared.Written.the-variants.{Refused}
 use Rattle.merkle.specs.Shares.{same}
 use Rattle.packet.specs.Inbox.{inboxOf}
-use Rattle.party.specs.State.{Result, nothing, settled}
+use Rattle.party.specs.State.{Result, nothing}
 use Rattle.party.specs.Steps.{openOf, Ballot, agreeRootOf, Stepped, agreeBitOf, takeSharesOf, Ending, takeRelaysOf}
-use Rattle.party.specs.Calls.{entry, lengths}
+use Rattle.party.specs.Calls.{Call, agreeRoot, agreeBit, takeShares, takeRelays, entry, lengths}
+use Rattle.party.specs.Agreement.{Good}
 use Rattle.party.specs.declared.Opened.{Opened}
 use Rattle.plan.specs.Layout.{names, under, packetFrom, unnamed, lowest, nIn, tIn, hasRoot, hasBit, rootIn, bitIn, goodIn, booksIn, firstIn, secondIn}
 use Rattle.plan.specs.Plan.{planCause}
@@ -28,7 +29,7 @@ maxPacket = 4 + maxShare + 32 * maxPath
 abbrev pub maxOutbox : ℕ
 maxOutbox = maxParties * (2 + maxPacket)
 
--- what a step that writes wrote; nothing where it was turned away
+-- what a step that writes wrote; nothing where it was turned away, which no step of a plan without a cause is (`Played`)
 abbrev pub wroteIn : Stepped → List ℕ
 wroteIn r = cond (eqb (r .cause) 0) (take (r .value) (r .buffer)) []
 
@@ -36,96 +37,96 @@ abbrev pub orNothing : Option Result → Result
 orNothing none = nothing
 orNothing (some r) = r
 
+-- in the plan s: party p is good; its message; and the lowest-numbered good party
+abbrev pub isGood : List ℕ → ℕ → Bool
+isGood s p = names (goodIn s) p
+
+unfoldable pub messageOf : List ℕ → ℕ → List ℕ
+messageOf s p = under (nIn s) 1 (goodIn s) p (booksIn s)
+
+abbrev pub lowestGood : List ℕ → ℕ
+lowestGood s = lowest (nIn s) 1 (goodIn s)
+
 module _ (H : List ℕ → List ℕ) (s : List ℕ) where
-  -- party p is good, and its message
-  abbrev pub isGood : ℕ → Bool
-  isGood p = names (goodIn s) p
-
-  unfoldable pub messageOf : ℕ → List ℕ
-  messageOf p = under (nIn s) 1 (goodIn s) p (booksIn s)
-
   -- step 1, and the agreed root: the given one, or that of the lowest-numbered good party
   unfoldable pub opened : ℕ → Opened
-  opened p = openOf H (nIn s) (tIn s) p (messageOf p)
-
-  abbrev pub first : ℕ
-  first = lowest (nIn s) 1 (goodIn s)
+  opened p = openOf H (nIn s) (tIn s) p (messageOf s p)
 
   unfoldable pub agreedRoot : List ℕ
-  agreedRoot = cond (hasRoot s) (rootIn s) (opened first .root)
+  agreedRoot = cond (hasRoot s) (rootIn s) (opened (lowestGood s) .root)
 
   -- step 2, and the agreed bit
-  unfoldable pub second : ℕ → Ballot
-  second p = agreeRootOf H (opened p .state) agreedRoot
+  unfoldable pub step2 : ℕ → Ballot
+  step2 p = agreeRootOf H (opened p .state) agreedRoot
 
   unfoldable pub agreedBit : ℕ
-  agreedBit = cond (hasBit s) (bitIn s) (second first .bit)
+  agreedBit = cond (hasBit s) (bitIn s) (step2 (lowestGood s) .bit)
 
   -- the rule of the short agreement: of k parties from p on, all good ones have this root, or this bit
   unfoldable pub sameRoots : ℕ → ℕ → List ℕ → Bool
   sameRoots zero p w = true
-  sameRoots (suc k) p w = cond (isGood p) (same (opened p .root) w) true && sameRoots k (p + 1) w
+  sameRoots (suc k) p w = cond (isGood s p) (same (opened p .root) w) true && sameRoots k (p + 1) w
 
   unfoldable pub sameBits : ℕ → ℕ → ℕ → Bool
   sameBits zero p b = true
-  sameBits (suc k) p b = cond (isGood p) (eqb (second p .bit) b) true && sameBits k (p + 1) b
+  sameBits (suc k) p b = cond (isGood s p) (eqb (step2 p .bit) b) true && sameBits k (p + 1) b
 
-  -- cause 14: over t bad parties, a bit above 1, or a given root or bit that is not the one that all good parties put in
-  unfoldable pub againstRule : Bool
-  againstRule =
+  -- cause 14: over t bad parties, a bit above 1, or, where all good parties put in one root, or one bit, another one than that
+  unfoldable pub unlawful : Bool
+  unlawful =
       ltb (tIn s) (unnamed (nIn s) 1 (goodIn s)) || (hasBit s && ltb 1 (bitIn s))
-      || (sameRoots (nIn s) 1 (opened first .root) && not (same agreedRoot (opened first .root)))
-      || (sameBits (nIn s) 1 (second first .bit) && not (eqb agreedBit (second first .bit)))
+      || (sameRoots (nIn s) 1 (opened (lowestGood s) .root) && not (same agreedRoot (opened (lowestGood s) .root)))
+      || (sameBits (nIn s) 1 (step2 (lowestGood s) .bit) && not (eqb agreedBit (step2 (lowestGood s) .bit)))
 
   unfoldable pub sessionCause : ℕ
-  sessionCause = cond (not (eqb (planCause s) 0)) (planCause s) (cond againstRule 14 0)
+  sessionCause = cond (not (eqb (planCause s) 0)) (planCause s) (cond unlawful 14 0)
 
   -- step 3
-  unfoldable pub third : ℕ → Stepped
-  third p = agreeBitOf H (second p .state) agreedBit (replicate maxOutbox 0)
+  unfoldable pub step3 : ℕ → Stepped
+  step3 p = agreeBitOf H (step2 p .state) agreedBit (replicate maxOutbox 0)
 
   -- in party i's inbox a good party p stands with its packet for i, a bad one with what the plan says, and i itself with no bytes
   unfoldable pub firstFrom : ℕ → ℕ → List ℕ
   firstFrom i p =
       cond (eqb p i) []
-      (cond (isGood p) (entry (nIn s) i (wroteIn (third p))) (packetFrom (nIn s) 1 (nIn s) (goodIn s) p i (firstIn s)))
+      (cond (isGood s p) (entry (nIn s) i (wroteIn (step3 p))) (packetFrom (nIn s) 1 (nIn s) (goodIn s) p i (firstIn s)))
 
   unfoldable pub firstInbox : ℕ → List ℕ
   firstInbox i = inboxOf (tabulate (nIn s) (λ k. firstFrom i (k + 1)))
 
   -- step 4, and the second inbox
-  unfoldable pub fourth : ℕ → Stepped
-  fourth p = takeSharesOf H (third p .state) (firstInbox p) (replicate maxPacket 0)
+  unfoldable pub step4 : ℕ → Stepped
+  step4 p = takeSharesOf H (step3 p .state) (firstInbox p) (replicate maxPacket 0)
 
   unfoldable pub secondFrom : ℕ → ℕ → List ℕ
   secondFrom i p =
       cond (eqb p i) []
-      (cond (isGood p) (wroteIn (fourth p)) (packetFrom (nIn s) 1 (nIn s) (goodIn s) p i (secondIn s)))
+      (cond (isGood s p) (wroteIn (step4 p)) (packetFrom (nIn s) 1 (nIn s) (goodIn s) p i (secondIn s)))
 
   unfoldable pub secondInbox : ℕ → List ℕ
   secondInbox i = inboxOf (tabulate (nIn s) (λ k. secondFrom i (k + 1)))
 
   -- step 5
-  unfoldable pub fifth : ℕ → Ending
-  fifth p = takeRelaysOf H (fourth p .state) (secondInbox p) (replicate maxMessage 0)
+  unfoldable pub step5 : ℕ → Ending
+  step5 p = takeRelaysOf H (step4 p .state) (secondInbox p) (replicate maxMessage 0)
 
   -- on bit 0 the exchanges are unused
-  unfoldable pub resultOf : ℕ → Result
-  resultOf p = cond (eqb agreedBit 0) nothing (orNothing (fifth p .result))
+  unfoldable pub endsWith : ℕ → Result
+  endsWith p = cond (eqb agreedBit 0) nothing (orNothing (step5 p .result))
 
   -- the bytes that party p sent: its packets, and its relay to the n - 1 others
   unfoldable pub sentOf : ℕ → ℕ
   sentOf p =
-      lengths (bodies (nIn s) (wroteIn (third p))) + cond (eqb agreedBit 0) 0 ((nIn s - 1) * length (wroteIn (fourth p)))
+      lengths (bodies (nIn s) (wroteIn (step3 p))) + cond (eqb agreedBit 0) 0 ((nIn s - 1) * length (wroteIn (step4 p)))
 
   -- of k parties from p on, the good ones' lines, and what they sent
   unfoldable pub linesFrom : ℕ → ℕ → List ℕ
   linesFrom zero p = []
-  linesFrom (suc k) p = cond (isGood p) (line p (resultOf p)) [] ++ linesFrom k (p + 1)
+  linesFrom (suc k) p = cond (isGood s p) (line p (endsWith p)) [] ++ linesFrom k (p + 1)
 
   unfoldable pub sentFrom : ℕ → ℕ → ℕ
   sentFrom zero p = 0
-  sentFrom (suc k) p = cond (isGood p) (sentOf p) 0 + sentFrom k (p + 1)
+  sentFrom (suc k) p = cond (isGood s p) (sentOf p) 0 + sentFrom k (p + 1)
 
   unfoldable pub output : List ℕ
   output = linesFrom (nIn s) 1 ++ sentLine (sentFrom (nIn s) 1)
@@ -133,3 +134,20 @@ module _ (H : List ℕ → List ℕ) (s : List ℕ) where
   -- the plan's output in a lent buffer: turned away for a cause, or written; cause 9 where the buffer is shorter
   unfoldable pub rehearseOf : List ℕ → Given
   rehearseOf out = cond (not (eqb sessionCause 0)) (gave (Refused sessionCause) out) (written output out)
+
+  -- the good parties of the session, with the calls that a rehearsal makes of them
+  unfoldable pub callsOf : ℕ → List Call
+  callsOf p =
+      agreeRoot agreedRoot ∷ agreeBit agreedBit (replicate maxOutbox 0)
+      ∷ cond (eqb agreedBit 0) []
+      (takeShares (firstInbox p) (replicate maxPacket 0) ∷ takeRelays (secondInbox p) (replicate maxMessage 0) ∷ [])
+
+  abbrev pub goodParty : ℕ → Good
+  goodParty p = record { own = p; message = messageOf s p; calls = callsOf p }
+
+  unfoldable pub goodFrom : ℕ → ℕ → List Good
+  goodFrom zero p = []
+  goodFrom (suc k) p = cond (isGood s p) (goodParty p ∷ goodFrom k (p + 1)) (goodFrom k (p + 1))
+
+  abbrev pub goodParties : List Good
+  goodParties = goodFrom (nIn s) 1

@@ -1,0 +1,562 @@
+-- A plan that is taken is a session as agreement supposes it: every opening and every step is accepted, the agreed root and bit keep the rule, and
+-- packets between good parties arrive. So, unless two different strings that good parties hashed have one hash, all good parties' lines
+-- give one result, and the figure after `sent` is the theorem's own sum. By the laws of progress, step by step. Assumes nothing.
+use mathlib.Core.Path.{_≡_, refl, sym, ap, _∙_, subst}
+use mathlib.Core.Logic.{_≢_}
+use mathlib.Core.Bool.{Bool, true, false, cond, not, _&&_, _||_, true≢false, false≢true}
+use mathlib.Core.List.{List, [], _∷_, List·Memᴰ}
+use mathlib.Core.Option.{Option, none, some}
+use Prim.Native.Nat.{ℕ, zero, suc, _+_, _-_, _≤_, _<_}
+use native.Mathlib.Decide.{ℕ-discrete}
+use native.Mathlib.Omega.{arith}
+use borrow.Author.Tests.{ltb-false, eqb-true, eqb-false, eq-eqb, ne-eqb}
+use lib.Dec.{ltb, eqb}
+use lib.ListN.{length, getD, replicate, length-replicate}
+use Rattle.sha256.specs.Sha256.{sha256}
+use Rattle.sha256.proofs.Laws.{sha256-length}
+use Rattle.limits.specs.Limits.{maxMessage}
+use Rattle.limits.proofs.Group.{group-of}
+use Rattle.buffer.specs.Bounds.{Bytes}
+use Rattle.buffer.specs.Splice.{tabulate}
+use Rattle.buffer.specs.Entries.{fills, bodies}
+use Rattle.buffer.proofs.Bounds.{drop-bytes}
+use Rattle.buffer.proofs.Tabulate.{length-tabulate, getD-tabulate}
+use Rattle.erasure.specs.Coding.{shares}
+use Rattle.merkle.specs.Shares.{same}
+use Rattle.merkle.proofs.Judged.{same-true, same-refl}
+use Rattle.merkle.proofs.Trees.{length-root}
+use Rattle.packet.specs.Inbox.{inboxOf}
+use Rattle.packet.proofs.Inbox.{inbox-fills, inbox-bodies}
+use Rattle.party.specs.State.{Result, nothing, bytesOf, atRoot, atBit, atFirst, atSecond, atEnd, resultIn, messageRoot, happy}
+use Rattle.party.specs.Steps.{turnOf, openCause, withRoot, Ballot, ballot, bitIn, outboxOf, heldOf, relayOf}
+use Rattle.party.specs.Steps as steps
+use Rattle.party.specs.Calls.{Call, agreeRoot, agreeBit, takeShares, takeRelays, Event, accepted, first, entry, heard, wrote, packetTo, bitGiven, resultShown}
+use Rattle.party.specs.Calls.{Reply, sentOver, made, events, final, did, firstOf, resultAfter, hashed, sentBy, opening}
+use Rattle.party.specs.Agreement.{Good, Each, step, Clean, Premises, sent, Conclusions}
+use Rattle.party.specs.declared.Party.{Party}
+use Rattle.party.specs.declared.Opened.{Opened}
+use Rattle.party.specs.declared.Vote.the-variants.{Happy}
+use Rattle.party.proofs.Run.{Way, on, off, way, did3, did4}
+use Rattle.party.proofs.Ran.{message-root, message-bit, message-first, opened-is, result-end}
+use Rattle.party.proofs.Tree.{Coded, fine}
+use Rattle.party.proofs.Causes.{state-fine, root-fine}
+use Rattle.party.proofs.Outcomes.{open-given, open-refused, root-given, root-refused}
+use Rattle.party.proofs.Progress.{open-accepted, bit-accepted, shares-accepted, relays-accepted}
+use Rattle.party.proofs.Progress.{root-whole, bit-whole, first-whole, second-whole, held-short, result-short}
+use Rattle.party.proofs.Agreement.{agreement}
+use Rattle.plan.specs.Layout.{unnamed, lowest, nIn, tIn, hasRoot, hasBit, rootIn, goodIn, booksIn}
+use Rattle.plan.specs.Layout as layout
+use Rattle.plan.specs.Plan.{planCause}
+use Rattle.plan.proofs.Accepted.{Accepted, accepted as plan-taken, lowest-named, root-length, under-short, under-bytes}
+use Rattle.session.specs.Session.{maxPacket, maxOutbox, wroteIn, orNothing, isGood, messageOf, lowestGood, opened, agreedRoot, step2, agreedBit}
+use Rattle.session.specs.Session.{sameRoots, sameBits, unlawful, sessionCause, step3, firstFrom, firstInbox, step4, secondFrom, secondInbox, step5}
+use Rattle.session.specs.Session.{endsWith, sentOf, sentFrom, callsOf, goodParty, goodParties}
+use Rattle.session.proofs.Parties.{named, party-in, apart, bad-count, sum-of}
+use Rattle.session.proofs.Rooms.{outbox-fits, relay-fits}
+
+-- a plan without a cause: the plan itself has none, and nothing is against the rule
+no-cause : (k : ℕ) (b : Bool) → cond (not (eqb k 0)) k (cond b 14 0) ≡ 0 → (k ≡ 0) × (b ≡ false)
+no-cause k b e = go (way (eqb k 0)) b e
+  where
+    go : Way (eqb k 0) → (b : Bool) → cond (not (eqb k 0)) k (cond b 14 0) ≡ 0 → (k ≡ 0) × (b ≡ false)
+    go (on q) true h = let z : _≡_ {A = ℕ} 14 0 = rw q at h in absurd (omega arith)
+    go (on q) false h = (eqb-true k 0 q, refl)
+    go (off q) b h = absurd (eqb-false k 0 q (rw q at h))
+
+four-tests : (a b c d : Bool) → a || b || c || d ≡ false → (a ≡ false) × (b ≡ false) × (c ≡ false) × (d ≡ false)
+four-tests true b c d e = absurd (true≢false e)
+four-tests false true c d e = absurd (true≢false e)
+four-tests false false true d e = absurd (true≢false e)
+four-tests false false false true e = absurd (true≢false e)
+four-tests false false false false e = (refl, refl, refl, refl)
+
+both-not : (a b : Bool) → a && not b ≡ false → a ≡ true → b ≡ true
+both-not true true e h = refl
+both-not true false e h = absurd (true≢false e)
+both-not false b e h = absurd (false≢true h)
+
+-- a call that is accepted stands first among the accepted ones
+accept-more : (H : List ℕ → List ℕ) (x : Party) (c : Call) (cs : List Call) → made H x c .cause ≡ 0
+    → accepted (events H x (c ∷ cs)) ≡ record { before = x; call = c; reply = made H x c } ∷ accepted (events H (made H x c .state) cs)
+unfolding accepted events
+accept-more H x c cs e = rw (eq-eqb (made H x c .cause) 0 e)
+
+-- a bit is 0 or 1
+bit-of : (b : Bool) → cond b 1 0 ≤ 1
+bit-of true = omega arith
+bit-of false = omega arith
+
+module _ (H : List ℕ → List ℕ) (wide : (x : List ℕ) → length (H x) ≡ 32) (s : List ℕ) (bytes : Bytes s) (ok : sessionCause H s ≡ 0) where
+  abbrev n : ℕ
+  n = nIn s
+
+  abbrev t : ℕ
+  t = tIn s
+
+  abbrev z : List ℕ
+  z = agreedRoot H s
+
+  abbrev bit : ℕ
+  bit = agreedBit H s
+
+  causes : (planCause s ≡ 0) × (unlawful H s ≡ false)
+  unfolding sessionCause
+  causes = no-cause (planCause s) (unlawful H s) ok
+
+  plan : Accepted s
+  plan = plan-taken s (causes .0)
+
+  lawful : (ltb t (unnamed n 1 (goodIn s)) ≡ false) × (hasBit s && ltb 1 (layout.bitIn s) ≡ false)
+      × (sameRoots H s n 1 (opened H s (lowestGood s) .root) && not (same z (opened H s (lowestGood s) .root)) ≡ false)
+      × (sameBits H s n 1 (step2 H s (lowestGood s) .bit) && not (eqb bit (step2 H s (lowestGood s) .bit)) ≡ false)
+  unfolding unlawful
+  lawful =
+      four-tests (ltb t (unnamed n 1 (goodIn s))) (hasBit s && ltb 1 (layout.bitIn s))
+      (sameRoots H s n 1 (opened H s (lowestGood s) .root) && not (same z (opened H s (lowestGood s) .root)))
+      (sameBits H s n 1 (step2 H s (lowestGood s) .bit) && not (eqb bit (step2 H s (lowestGood s) .bit))) (causes .1)
+
+  low : 1 ≤ n
+  low = group-of n t (plan .group) .low
+
+  coded : (p : ℕ) → Coded n t (messageOf s p)
+  unfolding messageOf
+  coded p =
+      let g = group-of n t (plan .group) in
+      record {
+        low = g .low;
+        high = g .high;
+        faults = g .faults;
+        short = under-short maxMessage n 1 (goodIn s) p (booksIn s) (plan .short);
+      }
+
+  message-bytes : (p : ℕ) → Bytes (messageOf s p)
+  unfolding messageOf
+  message-bytes p = under-bytes n 1 (goodIn s) p (booksIn s) (drop-bytes (layout.afterBit s + 2) s bytes)
+
+  -- the root that any opening gives, or the blank one, has 32 bytes
+  root-long : (p : ℕ) → length (opened H s p .root) ≡ 32
+  unfolding opened messageRoot
+  root-long p = go (way (eqb (openCause n t p (length (messageOf s p))) 0))
+    where
+      go : Way (eqb (openCause n t p (length (messageOf s p))) 0) → length (opened H s p .root) ≡ 32
+      go (on e) =
+          ap (λ (o : Opened). length (o .root))
+          (open-given H n t p (messageOf s p) (eqb-true (openCause n t p (length (messageOf s p))) 0 e))
+          ∙ length-root H wide n (shares n (n - t) (messageOf s p)) (fine n t (messageOf s p) (coded p))
+      go (off e) =
+          ap (λ (o : Opened). length (o .root))
+          (open-refused H n t p (messageOf s p) (eqb-false (openCause n t p (length (messageOf s p))) 0 e))
+
+  z-long : length z ≡ 32
+  unfolding agreedRoot
+  z-long = go (hasRoot s) refl
+    where
+      go : (b : Bool) → hasRoot s ≡ b → length (cond b (rootIn s) (opened H s (lowestGood s) .root)) ≡ 32
+      go true e = root-length s (plan .laid) e
+      go false e = root-long (lowestGood s)
+
+  -- the bit that any step 2 gives is 0 or 1
+  vote-small : (p : ℕ) → step2 H s p .bit ≤ 1
+  unfolding step2
+  vote-small p = go (way (eqb (steps.rootCause (opened H s p .state) z) 0))
+    where
+      x : Party
+      x = opened H s p .state
+
+      go : Way (eqb (steps.rootCause (opened H s p .state) z) 0) → step2 H s p .bit ≤ 1
+      go (on e) =
+          subst (λ (b : Ballot). b .bit ≤ 1)
+          (sym (root-given H (opened H s p .state) z (eqb-true (steps.rootCause (opened H s p .state) z) 0 e)))
+          (bit-of (happy H (withRoot (opened H s p .state) z)))
+      go (off e) =
+          subst (λ (b : Ballot). b .bit ≤ 1)
+          (sym (root-refused H (opened H s p .state) z (eqb-false (steps.rootCause (opened H s p .state) z) 0 e))) (omega arith)
+
+  bit-low : bit ≤ 1
+  unfolding agreedBit
+  bit-low = go (hasBit s) (lawful .1)
+    where
+      go : (b : Bool) → b && ltb 1 (layout.bitIn s) ≡ false → cond b (layout.bitIn s) (step2 H s (lowestGood s) .bit) ≤ 1
+      go true e = ltb-false 1 (layout.bitIn s) e
+      go false e = vote-small (lowestGood s)
+
+  -- a good party, and that each of its steps is accepted
+  module _ (p : ℕ) (one : 1 ≤ p) (last : p ≤ n) where
+    abbrev m : List ℕ
+    m = messageOf s p
+
+    c : Coded n t (messageOf s p)
+    c = coded p
+
+    abbrev X1 : Party
+    X1 = atBit n t p m z
+
+    abbrev X2 : Party
+    X2 = atFirst n t p m z
+
+    open-cause : openCause n t p (length m) ≡ 0
+    open-cause = opened-is H n t p m (open-accepted H n t p m (c .low) (c .high) (c .faults) one last (c .short)) .0
+
+    opened-as : opened H s p ≡ record { state = atRoot n t p m; cause = 0; root = messageRoot H n t m }
+    unfolding opened
+    opened-as = open-given H n t p m open-cause
+
+    -- step 2
+    turn-root : turnOf (atRoot n t p m .stage) ≡ 2
+    unfolding atRoot
+    turn-root = refl
+
+    with-root : withRoot (atRoot n t p m) z ≡ X1
+    unfolding atRoot
+    with-root = ap (λ (b : List ℕ). atBit n t p b z) (message-root n t p m z)
+
+    made-2 : step2 H s p ≡ ballot X1 (Happy (happy H X1))
+    unfolding step2
+    made-2 =
+        let x : Party = atRoot n t p m in
+        let w = root-whole n t p (c .low) (c .high) (c .faults) one last m (c .short) in
+        ap (λ (o : Opened). steps.agreeRootOf H (o .state) z) opened-as
+        ∙ root-given H x z (root-fine x z (state-fine 2 x w turn-root) z-long)
+        ∙ ap (λ (y : Party). ballot y (Happy (happy H y))) with-root
+
+    state-2 : step2 H s p .state ≡ X1
+    state-2 = ap (λ (b : Ballot). b .state) made-2
+
+    -- step 3
+    turn-bit : turnOf (atBit n t p m z .stage) ≡ 3
+    unfolding atBit
+    turn-bit = refl
+
+    abbrev room3 : List ℕ
+    room3 = replicate maxOutbox 0
+
+    fits-3 : length (outboxOf H X1 bit) ≤ length room3
+    fits-3 = omega (arith, outbox-fits H wide n t p m z c bit, length-replicate {A = ℕ} maxOutbox 0)
+
+    cause-3 : step3 H s p .cause ≡ 0
+    unfolding step3
+    cause-3 =
+        ap (λ (x : Party). steps.agreeBitOf H x bit room3 .cause) state-2
+        ∙ bit-accepted H X1 (bit-whole n t p (c .low) (c .high) (c .faults) one last m (c .short) z) bit room3 turn-bit bit-low fits-3
+
+    -- what step 3 leaves, by the laws of calls
+    state-3 : step3 H s p .state ≡ cond (eqb bit 0) (atEnd n t p nothing) X2
+    unfolding step3 made atBit
+    state-3 =
+        let e : made H X1 (agreeBit bit room3) .cause ≡ 0 =
+        sym (ap (λ (x : Party). steps.agreeBitOf H x bit room3 .cause) state-2) ∙ cause-3 in
+        ap (λ (x : Party). steps.agreeBitOf H x bit room3 .state) state-2
+        ∙ ap (λ (r : Reply). r .state) (did3 H X1 bit room3 e .2)
+        ∙ ap (λ (b : List ℕ). cond (eqb bit 0) (atEnd n t p nothing) (atFirst n t p b z)) (message-bit n t p m z)
+
+    -- steps 4 and 5, on bit 1
+    module _ (b1 : bit ≡ 1) where
+      waits : step3 H s p .state ≡ X2
+      waits = state-3 ∙ ap (λ (b : Bool). cond b (atEnd n t p nothing) X2) (ne-eqb bit 0 (λ q. omega arith))
+
+      turn-first : turnOf (atFirst n t p m z .stage) ≡ 4
+      unfolding atFirst
+      turn-first = refl
+
+      filled : (f : ℕ → List ℕ) → fills n (inboxOf (tabulate n f)) ≡ true
+      filled f = ap (λ (k : ℕ). fills k (inboxOf (tabulate n f))) (sym (length-tabulate n f)) ∙ inbox-fills (tabulate n f)
+
+      abbrev room4 : List ℕ
+      room4 = replicate maxPacket 0
+
+      cause-4 : step4 H s p .cause ≡ 0
+      unfolding step4 firstInbox atFirst
+      cause-4 =
+          let fits : length (relayOf H X2 (firstInbox H s p)) ≤ length room4 =
+          omega (arith, relay-fits H wide n t p m z c one last (firstInbox H s p), length-replicate {A = ℕ} maxPacket 0) in
+          ap (λ (x : Party). steps.takeSharesOf H x (firstInbox H s p) room4 .cause) waits
+          ∙ shares-accepted H X2 (first-whole n t p (c .low) (c .high) (c .faults) one last m (c .short) z) (firstInbox H s p) room4 turn-first
+          (filled (λ k. firstFrom H s p (k + 1))) fits
+
+      abbrev X3 : Party
+      X3 = atSecond n t p m z (heldOf H X2 (firstInbox H s p))
+
+      state-4 : step4 H s p .state ≡ X3
+      unfolding step4 made atFirst
+      state-4 =
+          let e : made H X2 (takeShares (firstInbox H s p) room4) .cause ≡ 0 =
+          sym (ap (λ (x : Party). steps.takeSharesOf H x (firstInbox H s p) room4 .cause) waits) ∙ cause-4 in
+          ap (λ (x : Party). steps.takeSharesOf H x (firstInbox H s p) room4 .state) waits
+          ∙ ap (λ (r : Reply). r .state) (did4 H X2 (firstInbox H s p) room4 e .1)
+          ∙ ap (λ (b : List ℕ). atSecond n t p b z (heldOf H X2 (firstInbox H s p))) (message-first n t p m z)
+
+      turn-second : turnOf (X3 .stage) ≡ 5
+      unfolding atSecond
+      turn-second = refl
+
+      abbrev room5 : List ℕ
+      room5 = replicate maxMessage 0
+
+      cause-5 : step5 H s p .cause ≡ 0
+      unfolding step5 secondInbox atSecond
+      cause-5 =
+          let w2 = first-whole n t p (c .low) (c .high) (c .faults) one last m (c .short) z in
+          let w = second-whole n t p (c .low) (c .high) (c .faults) one last m (c .short) z (heldOf H X2 (firstInbox H s p))
+          (held-short H X2 w2 (firstInbox H s p)) in
+          let fits : length (bytesOf (steps.resultOf H X3 (secondInbox H s p))) ≤ length room5 =
+          omega (arith, result-short H X3 w (secondInbox H s p), length-replicate {A = ℕ} maxMessage 0) in
+          ap (λ (x : Party). steps.takeRelaysOf H x (secondInbox H s p) room5 .cause) state-4
+          ∙ relays-accepted H X3 w (secondInbox H s p) room5 turn-second (filled (λ k. secondFrom H s p (k + 1))) fits
+
+    -- the accepted calls are all that were made
+    abbrev E2 : Event
+    E2 = record { before = opened H s p .state; call = agreeRoot z; reply = made H (opened H s p .state) (agreeRoot z) }
+
+    abbrev E3 : Event
+    E3 = record { before = step2 H s p .state; call = agreeBit bit room3; reply = made H (step2 H s p .state) (agreeBit bit room3) }
+
+    abbrev E4 : Event
+    E4 =
+        record {
+          before = step3 H s p .state;
+          call = takeShares (firstInbox H s p) (replicate maxPacket 0);
+          reply = made H (step3 H s p .state) (takeShares (firstInbox H s p) (replicate maxPacket 0));
+        }
+
+    abbrev E5 : Event
+    E5 =
+        record {
+          before = step4 H s p .state;
+          call = takeRelays (secondInbox H s p) (replicate maxMessage 0);
+          reply = made H (step4 H s p .state) (takeRelays (secondInbox H s p) (replicate maxMessage 0));
+        }
+
+    cause-2 : step2 H s p .cause ≡ 0
+    cause-2 = ap (λ (b : Ballot). b .cause) made-2
+
+    begun : (cs : List Call)
+        → accepted (events H (opened H s p .state) (agreeRoot z ∷ agreeBit bit room3 ∷ cs)) ≡ E2 ∷ E3 ∷ accepted (events H (step3 H s p .state) cs)
+    unfolding made step2 step3
+    begun cs =
+        accept-more H (opened H s p .state) (agreeRoot z) (agreeBit bit room3 ∷ cs) cause-2
+        ∙ ap (λ (l : List Event). E2 ∷ l) (accept-more H (step2 H s p .state) (agreeBit bit room3) cs cause-3)
+
+    did-zero : bit ≡ 0 → did H n t p m (callsOf H s p) ≡ E2 ∷ E3 ∷ []
+    unfolding did callsOf opened accepted events
+    did-zero b0 = rw (eq-eqb bit 0 b0) (begun [])
+
+    ended-one : bit ≡ 1 → accepted (events H (step3 H s p .state) (E4 .call ∷ E5 .call ∷ [])) ≡ E4 ∷ E5 ∷ []
+    unfolding made step4 step5 accepted events
+    ended-one b1 =
+        accept-more H (step3 H s p .state) (E4 .call) (E5 .call ∷ []) (cause-4 b1)
+        ∙ ap (λ (l : List Event). E4 ∷ l) (accept-more H (step4 H s p .state) (E5 .call) [] (cause-5 b1))
+
+    did-one : bit ≡ 1 → did H n t p m (callsOf H s p) ≡ E2 ∷ E3 ∷ E4 ∷ E5 ∷ []
+    unfolding did callsOf opened
+    did-one b1 =
+        rw (ne-eqb bit 0 (λ q. omega arith))
+        (begun (E4 .call ∷ E5 .call ∷ []) ∙ ap (λ (l : List Event). E2 ∷ E3 ∷ l) (ended-one b1))
+
+    -- what the others see of the party
+    abbrev first-of : ℕ → Option Event
+    first-of k = firstOf H n t p m (callsOf H s p) k
+
+    either-bit : (P : Type 0) → (bit ≡ 0 → P) → (bit ≡ 1 → P) → P
+    either-bit P f g = go (ℕ-discrete bit 1)
+      where
+        go : Dec (bit ≡ 1) → P
+        go (yes e) = g e
+        go (no d) = f (omega (arith, bit-low))
+
+    second-is : first-of 2 ≡ some E2
+    unfolding first
+    second-is = either-bit (first-of 2 ≡ some E2) (λ b. rw (did-zero b)) (λ b. rw (did-one b))
+
+    third-is : first-of 3 ≡ some E3
+    unfolding first
+    third-is = either-bit (first-of 3 ≡ some E3) (λ b. rw (did-zero b)) (λ b. rw (did-one b))
+
+    fourth-is : bit ≡ 1 → first-of 4 ≡ some E4
+    unfolding first
+    fourth-is b = rw (did-one b)
+
+    fifth-is : bit ≡ 1 → first-of 5 ≡ some E5
+    unfolding first
+    fifth-is b = rw (did-one b)
+
+    vote-is : bitGiven (first-of 2) ≡ some (step2 H s p .bit)
+    unfolding made step2
+    vote-is = ap bitGiven second-is
+
+    wrote-3 : wrote (first-of 3) ≡ wroteIn (step3 H s p)
+    unfolding made step3
+    wrote-3 = ap wrote third-is ∙ sym (rw (eq-eqb (step3 H s p .cause) 0 cause-3))
+
+    wrote-4 : bit ≡ 1 → wrote (first-of 4) ≡ wroteIn (step4 H s p)
+    unfolding made step4
+    wrote-4 b = ap wrote (fourth-is b) ∙ sym (rw (eq-eqb (step4 H s p .cause) 0 (cause-4 b)))
+
+    entry-of : (f : ℕ → List ℕ) (q : ℕ) → 1 ≤ q → q ≤ n → entry n q (inboxOf (tabulate n (λ k. f (k + 1)))) ≡ f q
+    unfolding entry
+    entry-of f q l h =
+        let g : ℕ → List ℕ = λ k. f (k + 1) in
+        let e : q - 1 + 1 ≡ q = omega arith in
+        ap (λ (k : ℕ). getD (bodies k (inboxOf (tabulate n g))) (q - 1) []) (sym (length-tabulate n g))
+        ∙ ap (λ (l : List (List ℕ)). getD l (q - 1) []) (inbox-bodies (tabulate n g))
+        ∙ getD-tabulate n g (q - 1) [] (omega arith) ∙ ap f e
+
+    heard-4 : bit ≡ 1 → (q : ℕ) → 1 ≤ q → q ≤ n → heard n q (first-of 4) ≡ firstFrom H s p q
+    unfolding firstInbox
+    heard-4 b q l h = ap (heard n q) (fourth-is b) ∙ entry-of (firstFrom H s p) q l h
+
+    heard-5 : bit ≡ 1 → (q : ℕ) → 1 ≤ q → q ≤ n → heard n q (first-of 5) ≡ secondFrom H s p q
+    unfolding secondInbox
+    heard-5 b q l h = ap (heard n q) (fifth-is b) ∙ entry-of (secondFrom H s p) q l h
+
+    shows-5 : bit ≡ 1 → resultShown (first-of 5) ≡ step5 H s p .result
+    unfolding made step5
+    shows-5 b = ap resultShown (fifth-is b)
+
+    ends-0 : bit ≡ 0 → resultAfter H n t p m (callsOf H s p) ≡ some nothing
+    unfolding callsOf final made opened step2 step3
+    ends-0 b =
+        rw (eq-eqb bit 0 b)
+        (ap resultIn (state-3 ∙ ap (λ (e : Bool). cond e (atEnd n t p nothing) X2) (eq-eqb bit 0 b)) ∙ result-end n t p nothing)
+
+    sent-is : sentBy H n t p m (callsOf H s p) ≡ sentOf H s p
+    unfolding sentBy sentOver sentOf made step3 step4
+    sent-is =
+        either-bit (sentBy H n t p m (callsOf H s p) ≡ sentOf H s p)
+        (λ b. rw (did-zero b, eq-eqb bit 0 b, eq-eqb (step3 H s p .cause) 0 cause-3) (omega arith))
+        (λ b. rw (did-one b, ne-eqb bit 0 (λ q. omega arith), eq-eqb (step3 H s p .cause) 0 cause-3, eq-eqb (step4 H s p .cause) 0 (cause-4 b))
+        (omega arith))
+
+  abbrev good : List Good
+  good = goodParties H s
+
+  -- what holds of each party that the map names holds of every good party
+  each : (P : Good → Type 0) → ((q : ℕ) → 1 ≤ q → q ≤ n → isGood s q ≡ true → P (goodParty H s q)) → Each H n t good P
+  each P f A h =
+      let w = named H s n 1 A h in
+      subst P (sym (w .is)) (f (w .number) (w .low) (omega (arith, w .high)) (w .good))
+
+  pub member : (q : ℕ) → 1 ≤ q → q ≤ n → isGood s q ≡ true → List·Memᴰ (goodParty H s q) good
+  member q l h g = party-in H s n 1 q l (omega arith) g
+
+  -- the lowest good party
+  few-bad : unnamed n 1 (goodIn s) ≤ t
+  few-bad = ltb-false t (unnamed n 1 (goodIn s)) (lawful .0)
+
+  chief : (isGood s (lowestGood s) ≡ true) × (1 ≤ lowestGood s) × (lowestGood s < 1 + n)
+  chief = lowest-named n 1 (goodIn s) (omega (arith, few-bad, group-of n t (plan .group) .faults))
+
+  chief-in : List·Memᴰ (goodParty H s (lowestGood s)) good
+  chief-in = member (lowestGood s) (chief .1) (omega (arith, chief .2)) (chief .0)
+
+  -- the rule
+  all-roots : (w : List ℕ) (k p : ℕ) → ((q : ℕ) → p ≤ q → q < p + k → isGood s q ≡ true → opened H s q .root ≡ w) → sameRoots H s k p w ≡ true
+  unfolding sameRoots
+  all-roots w zero p f = refl
+  all-roots w (suc k) p f = go (way (isGood s p)) (all-roots w k (p + 1) (λ q l h g. f q (omega arith) (omega arith) g))
+    where
+      go : Way (isGood s p) → sameRoots H s k (p + 1) w ≡ true → sameRoots H s (suc k) p w ≡ true
+      go (on e) r = rw (e, ap (λ (x : List ℕ). same x w) (f p (omega arith) (omega arith) e) ∙ same-refl w) r
+      go (off e) r = rw e r
+
+  all-bits : (b k p : ℕ) → ((q : ℕ) → p ≤ q → q < p + k → isGood s q ≡ true → step2 H s q .bit ≡ b) → sameBits H s k p b ≡ true
+  unfolding sameBits
+  all-bits b zero p f = refl
+  all-bits b (suc k) p f = go (way (isGood s p)) (all-bits b k (p + 1) (λ q l h g. f q (omega arith) (omega arith) g))
+    where
+      go : Way (isGood s p) → sameBits H s k (p + 1) b ≡ true → sameBits H s (suc k) p b ≡ true
+      go (on e) r = rw (e, eq-eqb (step2 H s p .bit) b (f p (omega arith) (omega arith) e)) r
+      go (off e) r = rw e r
+
+  same-some : {A : Type 0} {x y : A} → _≡_ {A = Option A} (some x) (some y) → x ≡ y
+  same-some e = cc
+
+  root-rule : (v : List ℕ) → Each H n t good (λ A. some (opening H n t (A .own) (A .message) .root) ≡ some v) → z ≡ v
+  unfolding opened
+  root-rule v f =
+      let of : (q : ℕ) → 1 ≤ q → q ≤ n → isGood s q ≡ true → opened H s q .root ≡ v = λ q l h g. same-some (f (goodParty H s q) (member q l h g)) in
+      let own : opened H s (lowestGood s) .root ≡ v = of (lowestGood s) (chief .1) (omega (arith, chief .2)) (chief .0) in
+      let all = all-roots (opened H s (lowestGood s) .root) n 1 (λ q l h g. of q l (omega arith) g ∙ sym own) in
+      same-true z (opened H s (lowestGood s) .root)
+      (both-not (sameRoots H s n 1 (opened H s (lowestGood s) .root)) (same z (opened H s (lowestGood s) .root)) (lawful .2) all) ∙ own
+
+  vote-rule : (v : ℕ) → Each H n t good (λ A. bitGiven (step H n t good 2 A) ≡ some v) → bit ≡ v
+  vote-rule v f =
+      let of : (q : ℕ) → 1 ≤ q → q ≤ n → isGood s q ≡ true → step2 H s q .bit ≡ v =
+      (λ q l h g. same-some (sym (vote-is q l h) ∙ f (goodParty H s q) (member q l h g))) in
+      let own : step2 H s (lowestGood s) .bit ≡ v = of (lowestGood s) (chief .1) (omega (arith, chief .2)) (chief .0) in
+      let all = all-bits (step2 H s (lowestGood s) .bit) n 1 (λ q l h g. of q l (omega arith) g ∙ sym own) in
+      eqb-true bit (step2 H s (lowestGood s) .bit)
+      (both-not (sameBits H s n 1 (step2 H s (lowestGood s) .bit)) (eqb bit (step2 H s (lowestGood s) .bit)) (lawful .3) all) ∙ own
+
+  -- packets between good parties
+  from-first : (i p : ℕ) → i ≢ p → isGood s p ≡ true → firstFrom H s i p ≡ entry n i (wroteIn (step3 H s p))
+  unfolding firstFrom
+  from-first i p d g = rw (ne-eqb p i (λ e. d (sym e)), g)
+
+  from-second : (i p : ℕ) → i ≢ p → isGood s p ≡ true → secondFrom H s i p ≡ wroteIn (step4 H s p)
+  unfolding secondFrom
+  from-second i p d g = rw (ne-eqb p i (λ e. d (sym e)), g)
+
+  -- all that agreement supposes, but for the hash
+  pub premises : Clean H n t good → Premises H n t good z bit
+  unfolding opened
+  premises clean =
+      record {
+        opened = record {
+          bytes = each (λ A. Bytes (A .message)) (λ q l h g. message-bytes q);
+          accepted = each (λ A. opening H n t (A .own) (A .message) .cause ≡ 0)
+              (λ q l h g. ap (λ (o : Opened). o .cause) (opened-as q l h));
+          apart = apart H s n 1;
+          bad = omega (arith, bad-count H s, few-bad);
+        };
+        called = record {
+          step2 = each (λ A. (e : Event) × (step H n t good 2 A ≡ some e) × (e .call ≡ agreeRoot z))
+              (λ q l h g. (E2 q l h, second-is q l h, refl));
+          step3 = each (λ A. (e : Event) × (out : List ℕ) × (step H n t good 3 A ≡ some e) × (e .call ≡ agreeBit bit out))
+              (λ q l h g. (E3 q l h, room3 q l h, third-is q l h, refl));
+          step4 = λ b. each (λ A. (e : Event) × (step H n t good 4 A ≡ some e)) (λ q l h g. (E4 q l h, fourth-is q l h b));
+          step5 = λ b. each (λ A. (e : Event) × (step H n t good 5 A ≡ some e)) (λ q l h g. (E5 q l h, fifth-is q l h b));
+        };
+        ruled = record { root = root-rule; vote = vote-rule };
+        delivered = λ b. record {
+          firstInbox = each (λ A. Each H n t good (λ B. A .own ≢ B .own
+              → heard n (B .own) (step H n t good 4 A) ≡ packetTo n (A .own) (step H n t good 3 B)))
+              (λ i l h g. each (λ B. i ≢ B .own → heard n (B .own) (step H n t good 4 (goodParty H s i)) ≡ packetTo n i (step H n t good 3 B))
+              (λ q k j f d. heard-4 i l h b q k j ∙ from-first i q d f ∙ ap (entry n i) (sym (wrote-3 q k j))));
+          secondInbox = each (λ A. Each H n t good (λ B. A .own ≢ B .own
+              → heard n (B .own) (step H n t good 5 A) ≡ wrote (step H n t good 4 B)))
+              (λ i l h g. each (λ B. i ≢ B .own → heard n (B .own) (step H n t good 5 (goodParty H s i)) ≡ wrote (step H n t good 4 B))
+              (λ q k j f d. heard-5 i l h b q k j ∙ from-second i q d f ∙ sym (wrote-4 q k j b)));
+        };
+        clean = clean;
+      }
+
+  -- the figure after `sent` is the theorem's
+  pub sent-figure : sentFrom H s n 1 ≡ sent H n t good
+  sent-figure =
+      sym (sum-of H s (λ (A : Good). sentBy H n t (A .own) (A .message) (A .calls)) n 1 (λ q l h g. sent-is q l (omega arith)))
+
+  -- what a party's line gives is the one result
+  line-of : (R : Result) → Conclusions H n t good bit R → (p : ℕ) → 1 ≤ p → p ≤ n → isGood s p ≡ true → endsWith H s p ≡ R
+  unfolding endsWith
+  line-of R C p l h g =
+      either-bit p l h (cond (eqb bit 0) nothing (orNothing (step5 H s p .result)) ≡ R)
+      (λ b. rw (eq-eqb bit 0 b) (same-some (sym (ends-0 p l h b) ∙ C .holds (goodParty H s p) (member p l h g))))
+      (λ b. rw (ne-eqb bit 0 (λ q. omega arith))
+      (ap orNothing (sym (shows-5 p l h b) ∙ C .gives b (goodParty H s p) (member p l h g))))
+
+  -- and all lines give one result
+  pub record Lines (R : Result) : Type 0 where
+    pub agreed : Conclusions H n t good bit R
+    pub lines : (p : ℕ) → 1 ≤ p → p ≤ n → isGood s p ≡ true → endsWith H s p ≡ R
+    pub figure : sentFrom H s n 1 ≡ sent H n t good
+
+  pub one-result : Clean H n t good → (R : Result) × Lines R
+  one-result clean =
+      let a = agreement H wide n t good z bit (premises clean) in
+      (a .0, record { agreed = a .1; lines = λ p l h g. line-of (a .0) (a .1) p l h g; figure = sent-figure })
+
+-- at SHA-256
+pub one-result-sha256 : (s : List ℕ) (bytes : Bytes s) (ok : sessionCause sha256 s ≡ 0)
+    → Clean sha256 (nIn s) (tIn s) (goodParties sha256 s) → (R : Result) × Lines sha256 sha256-length s bytes ok R
+one-result-sha256 s bytes ok = one-result sha256 sha256-length s bytes ok

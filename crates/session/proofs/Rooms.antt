@@ -1,0 +1,114 @@
+-- The buffers of a rehearsal are long enough: no packet is over maxPacket, no outbox over maxOutbox. By the lengths of shares and paths.
+-- Assumes nothing.
+use mathlib.Core.Path.{_≡_, refl, sym, subst}
+use mathlib.Core.Bool.{Bool, true, false, cond, _&&_}
+use mathlib.Core.List.{List, [], _∷_}
+use Prim.Native.Nat.{ℕ, zero, suc, _+_, _-_, _*_, _≤_, _<_}
+use native.Mathlib.Nat.{mul-le-mul-right}
+use native.Mathlib.Omega.{arith}
+use lib.Dec.{eqb}
+use lib.ListN.{length, getD, replicate, length-append, length-replicate}
+use Rattle.limits.specs.Limits.{maxParties}
+use Rattle.buffer.specs.Splice.{tabulate}
+use Rattle.buffer.specs.Entries.{bodies}
+use Rattle.buffer.proofs.Tabulate.{length-tabulate, getD-tabulate}
+use Rattle.erasure.specs.Coding.{share}
+use Rattle.erasure.proofs.Frame.{length-share}
+use Rattle.merkle.proofs.Descend.{sides-fit}
+use Rattle.packet.specs.Format.{packetOf, entryOf}
+use Rattle.packet.specs.Inbox.{inboxOf}
+use Rattle.packet.proofs.Parts.{entry-length, packet-length}
+use Rattle.packet.proofs.Reading.{fields-of, read-wide}
+use Rattle.party.specs.State.{atBit, atFirst, happy}
+use Rattle.party.specs.Steps.{packetFor, outboxOf, Taken, missing, found, takenBy, packetTaken, ownRelay, relayOf}
+use Rattle.party.proofs.Tree.{Coded, share-fits, pathTo, path-count, path-each}
+use Rattle.party.proofs.Agreement.{packet-bit, packet-first}
+use Rattle.party.proofs.Checks.{took, passing}
+use Rattle.session.specs.Session.{maxPacket, maxOutbox}
+
+-- entries of at most K bytes each
+inbox-below : (K : ℕ) (ps : List (List ℕ)) → ((k : ℕ) → k < length ps → length (getD ps k []) ≤ K) → length (inboxOf ps) ≤ length ps * (2 + K)
+unfolding inboxOf
+inbox-below K [] h = omega arith
+inbox-below K (p ∷ ps) h =
+    omega (
+      arith,
+      length-append (entryOf p) (inboxOf ps),
+      entry-length p,
+      h 0 (omega arith),
+      inbox-below K ps (λ k l. h (suc k) (omega arith)),
+    )
+
+none-there : (n k : ℕ) → length (getD (replicate {A = List ℕ} n []) k []) ≡ 0
+none-there zero k = refl
+none-there (suc n) zero = refl
+none-there (suc n) (suc k) = none-there n k
+
+module _ (H : List ℕ → List ℕ) (wide : (s : List ℕ) → length (H s) ≡ 32) (n t i : ℕ) (m z : List ℕ) (c : Coded n t m) where
+  -- the packet with share j
+  made-short : (j : ℕ) (first : 1 ≤ j) (last : j ≤ n) → length (packetOf j (share (n - t) j m) (pathTo H wide n t m c j first last)) ≤ maxPacket
+  made-short j first last =
+      omega (
+        arith,
+        packet-length j (share (n - t) j m) (pathTo H wide n t m c j first last) (path-each H wide n t m c j first last),
+        length-share (n - t) j m,
+        share-fits n t m c,
+        path-count H wide n t m c j first last,
+        sides-fit n (j - 1) (c .high) (omega arith),
+      )
+
+  -- the outbox of step 3
+  pub outbox-fits : (bit : ℕ) → length (outboxOf H (atBit n t i m z) bit) ≤ maxOutbox
+  unfolding outboxOf atBit
+  outbox-fits bit = go (eqb bit 1 && happy H (atBit n t i m z))
+    where
+      f : ℕ → List ℕ
+      f k = cond (eqb (k + 1) i) [] (packetFor H (atBit n t i m z) (k + 1))
+
+      each : (k : ℕ) → k < n → (b : Bool) → length (cond b [] (packetFor H (atBit n t i m z) (k + 1))) ≤ maxPacket
+      each k l true = omega arith
+      each k l false =
+          subst (λ (w : List ℕ). length w ≤ maxPacket) (sym (packet-bit H n t i m z wide c (k + 1) (omega arith) (omega arith)))
+          (made-short (k + 1) (omega arith) (omega arith))
+
+      all : (ps : List (List ℕ)) → length ps ≡ n → ((k : ℕ) → k < n → length (getD ps k []) ≤ maxPacket) → length (inboxOf ps) ≤ maxOutbox
+      all ps e h =
+          let high : length ps ≤ maxParties = omega (arith, e, c .high) in
+          omega (
+            arith,
+            inbox-below maxPacket ps (λ k l. h k (omega (arith, e, l))),
+            mul-le-mul-right (2 + maxPacket) high,
+          )
+
+      go : (b : Bool) → length (inboxOf (cond b (tabulate n (λ k. cond (eqb (k + 1) i) [] (packetFor H (atBit n t i m z) (k + 1))))
+          (replicate n []))) ≤ maxOutbox
+      go true =
+          all (tabulate n f) (length-tabulate n f)
+          (λ k l. subst (λ (w : List ℕ). length w ≤ maxPacket) (sym (getD-tabulate n f k [] l)) (each k l (eqb (k + 1) i)))
+      go false = all (replicate n []) (length-replicate {A = List ℕ} n []) (λ k l. omega (arith, none-there n k))
+
+  -- the relay of step 4
+  pub relay-fits : 1 ≤ i → i ≤ n → (inbox : List ℕ) → length (relayOf H (atFirst n t i m z) inbox) ≤ maxPacket
+  unfolding relayOf atFirst
+  relay-fits first last inbox = go (happy H (atFirst n t i m z)) (takenBy H (atFirst n t i m z) inbox) refl
+    where
+      alone : (b : Bool) → length (cond b [] (packetFor H (atFirst n t i m z) i)) ≤ maxPacket
+      alone true = omega arith
+      alone false =
+          subst (λ (w : List ℕ). length w ≤ maxPacket) (sym (packet-first H n t i m z wide c i first last)) (made-short i first last)
+
+      go : (b : Bool) (k : Taken) → takenBy H (atFirst n t i m z) inbox ≡ k
+          → length (cond b (ownRelay H (atFirst n t i m z)) (packetTaken (atFirst n t i m z) (takenBy H (atFirst n t i m z) inbox))) ≤ maxPacket
+      go true k e = alone (eqb n 1)
+      go false missing e = rw e (omega arith)
+      go false (found y p) e =
+          let k = took H n i z 1 (bodies n inbox) y p e in
+          let q = passing H n i z (k .packet) y p (k .good) in
+          let f = fields-of n (k .packet) i y p (q .reads) in
+          rw e (omega (
+            arith,
+            packet-length i y p (read-wide n (k .packet) i y p (q .reads)),
+            f .most,
+            f .counted,
+            sides-fit n (i - 1) (c .high) (omega arith),
+          ))
