@@ -1,13 +1,17 @@
-//! A reference for the field, the coder, the hash, the tree, the packets and the party,
-//! written from the scope document and the public standards alone, against which the
+//! A reference for the field, the coder, the hash, the tree, the packets, the party and the
+//! rehearsal, written from the scope document and the public standards alone, against which the
 //! proved implementation is compared.
 
 pub mod coder;
 pub mod field;
 pub mod inbox;
+pub mod liars;
 pub mod packet;
 pub mod party;
+pub mod plans;
 pub mod random;
+pub mod rehearsal;
 pub mod sha256;
+pub mod tally;
 pub mod tree;
 pub mod writer;

@@ -26,6 +26,15 @@ impl Random {
         (0..length).map(|_| (self.word() >> 32) as u8).collect()
     }
 
+    /// Yes once in so many times.
+    pub fn once_in(&mut self, times: usize) -> bool {
+        self.below(times) == 0
+    }
+
+    pub fn pick<T: Copy>(&mut self, choices: &[T]) -> T {
+        choices[self.below(choices.len())]
+    }
+
     /// A set of `count` of the numbers below `n`, as a bit map.
     pub fn choice(&mut self, n: usize, count: usize) -> u32 {
         let mut map = 0u32;

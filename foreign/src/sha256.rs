@@ -93,8 +93,7 @@ fn take_block(words: &mut [u32; 8], block: &[u8]) {
     }
 }
 
-/// Lower-case hexadecimal, in which the tests compare digests.
-#[cfg(test)]
+/// Lower-case hexadecimal.
 pub fn hex(bytes: &[u8]) -> String {
     bytes.iter().map(|x| format!("{x:02x}")).collect()
 }

@@ -1,0 +1,562 @@
+//! The rehearsal: plays the good parties of a session against a plan of what the bad ones
+//! send, and tells how each good party ended and how many bytes they sent. A plan is read
+//! to its end, then judged, then played by the steps of party.rs.
+
+use crate::coder::{LONGEST_MESSAGE, MOST_PARTIES};
+use crate::inbox::{entries, lay_out};
+use crate::party::{Given, Outcome, Stage, State};
+use crate::sha256::{hex, Hash};
+
+pub const LONGEST_PLAN: usize = 60_000;
+
+/// The option that a root is given, and the option that a bit is.
+pub const ROOT_GIVEN: u8 = 1;
+pub const BIT_GIVEN: u8 = 2;
+
+const BAD_LAYOUT: u32 = 13;
+const AGAINST_THE_RULE: u32 = 14;
+
+/// More bytes than any step writes.
+const ROOM: usize = 20_000;
+
+/// What is sent in one exchange: for each sender a row, in it a packet for each receiver.
+/// No bytes stand where nothing is sent.
+type Exchange = Vec<Vec<Vec<u8>>>;
+
+/// A plan that is well laid out, with the good parties' numbers upward and their messages.
+struct Plan {
+    n: usize,
+    t: usize,
+    root: Option<Hash>,
+    bit: Option<u8>,
+    good: Vec<usize>,
+    messages: Vec<Vec<u8>>,
+    first: Exchange,
+    second: Exchange,
+}
+
+/// How the good parties ended, with their numbers, and the bytes they sent.
+struct Ending {
+    results: Vec<(usize, Option<Vec<u8>>)>,
+    sent: usize,
+}
+
+/// What the rehearsal prints for a plan.
+pub fn rehearse(plan: &[u8]) -> Vec<u8> {
+    match judged(plan).and_then(played) {
+        Ok(ending) => told(&ending),
+        Err(cause) => format!("refused {cause}\n"),
+    }
+    .into_bytes()
+}
+
+fn told(ending: &Ending) -> String {
+    let mut text = String::new();
+    for (number, result) in &ending.results {
+        text += &match result {
+            None => format!("{number} -\n"),
+            Some(message) if message.is_empty() => format!("{number} =\n"),
+            Some(message) => format!("{number} = {}\n", hex(message)),
+        };
+    }
+    text + &format!("sent {}\n", ending.sent)
+}
+
+/// The plan, or the first cause in the order 13 for under two bytes, 1, 2, 13, 4, 14. What
+/// the rule of the short agreement says of root and bit is left to the play.
+fn judged(bytes: &[u8]) -> Result<Plan, u32> {
+    let &[n, t, ref behind @ ..] = bytes else {
+        return Err(BAD_LAYOUT);
+    };
+    let (n, t) = (usize::from(n), usize::from(t));
+    if !(1..=MOST_PARTIES).contains(&n) {
+        return Err(1);
+    }
+    if 2 * t >= n {
+        return Err(2);
+    }
+    if bytes.len() > LONGEST_PLAN {
+        return Err(BAD_LAYOUT);
+    }
+    let plan = read(n, t, behind).ok_or(BAD_LAYOUT)?;
+    if plan.messages.iter().any(|it| it.len() > LONGEST_MESSAGE) {
+        return Err(4);
+    }
+    if n - plan.good.len() > t || plan.bit.is_some_and(|bit| bit > 1) {
+        return Err(AGAINST_THE_RULE);
+    }
+    Ok(plan)
+}
+
+/// The plan whose bytes behind n and t these are; none if it is badly laid out.
+fn read(n: usize, t: usize, bytes: &[u8]) -> Option<Plan> {
+    let mut rest = Rest(bytes);
+    let options = rest.one()?;
+    if options & !(ROOT_GIVEN | BIT_GIVEN) != 0 {
+        return None;
+    }
+    let root = match options & ROOT_GIVEN {
+        0 => None,
+        _ => Some(rest.root()?),
+    };
+    let bit = match options & BIT_GIVEN {
+        0 => None,
+        _ => Some(rest.one()?),
+    };
+    let good = rest.parties()?;
+    if good.iter().any(|&party| party > n) {
+        return None;
+    }
+    let messages = good.iter().map(|_| rest.counted());
+    let messages = messages.collect::<Option<_>>()?;
+    let first = rest.exchange(n, &good)?;
+    let second = rest.exchange(n, &good)?;
+    rest.0.is_empty().then_some(Plan {
+        n,
+        t,
+        root,
+        bit,
+        good,
+        messages,
+        first,
+        second,
+    })
+}
+
+/// The bytes that are not read yet; reading gives none where they run short.
+struct Rest<'a>(&'a [u8]);
+
+impl<'a> Rest<'a> {
+    fn take(&mut self, length: usize) -> Option<&'a [u8]> {
+        let (taken, behind) = self.0.split_at_checked(length)?;
+        self.0 = behind;
+        Some(taken)
+    }
+
+    fn one(&mut self) -> Option<u8> {
+        Some(self.take(1)?[0])
+    }
+
+    fn two(&mut self) -> Option<u16> {
+        let bytes = self.take(2)?;
+        Some(u16::from_be_bytes([bytes[0], bytes[1]]))
+    }
+
+    fn root(&mut self) -> Option<Hash> {
+        self.take(32)?.try_into().ok()
+    }
+
+    /// A length in two bytes, and as many bytes.
+    fn counted(&mut self) -> Option<Vec<u8>> {
+        let length = self.two()?;
+        Some(self.take(length.into())?.to_vec())
+    }
+
+    /// The numbers in a map, upward.
+    fn parties(&mut self) -> Option<Vec<usize>> {
+        let map = self.two()?;
+        Some((1..=16).filter(|p| map >> (p - 1) & 1 == 1).collect())
+    }
+
+    /// What the bad parties send in one exchange; the rows of the good ones stay empty. Only
+    /// good parties are receivers.
+    fn exchange(&mut self, n: usize, good: &[usize]) -> Option<Exchange> {
+        let mut exchange = vec![vec![Vec::new(); n]; n];
+        for sender in (1..=n).filter(|party| !good.contains(party)) {
+            for receiver in self.parties()? {
+                if !good.contains(&receiver) {
+                    return None;
+                }
+                exchange[sender - 1][receiver - 1] = self.counted()?;
+            }
+        }
+        Some(exchange)
+    }
+}
+
+/// The value of a short agreement: the one given, or else the lowest party's. Where all put
+/// in the same it can be no other.
+fn agreed<T: Copy + PartialEq>(given: Option<T>, put_in: &[T]) -> Result<T, u32> {
+    let value = given.unwrap_or(put_in[0]);
+    let common = put_in.iter().all(|it| *it == put_in[0]);
+    match common && value != put_in[0] {
+        true => Err(AGAINST_THE_RULE),
+        false => Ok(value),
+    }
+}
+
+/// Plays the good parties. There is at least one, since fewer than n parties are bad.
+fn played(plan: Plan) -> Result<Ending, u32> {
+    let (n, good) = (plan.n, &plan.good);
+    let (states, roots) = opened(&plan);
+    let root = agreed(plan.root, &roots)?;
+    let (states, bits) = each(states, |state| state.agree_root(&root));
+    let bits: Vec<u8> = bits.into_iter().map(u8::from).collect();
+    let bit = agreed(plan.bit, &bits)?;
+    let (mut states, outboxes) = each(states, |state| written(|out| state.agree_bit(bit, out)));
+    let mut first = plan.first;
+    for (own, outbox) in good.iter().zip(&outboxes) {
+        let packets = entries(n, outbox).expect("an outbox is laid out like an inbox");
+        first[own - 1] = packets.into_iter().map(<[u8]>::to_vec).collect();
+    }
+    let mut second = plan.second;
+    if bit == 1 {
+        states = exchanged(states, good, &first, &mut second);
+    }
+    Ok(Ending {
+        sent: bytes_sent(&first, good) + bytes_sent(&second, good),
+        results: good
+            .iter()
+            .copied()
+            .zip(states.iter().map(result))
+            .collect(),
+    })
+}
+
+fn opened(plan: &Plan) -> (Vec<State>, Vec<Hash>) {
+    let books = plan.good.iter().zip(&plan.messages).collect();
+    each(books, |(&own, message)| {
+        State::open(plan.n as u64, plan.t as u64, own as u64, message)
+    })
+}
+
+/// Steps 4 and 5: takes the first inboxes, puts the relays into the second exchange, and
+/// takes the second inboxes.
+fn exchanged(
+    states: Vec<State>,
+    good: &[usize],
+    first: &Exchange,
+    second: &mut Exchange,
+) -> Vec<State> {
+    let places = states.into_iter().zip(good).collect();
+    let (states, relays) = each(places, |(state, &own)| {
+        written(|out| state.take_shares(&inbox(first, own), out))
+    });
+    for (&own, relay) in good.iter().zip(relays) {
+        second[own - 1] = to_all_others(second.len(), own, &relay);
+    }
+    let places = states.into_iter().zip(good).collect();
+    let (states, _) = each(places, |(state, &own)| {
+        state.take_relays(&inbox(second, own), &mut [0; LONGEST_MESSAGE])
+    });
+    states
+}
+
+/// Does one step of each party, none of which is refused.
+fn each<S, T>(parties: Vec<S>, step: impl Fn(S) -> Given<T>) -> (Vec<State>, Vec<T>) {
+    let given = parties.into_iter().map(step);
+    given
+        .map(|(state, answer)| (state, answer.expect("a step in turn, well called")))
+        .unzip()
+}
+
+/// The step with what it wrote as its answer.
+fn written(step: impl FnOnce(&mut [u8]) -> Given<usize>) -> Given<Vec<u8>> {
+    let mut out = vec![0; ROOM];
+    let (state, answer) = step(&mut out);
+    (state, answer.map(|length| out[..length].to_vec()))
+}
+
+/// What the receiver gets, sender by sender; the own row has no bytes for itself.
+fn inbox(exchange: &Exchange, receiver: usize) -> Vec<u8> {
+    let packets = exchange.iter().map(|row| &row[receiver - 1]);
+    lay_out(&packets.collect::<Vec<_>>())
+}
+
+/// A sender's row in the second exchange.
+fn to_all_others(n: usize, own: usize, relay: &[u8]) -> Vec<Vec<u8>> {
+    let packet = |receiver| match receiver == own {
+        true => Vec::new(),
+        false => relay.to_vec(),
+    };
+    (1..=n).map(packet).collect()
+}
+
+/// The packets' bytes in the rows of the good parties.
+fn bytes_sent(exchange: &Exchange, good: &[usize]) -> usize {
+    let rows = good.iter().map(|own| &exchange[own - 1]);
+    rows.flatten().map(Vec::len).sum()
+}
+
+/// What an ended state holds.
+fn result(state: &State) -> Option<Vec<u8>> {
+    match state.stage {
+        Stage::Ended(Outcome::Nothing) => None,
+        Stage::Ended(Outcome::Message(length)) => Some(state.message[..length as usize].to_vec()),
+        other => panic!("at the end {other:?}"),
+    }
+}
+
+#[cfg(test)]
+mod tests {
+    use super::*;
+
+    /// No packet from one bad party, in either exchange.
+    const SILENT: &[u8] = &[0, 0, 0, 0];
+
+    fn printed(plan: &[u8]) -> String {
+        String::from_utf8(rehearse(plan)).expect("a text")
+    }
+
+    /// The cause that the plan is refused for, 0 if it is not.
+    fn cause(plan: &[u8]) -> u32 {
+        let text = printed(plan);
+        let number = text.strip_prefix("refused ");
+        number.map_or(0, |it| it.trim_end().parse().expect("a cause"))
+    }
+
+    /// A plan: n, t and options in `head`, the good map, the messages, what the bad ones send.
+    fn plan(head: &[u8], good: u16, messages: &[&[u8]], behind: &[u8]) -> Vec<u8> {
+        let messages = lay_out(messages);
+        [head, &good.to_be_bytes(), &messages, behind].concat()
+    }
+
+    /// Parties 1 and 2 of three are good and have these messages; party 3 is bad and silent.
+    fn of_three(options: &[u8], messages: [&[u8]; 2]) -> Vec<u8> {
+        plan(&[&[3, 1], options].concat(), 3, &messages, SILENT)
+    }
+
+    fn root_of(own: u64, message: &[u8]) -> Hash {
+        State::open(3, 1, own, message).1.expect("opened")
+    }
+
+    #[test]
+    fn worked_plans() {
+        let worked: [(&[u8], &[u8]); 3] = [
+            (
+                include_bytes!("../../plans/worked-1.plan"),
+                include_bytes!("../../plans/worked-1.out"),
+            ),
+            (
+                include_bytes!("../../plans/worked-2.plan"),
+                include_bytes!("../../plans/worked-2.out"),
+            ),
+            (
+                include_bytes!("../../plans/worked-3.plan"),
+                include_bytes!("../../plans/worked-3.out"),
+            ),
+        ];
+        for (plan, output) in worked {
+            assert_eq!(rehearse(plan), output);
+        }
+        let hex_plan = [
+            3, 1, 0, 0, 3, 0, 2, 0x41, 0x42, 0, 2, 0x41, 0x42, 0, 0, 0, 0,
+        ];
+        assert_eq!(printed(&hex_plan), "1 = 4142\n2 = 4142\nsent 496\n");
+        let two = of_three(&[0], [b"A", b"B"]);
+        assert_eq!(printed(&two), "1 = 41\n2 = 41\nsent 388\n");
+        let zero = of_three(&[2, 0], [b"A", b"B"]);
+        assert_eq!(printed(&zero), "1 -\n2 -\nsent 0\n");
+    }
+
+    #[test]
+    fn one_party() {
+        let alone =
+            |options: &[u8], message| plan(&[&[1, 0], options].concat(), 1, &[message], &[]);
+        assert_eq!(printed(&alone(&[0], b"AB")), "1 = 4142\nsent 0\n");
+        assert_eq!(printed(&alone(&[0], b"")), "1 =\nsent 0\n");
+        assert_eq!(printed(&alone(&[2, 1], &[0x0F])), "1 = 0f\nsent 0\n");
+        assert_eq!(cause(&alone(&[2, 0], b"AB")), 14);
+    }
+
+    #[test]
+    fn given_root_and_bit() {
+        let (a, b) = (root_of(1, b"A"), root_of(2, b"B"));
+        let given = |root: Hash, bit: &[u8], messages| {
+            let option = 1 + 2 * bit.len() as u8;
+            printed(&of_three(&[&[option], &root[..], bit].concat(), messages))
+        };
+        let unequal: [&[u8]; 2] = [b"A", b"B"];
+        let equal: [&[u8]; 2] = [b"A", b"A"];
+        let nothing = "1 -\n2 -\nsent 0\n";
+        assert_eq!(given(a, &[], unequal), "1 = 41\n2 = 41\nsent 388\n");
+        // The lowest party is unhappy with the other's root, so that its bit is 0.
+        assert_eq!(given(b, &[], unequal), nothing);
+        assert_eq!(given(b, &[1], unequal), "1 = 42\n2 = 42\nsent 388\n");
+        assert_eq!(given(b, &[0], unequal), nothing);
+        assert_eq!(given([9; 32], &[], unequal), nothing);
+        assert_eq!(given([9; 32], &[0], unequal), nothing);
+        assert_eq!(given([9; 32], &[1], unequal), "refused 14\n");
+        assert_eq!(given(a, &[1], equal), "1 = 41\n2 = 41\nsent 496\n");
+        assert_eq!(given(a, &[0], equal), "refused 14\n");
+        assert_eq!(given(b, &[], equal), "refused 14\n");
+        assert_eq!(given(b, &[0], equal), "refused 14\n");
+        assert_eq!(given(a, &[2], unequal), "refused 14\n");
+    }
+
+    /// Party 1 is bad; the others are not of one mind.
+    #[test]
+    fn lies_change_nothing() {
+        let noise = [&[0, 6, 0, 3, 7, 2, 9][..], &[0, 1, 0]].concat();
+        let quiet = plan(&[3, 1, 0], 6, &[b"A", b"B"], SILENT);
+        let noisy = plan(&[3, 1, 0], 6, &[b"A", b"B"], &[&noise[..], &noise].concat());
+        let unread = plan(
+            &[3, 1, 2, 0],
+            6,
+            &[b"A", b"B"],
+            &[&noise[..], &noise].concat(),
+        );
+        let output = printed(&quiet);
+        assert!(output.starts_with("2 = 41\n3 = 41\nsent "));
+        assert_eq!(printed(&noisy), output);
+        assert_eq!(printed(&unread), "2 -\n3 -\nsent 0\n");
+    }
+
+    #[test]
+    fn under_two_bytes() {
+        assert_eq!(cause(&[]), 13);
+        for n in [0, 1, 3, 16, 17, 255] {
+            assert_eq!(cause(&[n]), 13);
+        }
+    }
+
+    /// Plans with causes 1 and 2, whatever follows.
+    #[test]
+    fn parties_before_all_else() {
+        let long = vec![0; LONGEST_MESSAGE + 1];
+        let behind: [Vec<u8>; 6] = [
+            vec![],
+            vec![4],
+            vec![0; LONGEST_PLAN - 2],
+            vec![0; LONGEST_PLAN - 1],
+            plan(&[0], 3, &[&long, b"A"], SILENT),
+            plan(&[2, 2], 1, &[b"A"], &[SILENT, SILENT].concat()),
+        ];
+        for behind in behind {
+            let under = |n: u8, t: u8| cause(&[&[n, t], &behind[..]].concat());
+            for (n, t) in [(0, 0), (17, 0), (17, 255), (255, 1), (128, 128)] {
+                assert_eq!(under(n, t), 1);
+            }
+            for (n, t) in [(1, 1), (2, 1), (3, 2), (16, 8), (16, 128), (3, 255)] {
+                assert_eq!(under(n, t), 2);
+            }
+        }
+    }
+
+    #[test]
+    fn bad_layout() {
+        let sound = of_three(&[0], [b"AB", b"AB"]);
+        assert_eq!(cause(&sound), 0);
+        for length in 2..sound.len() {
+            assert_eq!(cause(&sound[..length]), 13, "{length} bytes");
+        }
+        for more in [&[0][..], &[1], &[0, 0], SILENT] {
+            assert_eq!(cause(&[&sound, more].concat()), 13);
+        }
+        for option in 2..8 {
+            assert_eq!(cause(&of_three(&[1 << option], [b"AB", b"AB"])), 13);
+        }
+        for beyond in 3..16 {
+            let more: &[&[u8]] = &[b"AB", b"AB", b""];
+            assert_eq!(cause(&plan(&[3, 1, 0], 3 | 1 << beyond, more, SILENT)), 13);
+            let as_many = &more[..2];
+            assert_eq!(
+                cause(&plan(&[3, 1, 0], 3 | 1 << beyond, as_many, SILENT)),
+                13
+            );
+        }
+    }
+
+    /// Parties 1 and 2 of five are bad; a receiver is good, or the plan is badly laid out.
+    #[test]
+    fn receivers_are_good() {
+        for bit in [0, 1] {
+            for place in 0..4 {
+                for receiver in 0..16 {
+                    let mut blocks = [(); 4].map(|()| vec![0, 0]);
+                    blocks[place] = (1u16 << receiver).to_be_bytes().to_vec();
+                    let map_alone = blocks.concat();
+                    blocks[place].extend([0, 1, 9]);
+                    let with_packet = blocks.concat();
+                    let messages: [&[u8]; 3] = [b"A", b"B", b"A"];
+                    let cause =
+                        |blocks: &[u8]| cause(&plan(&[5, 2, 2, bit], 0x1C, &messages, blocks));
+                    let good = (2..5).contains(&receiver);
+                    assert_eq!(cause(&with_packet), if good { 0 } else { 13 });
+                    assert_eq!(cause(&map_alone), 13);
+                }
+            }
+        }
+    }
+
+    #[test]
+    fn longest_plans() {
+        let of_length = |length: usize, options: &[u8], message: &[u8]| {
+            let rest = of_three(options, [message, b"A"]).len() + 2;
+            let packet = vec![7; length - rest];
+            let block = [&[0, 1], &lay_out(&[packet])[..], &[0, 0]].concat();
+            let head = [&[3, 1], options].concat();
+            let plan = plan(&head, 3, &[message, b"A"], &block);
+            assert_eq!(plan.len(), length);
+            cause(&plan)
+        };
+        let long = vec![0; LONGEST_MESSAGE + 1];
+        assert_eq!(of_length(LONGEST_PLAN, &[0], b"B"), 0);
+        assert_eq!(of_length(LONGEST_PLAN, &[0], &long), 4);
+        assert_eq!(of_length(LONGEST_PLAN, &[2, 2], b"B"), 14);
+        assert_eq!(of_length(LONGEST_PLAN + 1, &[0], b"B"), 13);
+        assert_eq!(of_length(LONGEST_PLAN + 1, &[0], &long), 13);
+        assert_eq!(of_length(LONGEST_PLAN + 1, &[2, 2], b"B"), 13);
+        assert_eq!(of_length(LONGEST_PLAN + 5_000, &[0], b"B"), 13);
+    }
+
+    #[test]
+    fn long_messages() {
+        let longest = vec![7; LONGEST_MESSAGE];
+        let long = vec![7; LONGEST_MESSAGE + 1];
+        let longer = vec![7; 25_000];
+        assert_eq!(cause(&of_three(&[0], [b"A", &longest])), 0);
+        for long in [&long, &longer] {
+            let refused = of_three(&[0], [b"A", long]);
+            assert_eq!(cause(&refused), 4);
+            // The layout is read to its end before the length is judged.
+            assert_eq!(cause(&refused[..refused.len() - 1]), 13);
+            assert_eq!(cause(&[&refused[..], &[0]].concat()), 13);
+            assert_eq!(cause(&of_three(&[4], [b"A", long])), 13);
+            assert_eq!(
+                cause(&plan(&[3, 1, 0], 3, &[b"A", long], &[0, 4, 0, 0])),
+                13
+            );
+            // And it is judged before cause 14.
+            assert_eq!(cause(&of_three(&[2, 2], [b"A", long])), 4);
+            assert_eq!(cause(&of_three(&[2, 0], [long, long])), 4);
+            let root = [&[1], &[9; 32][..]].concat();
+            assert_eq!(cause(&of_three(&root, [long, long])), 4);
+            let silent = [SILENT, SILENT].concat();
+            assert_eq!(cause(&plan(&[3, 1, 0], 1, &[long], &silent)), 4);
+        }
+        // A length that the plan does not have.
+        let lengths = [3, 1, 0, 0, 3, 0xFF, 0xFF, 0x41, 0, 1, 0x42, 0, 0, 0, 0];
+        assert_eq!(cause(&lengths), 13);
+    }
+
+    #[test]
+    fn too_many_bad_parties() {
+        let silent = [SILENT, SILENT].concat();
+        assert_eq!(cause(&plan(&[3, 1, 0], 1, &[b"A"], &silent)), 14);
+        assert_eq!(cause(&plan(&[3, 0, 0], 3, &[b"A", b"A"], SILENT)), 14);
+        assert_eq!(cause(&plan(&[3, 1, 0], 1, &[b"A"], &silent[1..])), 13);
+        assert_eq!(cause(&plan(&[3, 1, 0], 1, &[b"A"], SILENT)), 13);
+    }
+
+    #[test]
+    fn no_good_party() {
+        for n in 1..=16 {
+            let t = (n - 1) / 2;
+            let silent = SILENT.repeat(n.into());
+            assert_eq!(cause(&plan(&[n, t, 0], 0, &[], &silent)), 14);
+            assert_eq!(cause(&plan(&[n, t, 2, 1], 0, &[], &silent)), 14);
+            assert_eq!(cause(&plan(&[n, t, 0], 0, &[], &silent[1..])), 13);
+            assert_eq!(cause(&[n, t, 0, 0, 0]), 13);
+        }
+    }
+
+    #[test]
+    fn bad_layout_before_cause_14() {
+        let refused = of_three(&[2, 2], [b"A", b"B"]);
+        assert_eq!(cause(&refused), 14);
+        assert_eq!(cause(&[&refused[..], &[0]].concat()), 13);
+        assert_eq!(cause(&refused[..refused.len() - 1]), 13);
+        assert_eq!(cause(&of_three(&[6, 2], [b"A", b"B"])), 13);
+    }
+}
