@@ -121,6 +121,17 @@ pub struct Way {
     pub demanded: usize,
 }
 
+impl Way {
+    /// From sender to receiver in exchange 0, the first, or 1, the second.
+    pub fn new(exchange: usize, sender: usize, receiver: usize) -> Way {
+        Way {
+            sender,
+            receiver,
+            demanded: [receiver, sender][exchange],
+        }
+    }
+}
+
 /// The shares that the session is about, and those of another message. There are at least
 /// two parties, or nobody would send.
 pub struct Scene {
@@ -284,12 +295,8 @@ mod tests {
             let scene = Scene { agreed, other };
             for lie in Lie::SMALL.into_iter().chain([Lie::Huge]) {
                 for (sender, receiver) in [(1, 2), (2, 1), (n, 1), (1, n)] {
-                    for demanded in [sender, receiver] {
-                        let way = Way {
-                            sender,
-                            receiver,
-                            demanded,
-                        };
+                    for exchange in [0, 1] {
+                        let way = Way::new(exchange, sender, receiver);
                         let taken = taken(&scene, lie, way, &mut random);
                         assert_eq!(taken, lie == Lie::Honest, "{lie:?}, n {n}");
                     }

@@ -366,41 +366,35 @@ impl Manner {
     }
 }
 
+/// The bytes that may still be spent on packets, and how often one is offered.
+struct Purse {
+    left: usize,
+    chance: usize,
+    of: usize,
+}
+
+impl Purse {
+    fn offers(&self, random: &mut Random) -> bool {
+        random.below(self.of) < self.chance
+    }
+
+    /// Whether the packet could be paid for, with its length.
+    fn pays(&mut self, packet: &[u8]) -> bool {
+        let left = self.left.checked_sub(2 + packet.len());
+        self.left = left.unwrap_or(self.left);
+        left.is_some()
+    }
+}
+
 /// What the bad parties send.
 impl Draft {
     fn lie(&mut self, scene: &Scene, size: Size, random: &mut Random) {
-        let most = match size {
-            Size::Small => 1_950,
-            _ => 50_000,
-        };
         let manners: Vec<Manner> = self.bad.iter().map(|_| Manner::some(random)).collect();
-        let maps = 4 * self.bad.len();
-        let mut budget = most - (self.bytes().len() + maps).min(most);
-        let ways = 2 * self.bad.len() * self.good.len();
-        let typical = 6 + scene.agreed.packet(1).len();
-        // Everybody gets something if that fits; else so many that about the budget is spent.
-        let (chance, of) = (budget.min(ways * typical), (ways * typical).max(1));
+        let mut purse = self.purse(scene, size);
         for exchange in 0..2 {
-            for (&sender, &manner) in self.bad.clone().iter().zip(&manners) {
-                let mut block = Block::default();
-                for (place, &receiver) in self.good.clone().iter().enumerate() {
-                    let way = Way {
-                        sender,
-                        receiver,
-                        demanded: [receiver, sender][exchange],
-                    };
-                    let lie = match random.below(of) < chance {
-                        true => manner.lie(place, random),
-                        false => Lie::Unnamed,
-                    };
-                    self.put(
-                        scene.told(lie, way, random),
-                        lie,
-                        way,
-                        &mut block,
-                        &mut budget,
-                    );
-                }
+            for (place, &manner) in manners.iter().enumerate() {
+                let sender = self.bad[place];
+                let block = self.block(scene, (exchange, sender), manner, &mut purse, random);
                 self.exchanges[exchange].push(block);
             }
         }
@@ -409,24 +403,48 @@ impl Draft {
         }
     }
 
-    /// Puts the packet into the block while the budget lasts.
-    fn put(
+    /// Everybody gets something if that fits; else so many that about all is spent.
+    fn purse(&self, scene: &Scene, size: Size) -> Purse {
+        let most: usize = match size {
+            Size::Small => 1_950,
+            _ => 50_000,
+        };
+        let maps = 4 * self.bad.len();
+        let left = most.saturating_sub(self.bytes().len() + maps);
+        let packets = 2 * self.bad.len() * self.good.len();
+        let all = packets * (6 + scene.agreed.packet(1).len());
+        Purse {
+            left,
+            chance: left.min(all),
+            of: all.max(1),
+        }
+    }
+
+    /// What one bad party sends in one exchange.
+    fn block(
         &mut self,
-        packet: Option<Vec<u8>>,
-        lie: Lie,
-        way: Way,
-        block: &mut Block,
-        budget: &mut usize,
-    ) {
-        let cost = packet.as_ref().map_or(0, |packet| 2 + packet.len());
-        if cost > *budget {
-            return;
+        scene: &Scene,
+        (exchange, sender): (usize, usize),
+        manner: Manner,
+        purse: &mut Purse,
+        random: &mut Random,
+    ) -> Block {
+        let mut block = Block::default();
+        for (place, &receiver) in self.good.iter().enumerate() {
+            let way = Way::new(exchange, sender, receiver);
+            let lie = match purse.offers(random) {
+                true => manner.lie(place, random),
+                false => Lie::Unnamed,
+            };
+            let packet = scene.told(lie, way, random);
+            let Some(packet) = packet.filter(|packet| purse.pays(packet)) else {
+                self.lies.insert(Lie::Unnamed);
+                continue;
+            };
+            self.lies.insert(lie);
+            block.packets.insert(receiver, packet);
         }
-        *budget -= cost;
-        self.lies.insert(lie);
-        if let Some(packet) = packet {
-            block.packets.insert(way.receiver, packet);
-        }
+        block
     }
 
     /// Makes one packet huge, if somebody is there to send and to receive.
@@ -437,16 +455,11 @@ impl Draft {
         let (place, exchange) = (random.below(self.bad.len()), random.below(2));
         let good: Vec<usize> = self.good.iter().copied().collect();
         let (sender, receiver) = (self.bad[place], random.pick(&good));
-        let way = Way {
-            sender,
-            receiver,
-            demanded: [receiver, sender][exchange],
-        };
+        let way = Way::new(exchange, sender, receiver);
         let packet = scene.told(Lie::Huge, way, random).expect("a packet");
         self.lies.insert(Lie::Huge);
-        self.exchanges[exchange][place]
-            .packets
-            .insert(receiver, packet);
+        let block = &mut self.exchanges[exchange][place];
+        block.packets.insert(receiver, packet);
     }
 
     /// Lengthens the packets for the lowest good party until the plan has `total` bytes, if
