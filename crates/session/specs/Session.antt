@@ -20,7 +20,7 @@ use Rattle.party.specs.Agreement.{Good}
 use Rattle.party.specs.declared.Opened.{Opened}
 use Rattle.plan.specs.Layout.{names, under, packetFrom, unnamed, lowest, nIn, tIn, hasRoot, hasBit, rootIn, bitIn, goodIn, booksIn, firstIn, secondIn}
 use Rattle.plan.specs.Plan.{planCause}
-use Rattle.session.specs.Output.{line, sentLine}
+use Rattle.report.specs.Output.{line, sentLine}
 
 -- room for any packet, and for any outbox
 abbrev pub maxPacket : ℕ

@@ -1,9 +1,13 @@
 -- The output of a rehearsal, in bytes: a line for each good party and one for what they sent, each with a newline at its end.
 -- Assumes nothing.
-use mathlib.Core.Bool.{cond}
+use mathlib.Core.Bool.{Bool, cond}
 use mathlib.Core.List.{List, [], _∷_, _++_}
 use Prim.Native.Nat.{ℕ, zero, suc, _+_, _-_, _/_, _%_}
 use lib.Dec.{ltb}
+use lib.ListN.{length}
+use Rattle.limits.specs.Limits.{maxMessage}
+use Rattle.buffer.specs.Given.{Given, gave, written}
+use Rattle.buffer.specs.declared.Written.the-variants.{Refused}
 use Rattle.party.specs.State.{Result, nothing, settled}
 
 abbrev pub space : ℕ
@@ -40,3 +44,11 @@ line p r = decimal p ++ (space ∷ (shown r ++ (newline ∷ [])))
 -- `sent` and the bytes
 unfoldable pub sentLine : ℕ → List ℕ
 sentLine x = 0x73 ∷ 0x65 ∷ 0x6E ∷ 0x74 ∷ space ∷ (decimal x ++ (newline ∷ []))
+
+-- a line in a lent buffer, of a result told by whether there is a message: cause 4 for a message over its limit, then 9
+unfoldable pub lineOf : ℕ → Bool → List ℕ → List ℕ → Given
+lineOf p some m out =
+    cond (ltb maxMessage (length m)) (gave (Refused 4) out) (written (line p (cond some (settled m) nothing)) out)
+
+unfoldable pub sentLineOf : ℕ → List ℕ → Given
+sentLineOf x out = written (sentLine x) out
