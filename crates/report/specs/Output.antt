@@ -38,6 +38,10 @@ shown nothing = 0x2D ∷ []
 shown (settled []) = 0x3D ∷ []
 shown (settled (x ∷ xs)) = 0x3D ∷ space ∷ hex (x ∷ xs)
 
+-- what follows the number
+abbrev pub ending : Bool → List ℕ → List ℕ
+ending some m = space ∷ (shown (cond some (settled m) nothing) ++ (newline ∷ []))
+
 unfoldable pub line : ℕ → Result → List ℕ
 line p r = decimal p ++ (space ∷ (shown r ++ (newline ∷ [])))
 

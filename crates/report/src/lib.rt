@@ -1,12 +1,12 @@
 // What a rehearsal prints: a line for each good party, and one for what they sent.
 ghost use mathlib.Core.Path.{_≡_};
 ghost use mathlib.Core.List.{_++_};
-ghost use Prim.Native.Nat.{_+_, _*_, _≤_};
+ghost use Prim.Native.Nat.{_+_, _*_, _≤_, _<_};
 ghost use lib.ListN.{length, take, drop};
 ghost use Rattle.limits.specs.Limits.{maxMessage};
 ghost use Rattle.buffer.specs.Splice.{spliced};
 ghost use Rattle.buffer.specs.Given.{gave};
-ghost use Rattle.report.specs.Output.{decimal, hexDigit, hex, lineOf, sentLineOf};
+ghost use Rattle.report.specs.Output.{decimal, hexDigit, hex, ending, lineOf, sentLineOf};
 use buffer::Written;
 use limits::MAX_MESSAGE;
 
@@ -32,7 +32,7 @@ pub fn line(number: usize, some: bool, message: &[u8], out: &mut [u8]) -> Writte
     let mut text = [0u8; MAX_LINE];
     let at = put_decimal(number, &mut text, 0);
     let end = put_result(some, message, &mut text, at);
-    give(&text[..end], out)
+    buffer::give(&text[..end], out)
 }
 
 // The last line in a lent buffer: the bytes sent.
@@ -41,7 +41,78 @@ pub fn sent_line(bytes: usize, out: &mut [u8]) -> Written
 {
     let mut text = [0u8; MAX_LINE];
     buffer::put(&mut text, 0, &[0x73, 0x65, 0x6E, 0x74, 0x20]);
-    let end = put_decimal(bytes, &mut text, 5);
-    buffer::put(&mut text, end, &[0x0A]);
-    give(&text[..end + 1], out)
+    let at = put_decimal(bytes, &mut text, 5);
+    buffer::put(&mut text, at, &[0x0A]);
+    let end = at + 1;
+    buffer::give(&text[..end], out)
+}
+
+// A number in decimal at a place; the place behind it.
+fn put_decimal(x: usize, text: &mut [u8], at: usize) -> usize
+    requires { ⌜ at + 20 ≤ length (now text) ⌝ }
+    ensures { λ r. ⌜ (r ≡ at + length (decimal x)) × (length (decimal x) ≤ 20) × (now (text .exit) ≡ spliced (now (text .entry)) at (decimal x)) ⌝ }
+{
+    let Digits { bytes, from } = digits_of(x);
+    buffer::put(text, at, &bytes[from..]);
+    at + (MAX_DIGITS - from)
+}
+
+// The digits of a number, the last at the end of the array.
+fn digits_of(x: usize) -> Digits
+    ensures { λ r. ⌜ (r .from ≤ 20) × (drop (r .from) (r .bytes) ≡ decimal x) ⌝ }
+{
+    let mut bytes = [0u8; MAX_DIGITS];
+    let mut from: usize = MAX_DIGITS - 1;
+    let mut left: usize = x;
+    while 9 < left {
+        bytes[from] = 0x30 + (left % 10) as u8;
+        from -= 1;
+        left = left / 10;
+    }
+    bytes[from] = 0x30 + left as u8;
+    Digits { bytes, from }
+}
+
+// A space, the sign, the message if there is one, and a newline, from a place on; the place behind them.
+fn put_result(some: bool, message: &[u8], text: &mut [u8], at: usize) -> usize
+    requires { ⌜ (length (now message) ≤ maxMessage) × (at + 4 + 2 * length (now message) ≤ length (now text)) ⌝ }
+    ensures { λ r. ⌜ (r ≡ at + length (ending some (now (message .entry)))) × (now (text .exit) ≡ spliced (now (text .entry)) at (ending some (now (message .entry)))) ⌝ }
+{
+    if !some {
+        buffer::put(text, at, &[0x20, 0x2D, 0x0A]);
+        return at + 3;
+    }
+    if message.len() == 0 {
+        buffer::put(text, at, &[0x20, 0x3D, 0x0A]);
+        return at + 3;
+    }
+    buffer::put(text, at, &[0x20, 0x3D, 0x20]);
+    let end = put_hex(message, text, at + 3);
+    buffer::put(text, end, &[0x0A]);
+    end + 1
+}
+
+// Bytes as pairs of hexadecimal digits at a place; the place behind them.
+fn put_hex(message: &[u8], text: &mut [u8], at: usize) -> usize
+    requires { ⌜ (length (now message) ≤ maxMessage) × (at + 2 * length (now message) ≤ length (now text)) ⌝ }
+    ensures { λ r. ⌜ (r ≡ at + 2 * length (now (message .entry))) × (now (text .exit) ≡ spliced (now (text .entry)) at (hex (now (message .entry)))) ⌝ }
+{
+    let mut i: usize = 0;
+    while i < message.len() {
+        let place = at + 2 * i;
+        text[place] = hex_digit(message[i] / 16);
+        text[place + 1] = hex_digit(message[i] % 16);
+        i += 1;
+    }
+    at + 2 * i
+}
+
+fn hex_digit(x: u8) -> u8
+    requires { ⌜ x < 16 ⌝ }
+    ensures { λ r. ⌜ r ≡ hexDigit x ⌝ }
+{
+    if x < 10 {
+        return 0x30 + x;
+    }
+    0x61 + (x - 10)
 }
