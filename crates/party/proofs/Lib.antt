@@ -13,6 +13,7 @@ pub mod Run
 pub mod Ran
 pub mod Checks
 pub mod Progress
+pub mod Depends
 pub mod Cases
 pub mod Tree
 pub mod Lists

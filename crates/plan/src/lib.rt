@@ -374,10 +374,5 @@ fn give(s: &[u8], lies: Span, out: &mut [u8]) -> Written
 {
     let from = lies.from;
     let end = lies.end;
-    let len = end - from;
-    if out.len() < len {
-        return Written::Short(len);
-    }
-    buffer::put(out, 0, &s[from..end]);
-    Written::Done(len)
+    buffer::give(&s[from..end], out)
 }

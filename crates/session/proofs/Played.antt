@@ -32,7 +32,7 @@ use Rattle.party.specs.Steps.{turnOf, openCause, withRoot, Ballot, ballot, bitI
 use Rattle.party.specs.Steps as steps
 use Rattle.party.specs.Calls.{Call, agreeRoot, agreeBit, takeShares, takeRelays, Event, accepted, first, entry, heard, wrote, packetTo, bitGiven, resultShown}
 use Rattle.party.specs.Calls.{Reply, sentOver, made, events, final, did, firstOf, resultAfter, hashed, sentBy, opening}
-use Rattle.party.specs.Agreement.{Good, Each, step, Clean, Premises, sent, Conclusions}
+use Rattle.party.specs.Agreement.{Good, Each, step, Clean, Premises, sent, Conclusions, Agreement}
 use Rattle.party.specs.declared.Party.{Party}
 use Rattle.party.specs.declared.Opened.{Opened}
 use Rattle.party.specs.declared.Vote.the-variants.{Happy}
@@ -43,7 +43,7 @@ use Rattle.party.proofs.Causes.{state-fine, root-fine}
 use Rattle.party.proofs.Outcomes.{open-given, open-refused, root-given, root-refused}
 use Rattle.party.proofs.Progress.{open-accepted, bit-accepted, shares-accepted, relays-accepted}
 use Rattle.party.proofs.Progress.{root-whole, bit-whole, first-whole, second-whole, held-short, result-short}
-use Rattle.party.proofs.Agreement.{agreement}
+use Rattle.party.proofs.Agreement.{agreement, agreement-sha256}
 use Rattle.plan.specs.Layout.{unnamed, lowest, nIn, tIn, hasRoot, hasBit, rootIn, goodIn, booksIn}
 use Rattle.plan.specs.Layout as layout
 use Rattle.plan.specs.Plan.{planCause}
@@ -560,3 +560,7 @@ module _ (H : List ℕ → List ℕ) (wide : (x : List ℕ) → length (H x) ≡
 pub one-result-sha256 : (s : List ℕ) (bytes : Bytes s) (ok : sessionCause sha256 s ≡ 0)
     → Clean sha256 (nIn s) (tIn s) (goodParties sha256 s) → (R : Result) × Lines sha256 sha256-length s bytes ok R
 one-result-sha256 s bytes ok = one-result sha256 sha256-length s bytes ok
+
+-- demand 3, on which the others rest
+pub demand-3 : Agreement sha256
+demand-3 = agreement-sha256

@@ -4,7 +4,6 @@ use mathlib.Core.Bool.{true}
 use mathlib.Core.List.{List}
 use Prim.Native.Nat.{ℕ, _+_, _*_, _≤_, _<_}
 use lib.ListN.{getD, take, drop}
-use Rattle.plan.specs.Layout.{nIn}
 use Rattle.plan.specs.Plan.{planCause, planOf}
 use Rattle.plan.specs.declared.Plan.{Plan}
 use Rattle.session.specs.Session.{isGood}

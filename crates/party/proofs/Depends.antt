@@ -1,0 +1,180 @@
+-- No string more: what a call gives back depends on the hash only at the strings of the state's own message and of the path checks that
+-- `Calls.checkedIn` lists; two hashes that agree on these give the same reply. By the same law of the tree, the path and the check. Assumes nothing.
+use mathlib.Core.Path.{_≡_, refl, sym, ap, ap₂, _∙_}
+use mathlib.Core.Bool.{Bool, false, cond, _&&_}
+use mathlib.Core.List.{List, [], _∷_, _++_, Memᴰ·append-left, Memᴰ·append-right}
+use Prim.Native.Nat.{ℕ, _+_, _-_, _≤_}
+use native.Mathlib.Omega.{arith}
+use borrow.Author.Tests.{eqb-true, eqb-false}
+use lib.Dec.{eqb}
+use lib.ListN.{length, take, replicate}
+use Rattle.buffer.specs.Entries.{bodies}
+use Rattle.buffer.proofs.Tabulate.{tabulate-cong}
+use Rattle.erasure.specs.Coding.{share, shares}
+use Rattle.erasure.specs.Rebuild.{present, recovered}
+use Rattle.merkle.specs.Shares.{leavesOf, sidesOf, pathOf, same, passes, codingStrings, stringsOf}
+use Rattle.merkle.proofs.Judged.{passes-same, passes-miscount}
+use Rattle.merkle.proofs.Depends.{Agree}
+use Rattle.merkle.proofs.Shares.{tree-root, tree-path}
+use Rattle.merkle.proofs.Trees.{root-hashed, path-hashed, check-hashed}
+use Rattle.packet.specs.Format.{Reading, silence, unreadable, shared, packetOf, readOf}
+use Rattle.packet.specs.Inbox.{inboxOf}
+use Rattle.packet.specs.Class.{Class, silent, faulty, valid, judged, classOf, checkedStrings, classStrings}
+use Rattle.party.specs.State.{messageIn, shareHeld, messageRoot, happy}
+use Rattle.party.specs.Steps.{packetFor, outboxOf, firstValid, takenBy, shareTaken, packetTaken, ownRelay, relayOf, heldOf, shareFrom, gathered, rebuilt, resultOf}
+use Rattle.party.specs.Calls.{unlessValid, shareStrings, relayStrings}
+use Rattle.party.specs.declared.Party.{Party}
+use Rattle.party.proofs.Run.{Way, on, off, way}
+use Rattle.party.proofs.Tree.{Coded, fine}
+
+module _ (H K : List ℕ → List ℕ) where
+  agree-left : (xs ys : List (List ℕ)) → Agree H K (xs ++ ys) → Agree H K xs
+  agree-left xs ys f x h = f x (Memᴰ·append-left ys h)
+
+  agree-right : (xs ys : List (List ℕ)) → Agree H K (xs ++ ys) → Agree H K ys
+  agree-right xs ys f x h = f x (Memᴰ·append-right xs h)
+
+  -- a packet's class, by the strings of its check
+  passes-depends : (n j : ℕ) (z x : List ℕ) (p : List (List ℕ)) → Agree H K (stringsOf H n j x p (length p))
+      → passes H n j x p (length p) z ≡ passes K n j x p (length p) z
+  passes-depends n j z x p f = go (way (eqb (length p) (length (sidesOf n j))))
+    where
+      go : Way (eqb (length p) (length (sidesOf n j))) → passes H n j x p (length p) z ≡ passes K n j x p (length p) z
+      go (on e) =
+          let c = eqb-true (length p) (length (sidesOf n j)) e in
+          passes-same H n j x p (length p) z c
+          ∙ ap (λ (y : List ℕ). same y z) (check-hashed H n j x p (length p) K c f)
+          ∙ sym (passes-same K n j x p (length p) z c)
+      go (off e) =
+          let d = eqb-false (length p) (length (sidesOf n j)) e in
+          passes-miscount H n j x p (length p) z d ∙ sym (passes-miscount K n j x p (length p) z d)
+
+  judged-depends : (n j : ℕ) (z : List ℕ) (r : Reading) → Agree H K (checkedStrings H n j r) → judged H n j z r ≡ judged K n j z r
+  judged-depends n j z silence f = refl
+  judged-depends n j z unreadable f = refl
+  judged-depends n j z (shared k x p) f = go (way (eqb k j))
+    where
+      go : Way (eqb k j) → judged H n j z (shared k x p) ≡ judged K n j z (shared k x p)
+      go (on e) = rw (e, passes-depends n j z x p (rw e at f))
+      go (off e) = rw e
+
+  pub class-depends : (n j : ℕ) (z w : List ℕ) → Agree H K (classStrings H n j w) → classOf H n j z w ≡ classOf K n j z w
+  unfolding classOf classStrings
+  class-depends n j z w f = judged-depends n j z (readOf n w) f
+
+  -- the search of step 4, and the shares of step 5
+  pub first-depends : (n own : ℕ) (z : List ℕ) (j : ℕ) (ps : List (List ℕ)) → Agree H K (shareStrings H n own z j ps)
+      → firstValid H n own z j ps ≡ firstValid K n own z j ps
+  unfolding firstValid shareStrings
+  first-depends n own z j [] f = refl
+  first-depends n own z j (w ∷ ps) f = go (way (eqb j own)) (first-depends n own z (j + 1) ps)
+    where
+      later : eqb j own ≡ false → (c : Class) → classOf H n own z w ≡ c → classOf K n own z w ≡ c
+          → (Agree H K (shareStrings H n own z (j + 1) ps) → firstValid H n own z (j + 1) ps ≡ firstValid K n own z (j + 1) ps)
+          → firstValid H n own z j (w ∷ ps) ≡ firstValid K n own z j (w ∷ ps)
+      later e silent p q r =
+          rw (e, p, q) (r (agree-right (classStrings H n own w) (shareStrings H n own z (j + 1) ps) (rw (e, p) at f)))
+      later e faulty p q r =
+          rw (e, p, q) (r (agree-right (classStrings H n own w) (shareStrings H n own z (j + 1) ps) (rw (e, p) at f)))
+      later e (valid x path) p q r = rw (e, p, q)
+
+      go : Way (eqb j own)
+          → (Agree H K (shareStrings H n own z (j + 1) ps) → firstValid H n own z (j + 1) ps ≡ firstValid K n own z (j + 1) ps)
+          → firstValid H n own z j (w ∷ ps) ≡ firstValid K n own z j (w ∷ ps)
+      go (on e) r = rw e (r (rw e at f))
+      go (off e) r =
+          let c = class-depends n own z w
+          (agree-left (classStrings H n own w) (unlessValid (classOf H n own z w) (shareStrings H n own z (j + 1) ps)) (rw e at f)) in
+          later e (classOf H n own z w) refl (sym c) r
+
+  pub gathered-depends : (x : Party) (j : ℕ) (ps : List (List ℕ)) → Agree H K (relayStrings H (x .n) (x .own) j ps)
+      → gathered H x j ps ≡ gathered K x j ps
+  unfolding gathered relayStrings
+  gathered-depends x j [] f = refl
+  gathered-depends x j (w ∷ ps) f =
+      let s : List (List ℕ) = cond (eqb j (x .own)) [] (classStrings H (x .n) j w) in
+      ap₂ {C = List (List ℕ)} (λ y l. y ∷ l) (go (way (eqb j (x .own))) (agree-left s (relayStrings H (x .n) (x .own) (j + 1) ps) f))
+      (gathered-depends x (j + 1) ps (agree-right s (relayStrings H (x .n) (x .own) (j + 1) ps) f))
+    where
+      go : Way (eqb j (x .own)) → Agree H K (cond (eqb j (x .own)) [] (classStrings H (x .n) j w))
+          → cond (eqb j (x .own)) (shareHeld x) (shareFrom (classOf H (x .n) j (x .root) w))
+          ≡ cond (eqb j (x .own)) (shareHeld x) (shareFrom (classOf K (x .n) j (x .root) w))
+      go (on e) g = rw e
+      go (off e) g = rw e (ap shareFrom (class-depends (x .n) j (x .root) w (rw e at g)))
+
+  -- a message's root and packets, by the strings of its tree
+  module _ (wide : (x : List ℕ) → length (H x) ≡ 32) (n t : ℕ) (m : List ℕ) (c : Coded n t m)
+      (tree : Agree H K (codingStrings H n (shares n (n - t) m))) where
+    pub root-depends : messageRoot H n t m ≡ messageRoot K n t m
+    unfolding messageRoot
+    root-depends =
+        root-hashed H wide n (shares n (n - t) m) (fine n t m c) K tree
+        ∙ sym (tree-root K n (shares n (n - t) m) (fine n t m c) (c .low) (c .high))
+
+    path-same : (j : ℕ) → 1 ≤ j → j ≤ n
+        → pathOf H n j (leavesOf H n (shares n (n - t) m)) ≡ pathOf K n j (leavesOf K n (shares n (n - t) m))
+    path-same j first last =
+        path-hashed H wide n (shares n (n - t) m) (fine n t m c) j first last K tree
+        ∙ sym (tree-path K n (shares n (n - t) m) (fine n t m c) (c .low) (c .high) j first last)
+
+  -- so all that a state's own message gives
+  module _ (wide : (x : List ℕ) → length (H x) ≡ 32) (x : Party) (c : Coded (x .n) (x .t) (messageIn x)) (own : 1 ≤ x .own) (last : x .own ≤ x .n)
+      (tree : Agree H K (codingStrings H (x .n) (shares (x .n) (x .n - x .t) (messageIn x)))) where
+    happy-depends : happy H x ≡ happy K x
+    unfolding happy
+    happy-depends = ap (λ (r : List ℕ). same r (x .root)) (root-depends wide (x .n) (x .t) (messageIn x) c tree)
+
+    packet-depends : (j : ℕ) → 1 ≤ j → j ≤ x .n → packetFor H x j ≡ packetFor K x j
+    unfolding packetFor
+    packet-depends j first end =
+        ap (λ (p : List (List ℕ)). packetOf j (share (x .n - x .t) j (messageIn x)) (take (length (sidesOf (x .n) j)) p))
+        (path-same wide (x .n) (x .t) (messageIn x) c tree j first end)
+
+    pub outbox-depends : (bit : ℕ) → outboxOf H x bit ≡ outboxOf K x bit
+    unfolding outboxOf
+    outbox-depends bit =
+        ap₂ (λ (b : Bool) (l : List (List ℕ)). inboxOf (cond (eqb bit 1 && b) l (replicate (x .n) []))) happy-depends
+        (tabulate-cong (x .n) (λ i. cond (eqb (i + 1) (x .own)) [] (packetFor H x (i + 1)))
+        (λ i. cond (eqb (i + 1) (x .own)) [] (packetFor K x (i + 1)))
+        (λ i l. ap (λ (w : List ℕ). cond (eqb (i + 1) (x .own)) [] w) (packet-depends (i + 1) (omega arith) (omega arith))))
+
+    relay-own-depends : ownRelay H x ≡ ownRelay K x
+    relay-own-depends = ap (λ (w : List ℕ). cond (eqb (x .n) 1) [] w) (packet-depends (x .own) own last)
+
+    -- what step 4 relays and keeps, and what step 5 ends with; a happy party makes no check
+    module _ (inbox : List ℕ) where
+      abbrev firstStrings : List (List ℕ)
+      firstStrings = cond (happy H x) [] (shareStrings H (x .n) (x .own) (x .root) 1 (bodies (x .n) inbox))
+
+      abbrev secondStrings : List (List ℕ)
+      secondStrings = cond (happy H x) [] (relayStrings H (x .n) (x .own) 1 (bodies (x .n) inbox))
+
+      taken-depends : happy H x ≡ false → Agree H K firstStrings → takenBy H x inbox ≡ takenBy K x inbox
+      taken-depends e f = first-depends (x .n) (x .own) (x .root) 1 (bodies (x .n) inbox) (rw e at f)
+
+      pub relay-depends : Agree H K firstStrings → relayOf H x inbox ≡ relayOf K x inbox
+      unfolding relayOf
+      relay-depends f = go (way (happy H x))
+        where
+          go : Way (happy H x) → relayOf H x inbox ≡ relayOf K x inbox
+          go (on e) = rw (e, sym happy-depends ∙ e) relay-own-depends
+          go (off e) = rw (e, sym happy-depends ∙ e) (ap (packetTaken x) (taken-depends e f))
+
+      pub held-depends : Agree H K firstStrings → heldOf H x inbox ≡ heldOf K x inbox
+      unfolding heldOf
+      held-depends f = go (way (happy H x))
+        where
+          go : Way (happy H x) → heldOf H x inbox ≡ heldOf K x inbox
+          go (on e) = rw (e, sym happy-depends ∙ e)
+          go (off e) = rw (e, sym happy-depends ∙ e) (ap shareTaken (taken-depends e f))
+
+      pub result-depends : Agree H K secondStrings → resultOf H x inbox ≡ resultOf K x inbox
+      unfolding resultOf
+      result-depends f = go (way (happy H x))
+        where
+          go : Way (happy H x) → resultOf H x inbox ≡ resultOf K x inbox
+          go (on e) = rw (e, sym happy-depends ∙ e)
+          go (off e) =
+              rw (e, sym happy-depends ∙ e)
+              (ap (λ (gs : List (List ℕ)). rebuilt (recovered (x .n - x .t) (present 1 gs)))
+              (gathered-depends x 1 (bodies (x .n) inbox) (rw e at f)))
