@@ -49,6 +49,10 @@ line p r = decimal p ++ (space ∷ (shown r ++ (newline ∷ [])))
 unfoldable pub sentLine : ℕ → List ℕ
 sentLine x = 0x73 ∷ 0x65 ∷ 0x6E ∷ 0x74 ∷ space ∷ (decimal x ++ (newline ∷ []))
 
+-- `refused` and the cause, alone
+unfoldable pub refusedLine : ℕ → List ℕ
+refusedLine x = 0x72 ∷ 0x65 ∷ 0x66 ∷ 0x75 ∷ 0x73 ∷ 0x65 ∷ 0x64 ∷ space ∷ (decimal x ++ (newline ∷ []))
+
 -- a line in a lent buffer, of a result told by whether there is a message: cause 4 for a message over its limit, then 9
 unfoldable pub lineOf : ℕ → Bool → List ℕ → List ℕ → Given
 lineOf p some m out =
@@ -56,3 +60,6 @@ lineOf p some m out =
 
 unfoldable pub sentLineOf : ℕ → List ℕ → Given
 sentLineOf x out = written (sentLine x) out
+
+unfoldable pub refusedLineOf : ℕ → List ℕ → Given
+refusedLineOf x out = written (refusedLine x) out
