@@ -1,3 +1,11 @@
 pub mod Parties
 pub mod Rooms
 pub mod Played
+pub mod Rule
+pub mod ExchangeSlots
+pub mod ExchangeEntries
+pub mod ExchangePlan
+pub mod ExchangeSent
+pub mod Sums
+pub mod Text
+pub mod Shown

@@ -20,7 +20,7 @@ use Rattle.party.specs.Agreement.{Good}
 use Rattle.party.specs.declared.Opened.{Opened}
 use Rattle.plan.specs.Layout.{names, under, packetFrom, unnamed, lowest, nIn, tIn, hasRoot, hasBit, rootIn, bitIn, goodIn, booksIn, firstIn, secondIn}
 use Rattle.plan.specs.Plan.{planCause}
-use Rattle.report.specs.Output.{line, sentLine}
+use Rattle.report.specs.Output.{line, sentLine, refusedLine}
 
 -- room for any packet, and for any outbox
 abbrev pub maxPacket : ℕ
@@ -134,6 +134,13 @@ module _ (H : List ℕ → List ℕ) (s : List ℕ) where
   -- the plan's output in a lent buffer: turned away for a cause, or written; cause 9 where the buffer is shorter
   unfoldable pub rehearseOf : List ℕ → Given
   rehearseOf out = cond (not (eqb sessionCause 0)) (gave (Refused sessionCause) out) (written output out)
+
+  -- what a rehearsal prints: the output, or the one line of a plan that is refused
+  unfoldable pub printed : List ℕ
+  printed = cond (not (eqb sessionCause 0)) (refusedLine sessionCause) output
+
+  unfoldable pub printOf : List ℕ → Given
+  printOf out = written printed out
 
   -- the good parties of the session, with the calls that a rehearsal makes of them
   unfoldable pub callsOf : ℕ → List Call

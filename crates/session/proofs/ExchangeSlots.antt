@@ -1,0 +1,83 @@
+-- What good parties wrote, each in its slot: a slot more, by what is written there and what stands before it. Assumes nothing.
+use mathlib.Core.Path.{_≡_, sym, ap, ap₂, _∙_}
+use mathlib.Core.Bool.{true, false, true≢false}
+use mathlib.Core.List.{List, _++_}
+use Prim.Native.Nat.{ℕ, _+_, _-_, _*_, _≤_, _<_}
+use native.Mathlib.Decide.{ℕ-discrete}
+use native.Mathlib.Omega.{arith}
+use lib.ListN.{length, getD, take, drop, set, length-drop, take-append-drop}
+use lib.Seq.{length-take-le, take-append-le, take-append-seam, drop-append-le, drop-at, getD-set-same, getD-set-other}
+use Rattle.buffer.specs.Splice.{spliced}
+use Rattle.buffer.proofs.Rows.{row-inside}
+use Rattle.session.specs.Session.{isGood}
+use Rattle.session.specs.Private.{Slots}
+
+-- a part of a list's front
+part-front : (p x : List ℕ) (a l : ℕ) → a + l ≤ length p → take l (drop a (p ++ x)) ≡ take l (drop a p)
+part-front p x a l h =
+    ap (take l) (drop-append-le a p x (omega arith)) ∙ take-append-le l (drop a p) x (omega (arith, length-drop a p))
+
+-- what stands before a place that is written to, and what is written there
+module _ (d : List ℕ) (at : ℕ) (w : List ℕ) (inside : at ≤ length d) where
+  part-before : (a l : ℕ) → a + l ≤ at → take l (drop a (spliced d at w)) ≡ take l (drop a d)
+  unfolding spliced
+  part-before a l h =
+      let front : length (take at d) ≡ at = length-take-le at d inside in
+      part-front (take at d) (w ++ drop (at + length w) d) a l (omega arith)
+      ∙ sym (part-front (take at d) (drop at d) a l (omega arith))
+      ∙ ap (λ (x : List ℕ). take l (drop a x)) (take-append-drop at d)
+
+  part-there : take (length w) (drop at (spliced d at w)) ≡ w
+  unfolding spliced
+  part-there =
+      ap (take (length w)) (drop-at (take at d) (w ++ drop (at + length w) d) at (length-take-le at d inside))
+      ∙ take-append-seam w (drop (at + length w) d)
+
+module _ (s : List ℕ) (size : ℕ) (f : ℕ → List ℕ) where
+  pub slots-none : (all lens : List ℕ) → Slots s size f 0 all lens
+  slots-none all lens j h g = absurd (omega arith)
+
+  -- the slot of a bad party holds nothing
+  pub slots-skip : (k : ℕ) (all lens o ls : List ℕ) → o ≡ all → ls ≡ lens → isGood s (k + 1) ≡ false → Slots s size f k all lens
+      → Slots s size f (k + 1) o ls
+  slots-skip k all lens o ls eo el bad old j h g = elim (ℕ-discrete j k) [
+    | yes e ↦ absurd (true≢false (sym g ∙ ap (λ (i : ℕ). isGood s (i + 1)) e ∙ bad))
+    | no ne ↦
+        let w = old j (omega arith) g in
+        let same : getD ls j 0 ≡ getD lens j 0 = ap (λ (l : List ℕ). getD l j 0) el in (
+          omega (arith, w .0),
+          ap₂ (λ (l : ℕ) (y : List ℕ). take l (drop (j * size) y)) same eo ∙ w .1,
+        )
+  ]
+
+  -- what a good party wrote, in the next slot
+  pub slots-more : (k at r : ℕ) (all lens o ls : List ℕ) → at ≡ k * size → r ≡ length (f (k + 1)) → o ≡ spliced all at (f (k + 1))
+      → ls ≡ set lens k r → r ≤ size → at ≤ length all → k < length lens → Slots s size f k all lens → Slots s size f (k + 1) o ls
+  slots-more k at r all lens o ls ea er eo el short inside few old j h g = elim (ℕ-discrete j k) [
+    | yes e ↦
+        let same : getD ls j 0 ≡ r = ap₂ (λ (l : List ℕ) (i : ℕ). getD l i 0) el e ∙ getD-set-same lens k r 0 few in (
+          omega (arith, same),
+          ap₂ (λ (l x : ℕ). take l (drop x o)) (same ∙ er) (ap (λ (i : ℕ). i * size) e ∙ sym ea)
+              ∙ ap (λ (y : List ℕ). take (length (f (k + 1))) (drop at y)) eo
+              ∙ part-there all at (f (k + 1)) inside
+              ∙ ap (λ (i : ℕ). f (i + 1)) (sym e),
+        )
+    | no ne ↦
+        let same : getD ls j 0 ≡ getD lens j 0 = ap (λ (l : List ℕ). getD l j 0) el ∙ getD-set-other lens k j r 0 ne in
+        let w = old j (omega arith) g in (
+          omega (arith, same, w .0),
+          ap (λ (l : ℕ). take l (drop (j * size) o)) same
+              ∙ ap (λ (y : List ℕ). take (getD lens j 0) (drop (j * size) y)) eo
+              ∙ part-before all at (f (k + 1)) inside (j * size) (getD lens j 0)
+              (omega (arith, row-inside k j size (omega arith), w .0))
+              ∙ w .1,
+        )
+  ]
+
+  -- what stands in a good party's slot
+  pub slot-of : (n p : ℕ) (all lens : List ℕ) → Slots s size f n all lens → 1 ≤ p → p ≤ n → isGood s p ≡ true
+      → (getD lens (p - 1) 0 ≤ size) × (take (getD lens (p - 1) 0) (drop ((p - 1) * size) all) ≡ f p)
+  slot-of n p all lens old low high g =
+      let e : p - 1 + 1 ≡ p = omega arith in
+      let w = old (p - 1) (omega arith) (ap (isGood s) e ∙ g) in
+      (w .0, w .1 ∙ ap f e)

@@ -1,0 +1,300 @@
+-- What holds of a plan that was read and taken, by its parts, and the laws of the walks over its parties. By the tests of the definitions.
+-- Assumes nothing.
+use mathlib.Core.Path.{_≡_, refl, sym, ap, ap₂, _∙_}
+use mathlib.Core.Bool.{Bool, true, false, cond, not, _&&_, _||_, true≢false, false≢true}
+use mathlib.Core.List.{List}
+use mathlib.Core.Option.{Option, none}
+use Prim.Native.Nat.{ℕ, suc, _+_, _-_, _*_, _%_, _/_, _^_, _<_, _≤_}
+use native.Mathlib.Decide.{ℕ-discrete}
+use native.Mathlib.Omega.{arith}
+use borrow.Author.Tests.{lt-ltb, le-ltb, ltb-false, eq-eqb, ne-eqb}
+use lib.Dec.{ltb, eqb}
+use lib.ListN.{length, take, drop}
+use Rattle.limits.specs.Limits.{maxParties, maxMessage}
+use Rattle.limits.proofs.Group.{group-of}
+use Rattle.buffer.specs.Splice.{spliced}
+use Rattle.buffer.specs.Given.{Given, gave, valueOf}
+use Rattle.buffer.specs.declared.Written.{Written}
+use Rattle.buffer.specs.declared.Written.the-variants.{Done}
+use Rattle.buffer.proofs.Splice.{length-spliced}
+use Rattle.buffer.proofs.Given.{written-done}
+use Rattle.merkle.specs.Shares.{same}
+use Rattle.party.specs.Steps.{openOf}
+use Rattle.party.proofs.Kept.{take-spliced}
+use Rattle.plan.specs.Layout.{names, unnamed, lowest, nIn, tIn, optionsIn, hasRoot, hasBit, afterRoot, afterBit, rootIn, bitIn, goodIn, booksIn}
+use Rattle.plan.specs.Layout.{firstIn, secondIn, endOf, empty, laidOut}
+use Rattle.plan.specs.Plan.{planCause, planOf, bookOf}
+use Rattle.plan.specs.declared.Plan.{Plan}
+use Rattle.plan.proofs.Maps.{named}
+use Rattle.plan.proofs.Maps as maps
+use Rattle.plan.proofs.Given.{book-given}
+use Rattle.plan.proofs.Accepted.{accepted, under-short}
+use Rattle.session.specs.Session.{isGood, messageOf, lowestGood, opened, agreedRoot, step2, agreedBit, sameRoots, sameBits, unlawful}
+use Rattle.session.specs.Private.{Ready}
+
+-- the books start within the plan
+head-tests : (a b c d : Bool) (o : Option (List ℕ)) → empty (cond (a || b || c || d) none o) ≡ true → c ≡ false
+head-tests true b c d o e = absurd (false≢true e)
+head-tests false true c d o e = absurd (false≢true e)
+head-tests false false true d o e = absurd (false≢true e)
+head-tests false false false d o e = refl
+
+books-inside : (s : List ℕ) → laidOut s ≡ true → afterBit s + 2 ≤ length s
+unfolding laidOut endOf
+books-inside s l =
+    ltb-false (length s) (afterBit s + 2)
+    (head-tests (ltb (length s) 3) (not (ltb (optionsIn s) 4)) (ltb (length s) (afterBit s + 2)) (not (ltb (goodIn s) (2 ^ nIn s))) _ l)
+
+-- the parts of a plan that is taken
+pub record Known (s : List ℕ) (parts : Plan) : Type 0 where
+  pub n-is : parts .n ≡ nIn s
+  pub t-is : parts .t ≡ tIn s
+  pub rooted-is : parts .rooted ≡ hasRoot s
+  pub voted-is : parts .voted ≡ hasBit s
+  pub good-is : parts .good ≡ goodIn s
+  pub books-are : parts .books ≡ afterBit s + 2
+  pub first-is : parts .first ≡ length s - length (firstIn s)
+  pub second-is : parts .second ≡ length s - length (secondIn s)
+  pub low : 1 ≤ nIn s
+  pub high : nIn s ≤ maxParties
+  pub faults : 2 * tIn s < nIn s
+  pub laid : laidOut s ≡ true
+  pub inside : afterBit s + 2 ≤ length s
+  pub short : (q : ℕ) → length (messageOf s q) ≤ maxMessage
+
+abbrev takenPlan : List ℕ → Plan
+takenPlan s =
+    record {
+      cause = 0;
+      n = nIn s;
+      t = tIn s;
+      rooted = hasRoot s;
+      voted = hasBit s;
+      good = goodIn s;
+      books = afterBit s + 2;
+      first = length s - length (firstIn s);
+      second = length s - length (secondIn s);
+    }
+
+plan-is : (s : List ℕ) → planCause s ≡ 0 → planOf s ≡ takenPlan s
+unfolding planOf
+plan-is s e = rw e
+
+pub known : (s : List ℕ) (parts : Plan) → Ready s parts → Known s parts
+unfolding messageOf
+known s parts r =
+    let e : parts ≡ takenPlan s = r .read ∙ plan-is s (r .taken) in
+    let a = accepted s (r .taken) in
+    let g = group-of (nIn s) (tIn s) (a .group) in
+    record {
+      n-is = ap (λ (x : Plan). x .n) e;
+      t-is = ap (λ (x : Plan). x .t) e;
+      rooted-is = ap (λ (x : Plan). x .rooted) e;
+      voted-is = ap (λ (x : Plan). x .voted) e;
+      good-is = ap (λ (x : Plan). x .good) e;
+      books-are = ap (λ (x : Plan). x .books) e;
+      first-is = ap (λ (x : Plan). x .first) e;
+      second-is = ap (λ (x : Plan). x .second) e;
+      low = g .low;
+      high = g .high;
+      faults = g .faults;
+      laid = a .laid;
+      inside = books-inside s (a .laid);
+      short = λ q. under-short maxMessage (nIn s) 1 (goodIn s) q (booksIn s) (a .short);
+    }
+
+-- what the code reads of such a plan is what the definitions say
+module _ (s : List ℕ) (parts : Plan) (k : Known s parts) where
+  pub lowest-is : lowest (parts .n) 1 (parts .good) ≡ lowestGood s
+  lowest-is = ap₂ (λ (n g : ℕ). lowest n 1 g) (k .n-is) (k .good-is)
+
+  pub unnamed-is : unnamed (parts .n) 1 (parts .good) ≡ unnamed (nIn s) 1 (goodIn s)
+  unnamed-is = ap₂ (λ (n g : ℕ). unnamed n 1 g) (k .n-is) (k .good-is)
+
+  pub good-named : (p : ℕ) (b : Bool) → b ≡ names (parts .good) p → b ≡ isGood s p
+  good-named p b e = e ∙ ap (λ (g : ℕ). names g p) (k .good-is)
+
+  pub books-room : parts .books ≤ length s
+  books-room = omega (arith, k .books-are, k .inside)
+
+  pub root-room : hasRoot s ≡ true → 35 ≤ length s
+  root-room h =
+      let e : afterRoot s ≡ 35 = ap (λ (b : Bool). cond b 35 3) h in
+      omega (arith, k .inside, e)
+
+  pub bit-place : hasBit s ≡ true → parts .books ≡ afterRoot s + 3
+  bit-place h =
+      let e : afterBit s ≡ afterRoot s + 1 = ap (λ (b : Bool). afterRoot s + cond b 1 0) h in
+      omega (arith, k .books-are, e)
+
+  pub open-is : (H : List ℕ → List ℕ) (q : ℕ) (m : List ℕ) → m ≡ messageOf s q → openOf H (parts .n) (parts .t) q m ≡ opened H s q
+  unfolding opened
+  open-is H q m e = rw (k .n-is, k .t-is, e)
+
+  -- the answer for a book, in a buffer of the greatest length
+  module _ (q : ℕ) (out : List ℕ) (long : length out ≡ maxMessage) (r : Written) (o : List ℕ)
+      (e : gave r o ≡ bookOf (parts .n) (parts .good) q (drop (parts .books) s) out) where
+    given : gave r o ≡ gave (Done (length (messageOf s q))) (spliced out 0 (messageOf s q))
+    unfolding messageOf
+    given =
+        e ∙ rw (k .n-is, k .good-is, k .books-are)
+        (book-given (nIn s) (goodIn s) q (booksIn s) out (k .low) (k .high)
+        ∙ written-done (messageOf s q) out (omega (arith, long, k .short q)))
+
+    pub book-done : r ≡ Done (length (messageOf s q))
+    book-done = ap (λ (g : Given). g .answer) given
+
+    pub book-room : (l : ℕ) → r ≡ Done l → l ≤ length o
+    book-room l h =
+        let size : l ≡ length (messageOf s q) = ap valueOf (sym h ∙ book-done) in
+        let bytes : length o ≡ length (spliced out 0 (messageOf s q)) = ap (λ (g : Given). length (g .buffer)) given in
+        omega (arith, size, bytes, length-spliced out 0 (messageOf s q) (omega (arith, long, k .short q)), long, k .short q)
+
+    pub book-bytes : (l : ℕ) → r ≡ Done l → take l o ≡ messageOf s q
+    book-bytes l h =
+        ap₂ take (ap valueOf (sym h ∙ book-done)) (ap (λ (g : Given). g .buffer) given) ∙ take-spliced out (messageOf s q)
+
+-- the agreed root and bit: given, or the lowest-numbered good party's
+module _ (H : List ℕ → List ℕ) (s : List ℕ) where
+  root-by : (b : Bool) → hasRoot s ≡ b → agreedRoot H s ≡ cond b (rootIn s) (opened H s (lowestGood s) .root)
+  unfolding agreedRoot
+  root-by b h = ap (λ (c : Bool). cond c (rootIn s) (opened H s (lowestGood s) .root)) h
+
+  pub root-given : hasRoot s ≡ true → agreedRoot H s ≡ rootIn s
+  root-given h = root-by true h
+
+  pub root-own : hasRoot s ≡ false → agreedRoot H s ≡ opened H s (lowestGood s) .root
+  root-own h = root-by false h
+
+  bit-by : (b : Bool) → hasBit s ≡ b → agreedBit H s ≡ cond b (bitIn s) (step2 H s (lowestGood s) .bit)
+  unfolding agreedBit
+  bit-by b h = ap (λ (c : Bool). cond c (bitIn s) (step2 H s (lowestGood s) .bit)) h
+
+  pub bit-given : hasBit s ≡ true → agreedBit H s ≡ bitIn s
+  bit-given h = bit-by true h
+
+  pub bit-own : hasBit s ≡ false → agreedBit H s ≡ step2 H s (lowestGood s) .bit
+  bit-own h = bit-by false h
+
+-- no party is left
+pub lowest-end : (k p g : ℕ) → k ≡ 0 → lowest k p g ≡ 0
+unfolding lowest
+lowest-end k p g e = rw e
+
+pub unnamed-end : (k p g : ℕ) → k ≡ 0 → unnamed k p g ≡ 0
+unfolding unnamed
+unnamed-end k p g e = rw e
+
+-- party p of k, with j behind it
+module _ (j k p g : ℕ) (e : k ≡ suc j) where
+  pub lowest-found : names g p ≡ true → lowest k p g ≡ p
+  unfolding lowest
+  lowest-found h = rw (e, h)
+
+  pub lowest-later : names g p ≡ false → lowest k p g ≡ lowest j (p + 1) g
+  unfolding lowest
+  lowest-later h = rw (e, h)
+
+-- the same with the map halved p times
+module _ (j k p g m : ℕ) (e : k ≡ suc j) (h : m ≡ g / 2 ^ p) where
+  pub unnamed-more : unnamed k (p + 1) g ≡ 1 - m % 2 + unnamed j (p + 1 + 1) g
+  unfolding unnamed
+  unnamed-more =
+      elim (ℕ-discrete (m % 2) 1) [
+        | yes b ↦ rw (e, named g p m h b) (omega arith)
+        | no b ↦ rw (e, maps.unnamed g p m h (omega arith)) (omega arith)
+      ]
+
+module _ (H : List ℕ → List ℕ) (s : List ℕ) where
+  pub roots-end : (k p : ℕ) (w : List ℕ) → k ≡ 0 → sameRoots H s k p w ≡ true
+  unfolding sameRoots
+  roots-end k p w e = rw e
+
+  pub bits-end : (k p b : ℕ) → k ≡ 0 → sameBits H s k p b ≡ true
+  unfolding sameBits
+  bits-end k p b e = rw e
+
+  module _ (j k p : ℕ) (e : k ≡ suc j) where
+    module _ (w : List ℕ) where
+      pub roots-bad : isGood s p ≡ false → sameRoots H s k p w ≡ sameRoots H s j (p + 1) w
+      unfolding sameRoots
+      roots-bad h = rw (e, h)
+
+      pub roots-same : isGood s p ≡ true → same (opened H s p .root) w ≡ true → sameRoots H s k p w ≡ sameRoots H s j (p + 1) w
+      unfolding sameRoots
+      roots-same h q = rw (e, h, q)
+
+      pub roots-other : isGood s p ≡ true → same (opened H s p .root) w ≡ false → sameRoots H s k p w ≡ false
+      unfolding sameRoots
+      roots-other h q = rw (e, h, q)
+
+    module _ (b : ℕ) where
+      pub bits-bad : isGood s p ≡ false → sameBits H s k p b ≡ sameBits H s j (p + 1) b
+      unfolding sameBits
+      bits-bad h = rw (e, h)
+
+      pub bits-same : isGood s p ≡ true → step2 H s p .bit ≡ b → sameBits H s k p b ≡ sameBits H s j (p + 1) b
+      unfolding sameBits
+      bits-same h q = rw (e, h, eq-eqb (step2 H s p .bit) b q)
+
+      pub bits-other : isGood s p ≡ true → (step2 H s p .bit ≡ b → ⊥) → sameBits H s k p b ≡ false
+      unfolding sameBits
+      bits-other h q = rw (e, h, ne-eqb (step2 H s p .bit) b q)
+
+-- the rule of the short agreement, by its four tests
+module _ (s : List ℕ) where
+  abbrev pub manyBad : Bool
+  manyBad = ltb (tIn s) (unnamed (nIn s) 1 (goodIn s))
+
+  abbrev pub noBit : Bool
+  noBit = hasBit s && ltb 1 (bitIn s)
+
+  pub bit-none : hasBit s ≡ false → noBit ≡ false
+  bit-none h = ap (λ (x : Bool). x && ltb 1 (bitIn s)) h
+
+module _ (H : List ℕ → List ℕ) (s : List ℕ) where
+  -- the root and the bit that the lowest-numbered good party put in
+  abbrev pub firstRoot : List ℕ
+  firstRoot = opened H s (lowestGood s) .root
+
+  abbrev pub firstBit : ℕ
+  firstBit = step2 H s (lowestGood s) .bit
+
+  abbrev pub otherRoot : Bool
+  otherRoot = sameRoots H s (nIn s) 1 firstRoot && not (same (agreedRoot H s) firstRoot)
+
+  abbrev pub otherBit : Bool
+  otherBit = sameBits H s (nIn s) 1 firstBit && not (eqb (agreedBit H s) firstBit)
+
+  pub bit-beyond : hasBit s ≡ true → 1 < agreedBit H s → noBit s ≡ true
+  bit-beyond h l = ap₂ (λ (x y : Bool). x && y) h (lt-ltb 1 (bitIn s) (omega (arith, bit-given H s h)))
+
+  pub bit-low : hasBit s ≡ true → agreedBit H s ≤ 1 → noBit s ≡ false
+  bit-low h l = ap₂ (λ (x y : Bool). x && y) h (le-ltb 1 (bitIn s) (omega (arith, bit-given H s h)))
+
+  pub unlawful-many : manyBad s ≡ true → unlawful H s ≡ true
+  unfolding unlawful
+  unlawful-many a = ap (λ (x : Bool). x || noBit s || otherRoot || otherBit) a
+
+  module _ (a : manyBad s ≡ false) where
+    pub unlawful-bit : noBit s ≡ true → unlawful H s ≡ true
+    unfolding unlawful
+    unlawful-bit b = ap₂ (λ (x y : Bool). x || y || otherRoot || otherBit) a b
+
+    module _ (b : noBit s ≡ false) where
+      pub unlawful-root : otherRoot ≡ true → unlawful H s ≡ true
+      unfolding unlawful
+      unlawful-root c = ap₂ (λ (x y : Bool). x || y || otherRoot || otherBit) a b ∙ ap (λ (x : Bool). x || otherBit) c
+
+      pub unlawful-vote : otherRoot ≡ false → unlawful H s ≡ otherBit
+      unfolding unlawful
+      unlawful-vote c = ap₂ (λ (x y : Bool). x || y || otherRoot || otherBit) a b ∙ ap (λ (x : Bool). x || otherBit) c
+
+-- tests turned around
+pub not-true : (b : Bool) → not b ≡ true → b ≡ false
+not-true true e = absurd (false≢true e)
+not-true false e = refl
+
+pub not-false : (b : Bool) → not b ≡ false → b ≡ true
+not-false true e = refl
+not-false false e = absurd (true≢false e)

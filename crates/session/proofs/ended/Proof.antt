@@ -1,0 +1,71 @@
+-- `session::ended` meets its contract: step 5 of the party after step 4, on its second inbox. Assumes nothing.
+use mathlib.Core.Path.{sym, ap, ap₂, _∙_}
+use mathlib.Core.List.{List}
+use Prim.Native.Nat.{ℕ, zero}
+use lib.ListN.{length-replicate}
+use lib.Seq.{length-take-le}
+use Rattle.sha256.specs.Sha256.{sha256}
+use Rattle.party.specs.Steps.{Stepped, takeRelaysOf}
+use Rattle.party.specs.declared.Party.{Party}
+use Rattle.session.specs.Session.{step4, secondInbox, step5}
+use Rattle.session.specs.Private.{maxInbox}
+use borrow.Author.Needs.{needs}
+use Rattle.session.proofs.ended.Statement.{statement}
+use Rattle.session.proofs.ended.Tie as tie
+
+slice-aggregate-relayed : tie.Need-slice-aggregate-relayed
+slice-aggregate-relayed c = search needs
+
+relayed-requires : tie.Need-relayed-requires
+relayed-requires c κs = search needs
+
+slice-aggregate-second-inbox : tie.Need-slice-aggregate-second-inbox
+slice-aggregate-second-inbox c = sym (length-replicate maxInbox zero)
+
+second-inbox-requires : tie.Need-second-inbox-requires
+second-inbox-requires c κs =
+    let st = c .before .before .before .before .before .before .before .before .before .before .before in
+    (st .pre .0, st .pre .8, st .pre .9, length-replicate maxInbox zero, st .pre .10)
+
+array-share-prefix-inbox : tie.Need-array-share-prefix-inbox
+array-share-prefix-inbox c = c .before .second-inbox .ensures .0
+
+slice-aggregate-take-relays : tie.Need-slice-aggregate-take-relays
+slice-aggregate-take-relays c =
+    let f = c .before .before in
+    sym (length-take-le (f .second-inbox .result) (f .second-inbox .last .1 .1 .1 .1 .1 .0) (f .second-inbox .ensures .0))
+
+take-relays-requires : tie.Need-take-relays-requires
+take-relays-requires c κs = search needs
+
+same-length : tie.Need-same-length
+same-length c = c .before .before .take-relays .kept .1 .1 .0
+
+returns : tie.Need-returns
+unfolding step5
+returns c =
+    let w = c .before .before in
+    let f = w .before .before .before .before in
+    let d = f .before .before .before .before in
+    let st = d .before .before .before .before .before .before .before .before in
+    let a = st .args in
+    let s = a .bytes .now in
+    let x : Party = step4 sha256 s (a .q) .state in
+    w .take-relays .ensures
+    ∙ ap₂ (λ (y : Party) (i : List ℕ). takeRelaysOf sha256 y i (a .out .now)) (ap (λ (v : Stepped). v .state) (d .relayed .ensures))
+    (f .second-inbox .ensures .1)
+    ∙ ap (takeRelaysOf sha256 x (secondInbox sha256 s (a .q))) (st .pre .11)
+
+pub ended-spec : {M : Type 1} → statement M
+ended-spec =
+    tie.close
+    (tie.spec
+    slice-aggregate-relayed
+    relayed-requires
+    slice-aggregate-second-inbox
+    second-inbox-requires
+    array-share-prefix-inbox
+    slice-aggregate-take-relays
+    take-relays-requires
+    same-length
+    returns)

@@ -1,0 +1,177 @@
+-- `session::play` meets its contract: the lines stand at the start of the text, and the last line behind them. Assumes nothing.
+use mathlib.Core.Path.{_≡_, ap, _∙_}
+use mathlib.Core.List.{List, _++_}
+use Prim.Native.Nat.{ℕ, _+_, _-_, _≤_}
+use native.Mathlib.Omega.{arith}
+use lib.ListN.{length, take, drop}
+use Rattle.buffer.specs.Splice.{spliced}
+use Rattle.buffer.proofs.Splice.{length-spliced}
+use Rattle.report.specs.Output.{sentLine}
+use Rattle.sha256.specs.Sha256.{sha256}
+use Rattle.session.specs.Private.{maxLine, maxText}
+use Rattle.session.proofs.Text.{sent-short, sent-written, given-at, take-behind, output-is}
+use borrow.Author.Needs.{needs}
+use Rattle.session.proofs.play.Statement.{statement}
+use Rattle.session.proofs.play.Tie as tie
+
+-- the calls, from the last one back to the function's entry
+abbrev Lines : tie.After-sizes4 → tie.After-put-lines
+Lines k = k .before .before .before .before .before
+
+abbrev Relays : tie.After-put-lines → tie.After-relay-on-one
+Relays k = k .before .before .before .before .before .before .before .before
+
+abbrev Deals : tie.After-relay-on-one → tie.After-deal-all
+Deals k = k .before .before .before .before .before .before .before
+
+abbrev Entry : tie.After-deal-all → tie.Start
+Entry k = k .before .before .before .before .before
+
+-- the text with the lines
+abbrev O : tie.After-put-lines → List ℕ
+O k = k .put-lines .last .1 .1 .1 .1 .1 .1 .1 .1 .0
+
+long : (k : tie.After-put-lines) → length (O k) ≡ maxText
+long k = k .put-lines .kept .1 .1 .1 .1 .1 .1 .1 .1 .0 ∙ Entry (Deals (Relays k)) .pre .3
+
+-- the last line, behind them
+last : (c : tie.After-length-of) → let a = c .before .before .before .before .before in
+    let p = Lines (a .before) in
+    let w = sentLine (a .sent-all .result) in
+    (c .length-of .result ≤ maxLine) × (c .length-of .result ≡ length w)
+    × (take (p .put-lines .result) (O p) ++ (c .before .before .before .sent-line .last .1 .0
+    ++ drop (length (O p) - p .put-lines .result) (drop (p .put-lines .result) (O p))) ≡ spliced (O p) (p .put-lines .result) w)
+last c =
+    let f = c .before .before .before in
+    let a = f .before .before in
+    let p = Lines (a .before) in
+    let o = O p in
+    let at = p .put-lines .result in
+    let x = a .sent-all .result in
+    let g = given-at o (sentLine x) at (f .sent-line .result) _ (omega (arith, sent-short x, p .put-lines .ensures .0))
+    (f .sent-line .ensures ∙ sent-written x (take (length o - at) (drop at o))) in
+    let e = c .length-of .ensures ∙ g .0 in
+    (omega (arith, e, sent-short x), e, g .1)
+
+slice-aggregate-deal-all : tie.Need-slice-aggregate-deal-all
+slice-aggregate-deal-all c = search needs
+
+slice-aggregate-deal-all-2 : tie.Need-slice-aggregate-deal-all-2
+slice-aggregate-deal-all-2 c = search needs
+
+deal-all-requires : tie.Need-deal-all-requires
+deal-all-requires c κs = search needs
+
+slice-aggregate-relay-on-one : tie.Need-slice-aggregate-relay-on-one
+slice-aggregate-relay-on-one c = search needs
+
+slice-aggregate-relay-on-one-2 : tie.Need-slice-aggregate-relay-on-one-2
+slice-aggregate-relay-on-one-2 c = search needs
+
+slice-aggregate-relay-on-one-3 : tie.Need-slice-aggregate-relay-on-one-3
+slice-aggregate-relay-on-one-3 c = search needs
+
+slice-aggregate-relay-on-one-4 : tie.Need-slice-aggregate-relay-on-one-4
+slice-aggregate-relay-on-one-4 c = search needs
+
+relay-on-one-requires : tie.Need-relay-on-one-requires
+relay-on-one-requires c κs = search needs
+
+slice-aggregate-put-lines : tie.Need-slice-aggregate-put-lines
+slice-aggregate-put-lines c = search needs
+
+slice-aggregate-put-lines-2 : tie.Need-slice-aggregate-put-lines-2
+slice-aggregate-put-lines-2 c = search needs
+
+slice-aggregate-put-lines-3 : tie.Need-slice-aggregate-put-lines-3
+slice-aggregate-put-lines-3 c = search needs
+
+slice-aggregate-put-lines-4 : tie.Need-slice-aggregate-put-lines-4
+slice-aggregate-put-lines-4 c = search needs
+
+put-lines-requires : tie.Need-put-lines-requires
+put-lines-requires c κs = search needs
+
+slice-aggregate-sent-all : tie.Need-slice-aggregate-sent-all
+slice-aggregate-sent-all c = search needs
+
+slice-aggregate-sent-all-2 : tie.Need-slice-aggregate-sent-all-2
+slice-aggregate-sent-all-2 c = search needs
+
+slice-aggregate-sent-all-3 : tie.Need-slice-aggregate-sent-all-3
+slice-aggregate-sent-all-3 c = search needs
+
+sent-all-requires : tie.Need-sent-all-requires
+sent-all-requires c κs =
+    let r = Relays (Lines c) in
+    let d = Deals r in
+    let y = d .deal-all .ensures in
+    (Entry d .pre .0, record { boxes-long = y .1; lens-long = y .2; slots = y .0 }, r .relay-on-one .ensures .1)
+
+sub-sent-line : tie.Need-sub-sent-line
+sub-sent-line c = search needs
+
+part-sent-line-start : tie.Need-part-sent-line-start
+part-sent-line-start c = search needs
+
+part-sent-line-end : tie.Need-part-sent-line-end
+part-sent-line-end c = search needs
+
+sent-line-requires : tie.Need-sent-line-requires
+sent-line-requires c κs = search needs
+
+length-of-requires : tie.Need-length-of-requires
+length-of-requires c κs = search needs
+
+add-result : tie.Need-add-result
+add-result c =
+    let p = Lines (c .before .before .before .before .before .before) in
+    omega (arith, last c .0, p .put-lines .ensures .0, long p)
+
+same-length : tie.Need-same-length
+same-length c = search needs
+
+returns : tie.Need-returns
+returns c =
+    let a = c .before .before .before .before .before in
+    let p = Lines (a .before) in
+    let st = Entry (Deals (Relays p)) in
+    let o = O p in
+    let at = p .put-lines .result in
+    let x = a .sent-all .result in
+    let y = last c in
+    let z = p .put-lines .ensures in (
+      omega (arith, y .0, z .0, y .1, ap length (y .2), length-spliced o at (sentLine x) (omega (arith, y .0, y .1, z .0))),
+      take-behind o _ (sentLine x) at (c .length-of .result) (omega (arith, z .0)) (y .1) (y .2)
+          ∙ output-is sha256 (st .args .bytes .now) (take at o) x (z .1) (a .sent-all .ensures),
+    )
+
+pub play-spec : {M : Type 1} → statement M
+play-spec =
+    tie.close
+    (tie.spec
+    slice-aggregate-deal-all
+    slice-aggregate-deal-all-2
+    deal-all-requires
+    slice-aggregate-relay-on-one
+    slice-aggregate-relay-on-one-2
+    slice-aggregate-relay-on-one-3
+    slice-aggregate-relay-on-one-4
+    relay-on-one-requires
+    slice-aggregate-put-lines
+    slice-aggregate-put-lines-2
+    slice-aggregate-put-lines-3
+    slice-aggregate-put-lines-4
+    put-lines-requires
+    slice-aggregate-sent-all
+    slice-aggregate-sent-all-2
+    slice-aggregate-sent-all-3
+    sent-all-requires
+    sub-sent-line
+    part-sent-line-start
+    part-sent-line-end
+    sent-line-requires
+    length-of-requires
+    add-result
+    same-length
+    returns)
