@@ -10,8 +10,8 @@ use stream::MAX_CASES;
 use stream::Next;
 use stream::Tally;
 
-// The greatest length of a plan here: twice the one that is taken, and more.
-const MAX_INPUT: usize = 130_000;
+// The greatest length of a plan here: several times the one that is taken.
+const MAX_INPUT: usize = 400_000;
 
 // The bytes of a case in front of its plan.
 const FRONT: usize = 38;
