@@ -923,9 +923,13 @@ fn opened(file: &mut File, n: u64, t: u64, own: u64, message: &[u8]) {
     file.two_calls();
 }
 
+/// How many lists of calls in no order, so that the calls of steps are at least so many.
+const LISTS: usize = 410;
+const LEAST_CALLS: usize = 20_000;
+
 /// Lists of calls and changes in no order.
 fn wander(file: &mut File) {
-    for _ in 0..40 {
+    for _ in 0..LISTS {
         let (n, t) = groups().nth(file.random.below(72)).expect("72 groups");
         let length = file.random.below(12);
         let message = file.random.bytes(length);
@@ -1026,6 +1030,12 @@ fn main() {
     wander(&mut file);
     file.out.finish();
     eprintln!("by kind and answer: {:?}", file.answers);
+    let calls: usize = file
+        .answers
+        .range((2, 0)..(6, 0))
+        .map(|(_, times)| times)
+        .sum();
+    assert!(calls >= LEAST_CALLS, "{calls} calls");
     for (kind, answers) in WANTED {
         for &answer in answers {
             let times = file.answers.get(&(kind, answer)).copied();
