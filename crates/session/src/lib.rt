@@ -673,6 +673,13 @@ fn first_inbox(
     at
 }
 
+// An inbox before anything stands in it, in a function of its own: its callers' proofs then meet its length and not its bytes.
+fn blank_inbox() -> [u8; MAX_INBOX]
+    ensures { λ r. ⌜ length r ≡ maxInbox ⌝ }
+{
+    [0; MAX_INBOX]
+}
+
 // Party q after step 4, its relay in out.
 fn relayed(
     bytes: &[u8],
@@ -692,7 +699,7 @@ fn relayed(
 {
     let mut outbox = [0u8; MAX_OUTBOX];
     let Step { state, .. } = dealt(bytes, parts, root, bit, q, &mut outbox);
-    let mut inbox = [0u8; MAX_INBOX];
+    let mut inbox = blank_inbox();
     let len = first_inbox(bytes, parts, boxes, lens, q, &mut inbox);
     state.take_shares(&inbox[..len], out)
 }
@@ -856,7 +863,7 @@ fn ended(
 {
     let mut relay = [0u8; MAX_PACKET];
     let Step { state, .. } = relayed(bytes, parts, root, bit, boxes, lens, q, &mut relay);
-    let mut inbox = [0u8; MAX_INBOX];
+    let mut inbox = blank_inbox();
     let len = second_inbox(bytes, parts, relays, sizes, q, &mut inbox);
     state.take_relays(&inbox[..len], out)
 }

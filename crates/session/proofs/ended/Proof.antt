@@ -1,14 +1,12 @@
 -- `session::ended` meets its contract: step 5 of the party after step 4, on its second inbox. Assumes nothing.
 use mathlib.Core.Path.{sym, ap, ap₂, _∙_}
 use mathlib.Core.List.{List}
-use Prim.Native.Nat.{ℕ, zero}
-use lib.ListN.{length-replicate}
+use Prim.Native.Nat.{ℕ}
 use lib.Seq.{length-take-le}
 use Rattle.sha256.specs.Sha256.{sha256}
 use Rattle.party.specs.Steps.{Stepped, takeRelaysOf}
 use Rattle.party.specs.declared.Party.{Party}
 use Rattle.session.specs.Session.{step4, secondInbox, step5}
-use Rattle.session.specs.Private.{maxInbox}
 use borrow.Author.Needs.{needs}
 use Rattle.session.proofs.ended.Statement.{statement}
 use Rattle.session.proofs.ended.Tie as tie
@@ -19,13 +17,14 @@ slice-aggregate-relayed c = search needs
 relayed-requires : tie.Need-relayed-requires
 relayed-requires c κs = search needs
 
+blank-inbox-requires : tie.Need-blank-inbox-requires
+blank-inbox-requires c κs = search needs
+
 slice-aggregate-second-inbox : tie.Need-slice-aggregate-second-inbox
-slice-aggregate-second-inbox c = sym (length-replicate maxInbox zero)
+slice-aggregate-second-inbox c = search needs
 
 second-inbox-requires : tie.Need-second-inbox-requires
-second-inbox-requires c κs =
-    let st = c .before .before .before .before .before .before .before .before .before .before .before in
-    (st .pre .0, st .pre .8, st .pre .9, length-replicate maxInbox zero, st .pre .10)
+second-inbox-requires c κs = search needs
 
 array-share-prefix-inbox : tie.Need-array-share-prefix-inbox
 array-share-prefix-inbox c = c .before .second-inbox .ensures .0
@@ -46,7 +45,7 @@ unfolding step5
 returns c =
     let w = c .before .before in
     let f = w .before .before .before .before in
-    let d = f .before .before .before .before in
+    let d = f .before .before .before .before .before in
     let st = d .before .before .before .before .before .before .before .before in
     let a = st .args in
     let s = a .bytes .now in
@@ -62,6 +61,7 @@ ended-spec =
     (tie.spec
     slice-aggregate-relayed
     relayed-requires
+    blank-inbox-requires
     slice-aggregate-second-inbox
     second-inbox-requires
     array-share-prefix-inbox

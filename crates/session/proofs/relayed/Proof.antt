@@ -1,14 +1,12 @@
 -- `session::relayed` meets its contract: step 4 of the party after step 3, on its first inbox. Assumes nothing.
 use mathlib.Core.Path.{sym, ap, ap₂, _∙_}
 use mathlib.Core.List.{List}
-use Prim.Native.Nat.{ℕ, zero}
-use lib.ListN.{length-replicate}
+use Prim.Native.Nat.{ℕ}
 use lib.Seq.{length-take-le}
 use Rattle.sha256.specs.Sha256.{sha256}
 use Rattle.party.specs.Steps.{Stepped, takeSharesOf}
 use Rattle.party.specs.declared.Party.{Party}
 use Rattle.session.specs.Session.{step3, firstInbox, step4}
-use Rattle.session.specs.Private.{maxInbox}
 use borrow.Author.Needs.{needs}
 use Rattle.session.proofs.relayed.Statement.{statement}
 use Rattle.session.proofs.relayed.Tie as tie
@@ -19,13 +17,14 @@ slice-aggregate-dealt c = search needs
 dealt-requires : tie.Need-dealt-requires
 dealt-requires c κs = search needs
 
+blank-inbox-requires : tie.Need-blank-inbox-requires
+blank-inbox-requires c κs = search needs
+
 slice-aggregate-first-inbox : tie.Need-slice-aggregate-first-inbox
-slice-aggregate-first-inbox c = sym (length-replicate maxInbox zero)
+slice-aggregate-first-inbox c = search needs
 
 first-inbox-requires : tie.Need-first-inbox-requires
-first-inbox-requires c κs =
-    let st = c .before .before .before .before .before .before .before .before .before in
-    (st .pre .0, st .pre .3, st .pre .4, st .pre .5, st .pre .6, length-replicate maxInbox zero, st .pre .7)
+first-inbox-requires c κs = search needs
 
 array-share-prefix-inbox : tie.Need-array-share-prefix-inbox
 array-share-prefix-inbox c = c .before .first-inbox .ensures .0
@@ -46,7 +45,7 @@ unfolding step4
 returns c =
     let w = c .before .before in
     let f = w .before .before .before .before in
-    let d = f .before .before .before .before in
+    let d = f .before .before .before .before .before in
     let st = d .before .before .before .before .before .before in
     let a = st .args in
     let s = a .bytes .now in
@@ -62,6 +61,7 @@ relayed-spec =
     (tie.spec
     slice-aggregate-dealt
     dealt-requires
+    blank-inbox-requires
     slice-aggregate-first-inbox
     first-inbox-requires
     array-share-prefix-inbox
