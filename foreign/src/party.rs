@@ -174,9 +174,9 @@ impl State {
                 Vec::new()
             } else if party.happy() {
                 party.packet(party.own)
-            } else if let Some((packet, share)) = party.lowest(&senders) {
+            } else if let Some((sender, share)) = party.lowest(&senders) {
                 party.held = share;
-                packet.to_vec()
+                senders[sender - 1].to_vec()
             } else {
                 Vec::new()
             };
@@ -200,6 +200,26 @@ impl State {
             };
             Ok((party.ended(found), written))
         })
+    }
+
+    /// The sender whose share step 4 takes from this inbox; none for a happy party.
+    pub fn source(&self, inbox: &[u8]) -> Option<usize> {
+        let (party, senders) = self.unhappy(inbox)?;
+        Some(party.lowest(&senders)?.0)
+    }
+
+    /// The shares that step 5 rebuilds from with this inbox, by number, no bytes standing for a
+    /// missing one; none for a happy party.
+    pub fn gathered(&self, inbox: &[u8]) -> Option<Vec<Vec<u8>>> {
+        let (party, senders) = self.unhappy(inbox)?;
+        Some(party.gathered(&senders))
+    }
+
+    /// The values of a lawful, unhappy state, with the packets in its inbox.
+    fn unhappy<'a>(&self, inbox: &'a [u8]) -> Option<(Party, Vec<&'a [u8]>)> {
+        let party = self.lawful().filter(|party| !party.happy())?;
+        let senders = entries(party.n, inbox).ok()?;
+        Some((party, senders))
     }
 
     /// Judges the state and the turn, then does the step; a refused one keeps the state.
@@ -264,24 +284,28 @@ impl Party {
         }
     }
 
-    /// The packet of the lowest other sender that holds a valid share for this party, and
-    /// that share.
-    fn lowest<'a>(&self, senders: &[&'a [u8]]) -> Option<(&'a [u8], Vec<u8>)> {
+    /// The lowest other sender whose packet holds a valid share for this party, and that share.
+    fn lowest(&self, senders: &[&[u8]]) -> Option<(usize, Vec<u8>)> {
         (1..)
             .zip(senders)
             .filter(|&(sender, _)| sender != self.own)
-            .find_map(|(_, &packet)| Some((packet, self.valid(self.own, packet)?)))
+            .find_map(|(sender, packet)| Some((sender, self.valid(self.own, packet)?)))
     }
 
-    /// The message in the valid relays and the party's own relayed share.
-    fn rebuilt(&self, senders: &[&[u8]]) -> Option<Vec<u8>> {
-        let present: Vec<Vec<u8>> = (1..)
+    /// The valid relays and the party's own relayed share.
+    fn gathered(&self, senders: &[&[u8]]) -> Vec<Vec<u8>> {
+        (1..)
             .zip(senders)
             .map(|(sender, packet)| match sender == self.own {
                 true => self.held.clone(),
                 false => self.valid(sender, packet).unwrap_or_default(),
             })
-            .collect();
+            .collect()
+    }
+
+    /// The message in what was gathered.
+    fn rebuilt(&self, senders: &[&[u8]]) -> Option<Vec<u8>> {
+        let present = self.gathered(senders);
         let mut message = vec![0; LONGEST_MESSAGE];
         match rebuild(self.n, self.t, &lay_out(&present), &mut message) {
             Answer::Done(length) => Some(message[..length].to_vec()),

@@ -131,7 +131,8 @@ fn kind(random: &mut Random) -> (Size, Vec<Damage>) {
     }
 }
 
-fn map_of<'a>(parties: impl IntoIterator<Item = &'a usize>) -> [u8; 2] {
+/// The two-byte map of these parties, each from 1 to 16.
+pub fn map_of<'a>(parties: impl IntoIterator<Item = &'a usize>) -> [u8; 2] {
     let bits = parties.into_iter().map(|party| 1u16 << (party - 1));
     bits.fold(0, |map, bit| map | bit).to_be_bytes()
 }

@@ -1,6 +1,7 @@
 //! The rehearsal: plays the good parties of a session against a plan of what the bad ones
 //! send, and tells how each good party ended and how many bytes they sent. A plan is read
-//! to its end, then judged, then played by the steps of party.rs.
+//! to its end, then judged, then played by the steps of party.rs. What was seen on the way is
+//! kept for whoever explains a session.
 
 use crate::coder::{LONGEST_MESSAGE, MOST_PARTIES};
 use crate::inbox::{entries, lay_out};
@@ -13,123 +14,243 @@ pub const LONGEST_PLAN: usize = 60_000;
 pub const ROOT_GIVEN: u8 = 1;
 pub const BIT_GIVEN: u8 = 2;
 
-const BAD_LAYOUT: u32 = 13;
-const AGAINST_THE_RULE: u32 = 14;
-
 /// More bytes than any step writes.
 const ROOM: usize = 20_000;
 
-/// What is sent in one exchange: for each sender a row, in it a packet for each receiver.
-/// No bytes stand where nothing is sent.
-type Exchange = Vec<Vec<Vec<u8>>>;
+/// What is sent in one exchange: for each sender a row, in it for each receiver a packet, or
+/// none where nothing is sent.
+pub type Exchange = Vec<Vec<Option<Vec<u8>>>>;
 
 /// A plan that is well laid out, with the good parties' numbers upward and their messages.
-struct Plan {
-    n: usize,
-    t: usize,
-    root: Option<Hash>,
-    bit: Option<u8>,
-    good: Vec<usize>,
-    messages: Vec<Vec<u8>>,
-    first: Exchange,
-    second: Exchange,
+pub struct Plan {
+    pub n: usize,
+    pub t: usize,
+    pub root: Option<Hash>,
+    pub bit: Option<u8>,
+    pub good: Vec<usize>,
+    pub messages: Vec<Vec<u8>>,
+    pub first: Exchange,
+    pub second: Exchange,
 }
 
-/// How the good parties ended, with their numbers, and the bytes they sent.
-struct Ending {
-    results: Vec<(usize, Option<Vec<u8>>)>,
-    sent: usize,
+/// Why a plan is refused.
+#[derive(Clone, Copy, Debug, PartialEq, Eq)]
+pub enum Fault {
+    Parties,
+    Limit,
+    TooLong,
+    Layout(Misfit),
+    /// The party whose message is too long.
+    LongMessage(usize),
+    TooManyBad,
+    BitAbove,
+    RootAgainst,
+    BitAgainst,
+}
+
+impl Fault {
+    pub fn cause(self) -> u32 {
+        match self {
+            Fault::Parties => 1,
+            Fault::Limit => 2,
+            Fault::LongMessage(_) => 4,
+            Fault::TooLong | Fault::Layout(_) => 13,
+            Fault::TooManyBad | Fault::BitAbove | Fault::RootAgainst | Fault::BitAgainst => 14,
+        }
+    }
+}
+
+/// Where a plan is badly laid out: where the field begins that cannot stand there, what it is
+/// part of, and how many bytes it lacks; 0 if they are there, but are not lawful.
+#[derive(Clone, Copy, Debug, PartialEq, Eq)]
+pub struct Misfit {
+    pub place: usize,
+    pub part: Part,
+    pub missing: usize,
+}
+
+/// A part of a plan. Exchanges are 0 and 1.
+#[derive(Clone, Copy, Debug, PartialEq, Eq)]
+pub enum Part {
+    Head,
+    Options,
+    Root,
+    Bit,
+    Good,
+    Message(usize),
+    Receivers {
+        exchange: usize,
+        sender: usize,
+    },
+    Packet {
+        exchange: usize,
+        sender: usize,
+        receiver: usize,
+    },
+    End,
+}
+
+/// A session played to its end, with what was seen on the way. The lists have one entry for
+/// each good party, upward.
+pub struct Session {
+    /// The plan, its exchanges completed with what the good parties sent.
+    pub plan: Plan,
+    pub roots: Vec<Hash>,
+    pub root: Hash,
+    pub bits: Vec<u8>,
+    pub bit: u8,
+    /// None on bit 0.
+    pub takings: Option<Takings>,
+    pub results: Vec<Option<Vec<u8>>>,
+}
+
+/// What the good parties took from the exchanges.
+pub struct Takings {
+    /// The sender whose share an unhappy party took, if one passed.
+    pub sources: Vec<Option<usize>>,
+    /// The shares an unhappy party rebuilt from, by number, with no bytes for missing ones.
+    pub gathered: Vec<Option<Vec<Vec<u8>>>>,
 }
 
 /// What the rehearsal prints for a plan.
 pub fn rehearse(plan: &[u8]) -> Vec<u8> {
-    match judged(plan).and_then(played) {
-        Ok(ending) => told(&ending),
-        Err(cause) => format!("refused {cause}\n"),
+    match play(plan) {
+        Ok(session) => session.report(),
+        Err(fault) => format!("refused {}\n", fault.cause()),
     }
     .into_bytes()
 }
 
-fn told(ending: &Ending) -> String {
-    let mut text = String::new();
-    for (number, result) in &ending.results {
-        text += &match result {
-            None => format!("{number} -\n"),
-            Some(message) if message.is_empty() => format!("{number} =\n"),
-            Some(message) => format!("{number} = {}\n", hex(message)),
-        };
+/// The session that the plan tells, or why it is refused.
+pub fn play(plan: &[u8]) -> Result<Session, Fault> {
+    judged(plan).and_then(played)
+}
+
+impl Session {
+    /// The lines that the rehearsal prints.
+    pub fn report(&self) -> String {
+        let mut text = String::new();
+        for (number, result) in self.plan.good.iter().zip(&self.results) {
+            text += &match result {
+                None => format!("{number} -\n"),
+                Some(message) if message.is_empty() => format!("{number} =\n"),
+                Some(message) => format!("{number} = {}\n", hex(message)),
+            };
+        }
+        let sent: usize = self.bytes_sent().iter().sum();
+        text + &format!("sent {sent}\n")
     }
-    text + &format!("sent {}\n", ending.sent)
+
+    /// The packets' bytes in the rows of the good parties, exchange by exchange.
+    pub fn bytes_sent(&self) -> [usize; 2] {
+        [&self.plan.first, &self.plan.second].map(|exchange| {
+            let rows = self.plan.good.iter().map(|own| &exchange[own - 1]);
+            rows.flatten().flatten().map(Vec::len).sum()
+        })
+    }
 }
 
 /// The plan, or the first cause in the order 13 for under two bytes, 1, 2, 13, 4, 14. What
 /// the rule of the short agreement says of root and bit is left to the play.
-fn judged(bytes: &[u8]) -> Result<Plan, u32> {
-    let &[n, t, ref behind @ ..] = bytes else {
-        return Err(BAD_LAYOUT);
+fn judged(bytes: &[u8]) -> Result<Plan, Fault> {
+    let &[n, t, ..] = bytes else {
+        return read(bytes).map_err(Fault::Layout);
     };
     let (n, t) = (usize::from(n), usize::from(t));
     if !(1..=MOST_PARTIES).contains(&n) {
-        return Err(1);
+        return Err(Fault::Parties);
     }
     if 2 * t >= n {
-        return Err(2);
+        return Err(Fault::Limit);
     }
     if bytes.len() > LONGEST_PLAN {
-        return Err(BAD_LAYOUT);
+        return Err(Fault::TooLong);
     }
-    let plan = read(n, t, behind).ok_or(BAD_LAYOUT)?;
-    if plan.messages.iter().any(|it| it.len() > LONGEST_MESSAGE) {
-        return Err(4);
+    let plan = read(bytes).map_err(Fault::Layout)?;
+    let mut books = plan.good.iter().zip(&plan.messages);
+    if let Some((&party, _)) = books.find(|it| it.1.len() > LONGEST_MESSAGE) {
+        return Err(Fault::LongMessage(party));
     }
-    if n - plan.good.len() > t || plan.bit.is_some_and(|bit| bit > 1) {
-        return Err(AGAINST_THE_RULE);
+    if n - plan.good.len() > t {
+        return Err(Fault::TooManyBad);
+    }
+    if plan.bit.is_some_and(|bit| bit > 1) {
+        return Err(Fault::BitAbove);
     }
     Ok(plan)
 }
 
-/// The plan whose bytes behind n and t these are; none if it is badly laid out.
-fn read(n: usize, t: usize, bytes: &[u8]) -> Option<Plan> {
-    let mut rest = Rest(bytes);
-    let options = rest.one()?;
-    if options & !(ROOT_GIVEN | BIT_GIVEN) != 0 {
-        return None;
-    }
-    let root = match options & ROOT_GIVEN {
-        0 => None,
-        _ => Some(rest.root()?),
+/// The plan whose bytes these are, whatever n and t, or where it is badly laid out.
+pub fn read(bytes: &[u8]) -> Result<Plan, Misfit> {
+    let mut rest = Rest {
+        bytes,
+        whole: bytes.len(),
+        seen: Misfit {
+            place: 0,
+            part: Part::Head,
+            missing: 0,
+        },
     };
-    let bit = match options & BIT_GIVEN {
-        0 => None,
-        _ => Some(rest.one()?),
-    };
-    let good = rest.parties()?;
-    if good.iter().any(|&party| party > n) {
-        return None;
-    }
-    let messages = good.iter().map(|_| rest.counted());
-    let messages = messages.collect::<Option<_>>()?;
-    let first = rest.exchange(n, &good)?;
-    let second = rest.exchange(n, &good)?;
-    rest.0.is_empty().then_some(Plan {
-        n,
-        t,
-        root,
-        bit,
-        good,
-        messages,
-        first,
-        second,
-    })
+    rest.plan().ok_or(rest.seen)
 }
 
-/// The bytes that are not read yet; reading gives none where they run short.
-struct Rest<'a>(&'a [u8]);
+/// The bytes that are not read yet, and what was read last; reading gives none where they run
+/// short.
+struct Rest<'a> {
+    bytes: &'a [u8],
+    whole: usize,
+    seen: Misfit,
+}
 
 impl<'a> Rest<'a> {
+    fn plan(&mut self) -> Option<Plan> {
+        let (n, t) = (self.one()?.into(), self.one()?.into());
+        let options = self.part(Part::Options).one()?;
+        if options & !(ROOT_GIVEN | BIT_GIVEN) != 0 {
+            return None;
+        }
+        let root = match options & ROOT_GIVEN {
+            0 => None,
+            _ => Some(self.part(Part::Root).root()?),
+        };
+        let bit = match options & BIT_GIVEN {
+            0 => None,
+            _ => Some(self.part(Part::Bit).one()?),
+        };
+        let good = self.part(Part::Good).parties()?;
+        if good.iter().any(|&party| party > n) {
+            return None;
+        }
+        let messages = good
+            .iter()
+            .map(|&party| self.part(Part::Message(party)).counted());
+        let messages = messages.collect::<Option<_>>()?;
+        let first = self.exchange(0, n, &good)?;
+        let second = self.exchange(1, n, &good)?;
+        self.part(Part::End).take(0)?;
+        self.bytes.is_empty().then_some(Plan {
+            n,
+            t,
+            root,
+            bit,
+            good,
+            messages,
+            first,
+            second,
+        })
+    }
+
+    /// What is read from here on is part of this.
+    fn part(&mut self, part: Part) -> &mut Self {
+        self.seen.part = part;
+        self
+    }
+
     fn take(&mut self, length: usize) -> Option<&'a [u8]> {
-        let (taken, behind) = self.0.split_at_checked(length)?;
-        self.0 = behind;
+        self.seen.place = self.whole - self.bytes.len();
+        self.seen.missing = length.saturating_sub(self.bytes.len());
+        let (taken, behind) = self.bytes.split_at_checked(length)?;
+        self.bytes = behind;
         Some(taken)
     }
 
@@ -160,56 +281,59 @@ impl<'a> Rest<'a> {
 
     /// What the bad parties send in one exchange; the rows of the good ones stay empty. Only
     /// good parties are receivers.
-    fn exchange(&mut self, n: usize, good: &[usize]) -> Option<Exchange> {
-        let mut exchange = vec![vec![Vec::new(); n]; n];
+    fn exchange(&mut self, exchange: usize, n: usize, good: &[usize]) -> Option<Exchange> {
+        let mut rows = vec![vec![None; n]; n];
         for sender in (1..=n).filter(|party| !good.contains(party)) {
-            for receiver in self.parties()? {
-                if !good.contains(&receiver) {
-                    return None;
-                }
-                exchange[sender - 1][receiver - 1] = self.counted()?;
+            let receivers = self.part(Part::Receivers { exchange, sender }).parties()?;
+            if receivers.iter().any(|receiver| !good.contains(receiver)) {
+                return None;
+            }
+            for receiver in receivers {
+                let part = Part::Packet {
+                    exchange,
+                    sender,
+                    receiver,
+                };
+                rows[sender - 1][receiver - 1] = Some(self.part(part).counted()?);
             }
         }
-        Some(exchange)
+        Some(rows)
     }
 }
 
 /// The value of a short agreement: the one given, or else the lowest party's. Where all put
 /// in the same it can be no other.
-fn agreed<T: Copy + PartialEq>(given: Option<T>, put_in: &[T]) -> Result<T, u32> {
+fn agreed<T: Copy + PartialEq>(given: Option<T>, put_in: &[T]) -> Option<T> {
     let value = given.unwrap_or(put_in[0]);
     let common = put_in.iter().all(|it| *it == put_in[0]);
-    match common && value != put_in[0] {
-        true => Err(AGAINST_THE_RULE),
-        false => Ok(value),
-    }
+    (!common || value == put_in[0]).then_some(value)
 }
 
 /// Plays the good parties. There is at least one, since fewer than n parties are bad.
-fn played(plan: Plan) -> Result<Ending, u32> {
-    let (n, good) = (plan.n, &plan.good);
+fn played(mut plan: Plan) -> Result<Session, Fault> {
     let (states, roots) = opened(&plan);
-    let root = agreed(plan.root, &roots)?;
+    let root = agreed(plan.root, &roots).ok_or(Fault::RootAgainst)?;
     let (states, bits) = each(states, |state| state.agree_root(&root));
     let bits: Vec<u8> = bits.into_iter().map(u8::from).collect();
-    let bit = agreed(plan.bit, &bits)?;
+    let bit = agreed(plan.bit, &bits).ok_or(Fault::BitAgainst)?;
     let (mut states, outboxes) = each(states, |state| written(|out| state.agree_bit(bit, out)));
-    let mut first = plan.first;
-    for (own, outbox) in good.iter().zip(&outboxes) {
-        let packets = entries(n, outbox).expect("an outbox is laid out like an inbox");
-        first[own - 1] = packets.into_iter().map(<[u8]>::to_vec).collect();
+    for (own, outbox) in plan.good.iter().zip(&outboxes) {
+        let packets = entries(plan.n, outbox).expect("an outbox is laid out like an inbox");
+        plan.first[own - 1] = packets.into_iter().map(sent).collect();
     }
-    let mut second = plan.second;
+    let mut takings = None;
     if bit == 1 {
-        states = exchanged(states, good, &first, &mut second);
+        let (ended, taken) = exchanged(states, &mut plan);
+        (states, takings) = (ended, Some(taken));
     }
-    Ok(Ending {
-        sent: bytes_sent(&first, good) + bytes_sent(&second, good),
-        results: good
-            .iter()
-            .copied()
-            .zip(states.iter().map(result))
-            .collect(),
+    Ok(Session {
+        results: states.iter().map(result).collect(),
+        plan,
+        roots,
+        root,
+        bits,
+        bit,
+        takings,
     })
 }
 
@@ -222,24 +346,23 @@ fn opened(plan: &Plan) -> (Vec<State>, Vec<Hash>) {
 
 /// Steps 4 and 5: takes the first inboxes, puts the relays into the second exchange, and
 /// takes the second inboxes.
-fn exchanged(
-    states: Vec<State>,
-    good: &[usize],
-    first: &Exchange,
-    second: &mut Exchange,
-) -> Vec<State> {
-    let places = states.into_iter().zip(good).collect();
-    let (states, relays) = each(places, |(state, &own)| {
-        written(|out| state.take_shares(&inbox(first, own), out))
+fn exchanged(states: Vec<State>, plan: &mut Plan) -> (Vec<State>, Takings) {
+    let places = with_inboxes(states, &plan.good, &plan.first);
+    let sources = places.iter().map(|(state, inbox)| state.source(inbox));
+    let sources = sources.collect();
+    let (states, relays) = each(places, |(state, inbox)| {
+        written(|out| state.take_shares(&inbox, out))
     });
-    for (&own, relay) in good.iter().zip(relays) {
-        second[own - 1] = to_all_others(second.len(), own, &relay);
+    for (&own, relay) in plan.good.iter().zip(relays) {
+        plan.second[own - 1] = to_all_others(plan.n, own, &relay);
     }
-    let places = states.into_iter().zip(good).collect();
-    let (states, _) = each(places, |(state, &own)| {
-        state.take_relays(&inbox(second, own), &mut [0; LONGEST_MESSAGE])
+    let places = with_inboxes(states, &plan.good, &plan.second);
+    let gathered = places.iter().map(|(state, inbox)| state.gathered(inbox));
+    let gathered = gathered.collect();
+    let (states, _) = each(places, |(state, inbox)| {
+        state.take_relays(&inbox, &mut [0; LONGEST_MESSAGE])
     });
-    states
+    (states, Takings { sources, gathered })
 }
 
 /// Does one step of each party, none of which is refused.
@@ -257,25 +380,27 @@ fn written(step: impl FnOnce(&mut [u8]) -> Given<usize>) -> Given<Vec<u8>> {
     (state, answer.map(|length| out[..length].to_vec()))
 }
 
-/// What the receiver gets, sender by sender; the own row has no bytes for itself.
-fn inbox(exchange: &Exchange, receiver: usize) -> Vec<u8> {
-    let packets = exchange.iter().map(|row| &row[receiver - 1]);
-    lay_out(&packets.collect::<Vec<_>>())
+/// Each party with what it gets, sender by sender; the own row has no bytes for itself.
+fn with_inboxes(states: Vec<State>, good: &[usize], exchange: &Exchange) -> Vec<(State, Vec<u8>)> {
+    let inbox = |own: &usize| {
+        let packets = exchange.iter().map(|row| row[own - 1].as_deref());
+        lay_out(&packets.map(Option::unwrap_or_default).collect::<Vec<_>>())
+    };
+    states.into_iter().zip(good.iter().map(inbox)).collect()
+}
+
+/// What a good party wrote for another; no bytes are no packet.
+fn sent(packet: &[u8]) -> Option<Vec<u8>> {
+    (!packet.is_empty()).then(|| packet.to_vec())
 }
 
 /// A sender's row in the second exchange.
-fn to_all_others(n: usize, own: usize, relay: &[u8]) -> Vec<Vec<u8>> {
+fn to_all_others(n: usize, own: usize, relay: &[u8]) -> Vec<Option<Vec<u8>>> {
     let packet = |receiver| match receiver == own {
-        true => Vec::new(),
-        false => relay.to_vec(),
+        true => None,
+        false => sent(relay),
     };
     (1..=n).map(packet).collect()
-}
-
-/// The packets' bytes in the rows of the good parties.
-fn bytes_sent(exchange: &Exchange, good: &[usize]) -> usize {
-    let rows = good.iter().map(|own| &exchange[own - 1]);
-    rows.flatten().map(Vec::len).sum()
 }
 
 /// What an ended state holds.
@@ -290,6 +415,7 @@ fn result(state: &State) -> Option<Vec<u8>> {
 #[cfg(test)]
 mod tests {
     use super::*;
+    use crate::liars::Sharing;
 
     /// No packet from one bad party, in either exchange.
     const SILENT: &[u8] = &[0, 0, 0, 0];
@@ -558,5 +684,45 @@ mod tests {
         assert_eq!(cause(&[&refused[..], &[0]].concat()), 13);
         assert_eq!(cause(&refused[..refused.len() - 1]), 13);
         assert_eq!(cause(&of_three(&[6, 2], [b"A", b"B"])), 13);
+    }
+
+    /// Party 1 lies to party 3 and is honest to party 4; both are unhappy.
+    #[test]
+    fn what_was_taken_is_kept() {
+        let packet = |number| Sharing::of(5, 2, b"A").packet(number);
+        let first = [&[0, 12][..], &lay_out(&[packet(2), packet(4)])].concat();
+        let books: [&[u8]; 4] = [b"A", b"B", b"C", b"A"];
+        let bytes = plan(&[5, 2, 0], 0x1E, &books, &[&first[..], &[0, 0]].concat());
+        let session = play(&bytes).expect("a sound plan");
+        assert_eq!((session.bits, session.bit), (vec![1, 0, 0, 1], 1));
+        let takings = session.takings.expect("bit 1");
+        assert_eq!(takings.sources, [None, Some(2), Some(1), None]);
+        let gathered = takings.gathered[1].as_ref().expect("unhappy");
+        let present = gathered.iter().map(|share| !share.is_empty());
+        assert!(present.eq([false, true, true, true, true]));
+        assert_eq!(takings.gathered[0], None);
+    }
+
+    #[test]
+    fn a_misfit_tells_its_place() {
+        let sound = of_three(&[2, 1], [b"AB", b"AB"]);
+        let misfit = |bytes: &[u8]| read(bytes).err().map(|it| (it.place, it.part, it.missing));
+        let receivers = |exchange| Part::Receivers {
+            exchange,
+            sender: 3,
+        };
+        assert_eq!(misfit(&sound), None);
+        assert_eq!(misfit(&sound[..1]), Some((1, Part::Head, 1)));
+        assert_eq!(misfit(&sound[..3]), Some((3, Part::Bit, 1)));
+        assert_eq!(misfit(&sound[..5]), Some((4, Part::Good, 1)));
+        assert_eq!(misfit(&sound[..9]), Some((8, Part::Message(1), 1)));
+        assert_eq!(misfit(&sound[..17]), Some((16, receivers(1), 1)));
+        let more = [&sound[..], &[0]].concat();
+        assert_eq!(misfit(&more), Some((18, Part::End, 0)));
+        let mut changed = sound.clone();
+        changed[15] = 4;
+        assert_eq!(misfit(&changed), Some((14, receivers(0), 0)));
+        changed[2] = 4;
+        assert_eq!(misfit(&changed), Some((2, Part::Options, 0)));
     }
 }
