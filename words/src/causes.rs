@@ -1,0 +1,82 @@
+//! Why a plan is refused, in document 01's words and for the plan at hand.
+
+use foreign::rehearsal::{Fault, Misfit, Part};
+
+/// The words of the table of causes, for those that a plan can have.
+pub fn words(cause: u32) -> &'static str {
+    match cause {
+        1 => "n outside 1 to 16",
+        2 => "2·t ≥ n",
+        4 => "book over 1,024, or string to hash over 65,535 bytes",
+        13 => "plan badly laid out, or over 60,000 bytes",
+        _ => {
+            "plan with over t bad parties, or a root or bit against the rule of the short agreement"
+        }
+    }
+}
+
+/// What is wrong with these bytes.
+pub fn detail(fault: Fault, plan: &[u8]) -> String {
+    match fault {
+        Fault::Parties => format!("The plan has n {}.", plan[0]),
+        Fault::Limit => format!("The plan has n {} and t {}.", plan[0], plan[1]),
+        Fault::TooLong => format!("The plan has {} bytes.", plan.len()),
+        Fault::Layout(misfit) => place(misfit, plan.len()),
+        Fault::LongMessage(number) => format!("Box {number}'s book is too long."),
+        Fault::TooManyBad => "More boxes are bad than the limit allows.".to_string(),
+        Fault::BitAbove => "The bit that is given is neither 0 nor 1.".to_string(),
+        Fault::RootAgainst => "All good boxes have one root, and another one is given.".to_string(),
+        Fault::BitAgainst => "All good boxes have one bit, and another one is given.".to_string(),
+    }
+}
+
+/// Where the layout went wrong, or ran out.
+pub fn place(misfit: Misfit, length: usize) -> String {
+    let Misfit {
+        place,
+        part,
+        missing,
+    } = misfit;
+    let part = named(part);
+    let place = match missing {
+        0 => format!("At byte {place}: {}.", wrong(misfit.part)),
+        1 => format!("At byte {place}, in {part}, the plan runs out: 1 byte is missing."),
+        _ => format!("At byte {place}, in {part}, the plan runs out: {missing} bytes are missing."),
+    };
+    format!("{place} It has {length} bytes, counted from 0.")
+}
+
+fn named(part: Part) -> String {
+    let ordinal = |exchange: usize| ["first", "second"][exchange];
+    match part {
+        Part::Head => "n and t".to_string(),
+        Part::Options => "the option map".to_string(),
+        Part::Root => "the root".to_string(),
+        Part::Bit => "the bit".to_string(),
+        Part::Good => "the map of good boxes".to_string(),
+        Part::Message(number) => format!("box {number}'s book or its length"),
+        Part::Receivers { exchange, sender } => {
+            let exchange = ordinal(exchange);
+            format!("box {sender}'s map of receivers in the {exchange} exchange")
+        }
+        Part::Packet {
+            exchange,
+            sender,
+            receiver,
+        } => {
+            let exchange = ordinal(exchange);
+            format!("the packet from {sender} to {receiver} in the {exchange} exchange")
+        }
+        Part::End => "the end".to_string(),
+    }
+}
+
+/// What is wrong where no byte is missing.
+fn wrong(part: Part) -> String {
+    match part {
+        Part::Options => "the option map has an unknown option".to_string(),
+        Part::Good => "the map of good boxes has one beyond n".to_string(),
+        Part::End => "the plan is at its end, and bytes are left over".to_string(),
+        other => format!("{} has one that is not good", named(other)),
+    }
+}

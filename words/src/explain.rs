@@ -1,0 +1,108 @@
+//! A sitting told in text, round by round, for a person. The last lines are those that the
+//! rehearsal prints.
+
+use foreign::rehearsal::{rehearse, Fault, Takings};
+
+use crate::causes::{detail, words};
+use crate::text::written;
+use crate::view::{bytes, numbers, short, View};
+
+pub fn explain(plan: &[u8], named: &[(String, Vec<u8>)]) -> String {
+    let told = match View::new(plan, named) {
+        Ok(view) => view.told(),
+        Err(fault) => refused(fault, plan),
+    };
+    let printed = String::from_utf8(rehearse(plan)).expect("a text");
+    told + "\n" + &printed
+}
+
+/// Why a plan is refused.
+pub fn refused(fault: Fault, plan: &[u8]) -> String {
+    let (cause, detail) = (fault.cause(), detail(fault, plan));
+    format!("Refused with cause {cause}: {}.\n{detail}\n", words(cause))
+}
+
+impl View {
+    fn told(&self) -> String {
+        let plan = &self.session.plan;
+        let heading = format!(
+            "Sitting of {} boxes, at most {} of them bad; {} shares give a book back.\n",
+            plan.n,
+            plan.t,
+            plan.n - plan.t
+        );
+        let rest = match &self.session.takings {
+            Some(takings) => self.exchanges(takings),
+            None => "\nOn bit 0 every good box ends with nothing; \
+                what the plan says of the exchanges is not used.\n"
+                .to_string(),
+        };
+        heading + &self.openings() + &self.agreement() + &rest
+    }
+
+    fn openings(&self) -> String {
+        let mut text = "\nBooks\n".to_string();
+        for book in &self.books.known {
+            let (name, length) = (&book.name, bytes(book.message.len()));
+            text += &format!("  {name}, {length}: {}\n", written(&book.message));
+        }
+        text += "\nOpenings\n";
+        for (place, number) in self.session.plan.good.iter().enumerate() {
+            let root = short(&self.session.roots[place]);
+            text += &format!("  box {number} has {}, root {root}\n", self.book_of(place));
+        }
+        match &self.bad()[..] {
+            [] => text,
+            bad => text + &format!("  bad: {}\n", numbers(bad)),
+        }
+    }
+
+    fn agreement(&self) -> String {
+        let session = &self.session;
+        let mut text = format!(
+            "\nAgreed root {} {} ({})\n",
+            short(&session.root),
+            self.root_name(),
+            self.origin(session.plan.root.is_some())
+        );
+        for (place, number) in session.plan.good.iter().enumerate() {
+            let mood = ["unhappy", "happy"][usize::from(self.happy(place))];
+            text += &format!("  box {number} is {mood}, bit {}\n", session.bits[place]);
+        }
+        let origin = self.origin(session.plan.bit.is_some());
+        text + &format!("Agreed bit {} ({origin})\n", session.bit)
+    }
+
+    fn exchanges(&self, takings: &Takings) -> String {
+        let mut text = String::new();
+        for (exchange, title) in ["First", "Second"].into_iter().enumerate() {
+            text += &format!("\n{title} exchange\n{}", self.packets(exchange));
+            for (place, number) in self.session.plan.good.iter().enumerate() {
+                let step = match exchange {
+                    0 => self.first_step(takings, place),
+                    _ => self.second_step(takings, place),
+                };
+                text += &format!("  box {number} {step}\n");
+            }
+        }
+        let [first, second] = self.session.bytes_sent();
+        text += "\nResults\n";
+        for (place, number) in self.session.plan.good.iter().enumerate() {
+            text += &format!("  box {number} {}\n", self.ending(place));
+        }
+        text + &format!(
+            "  bytes sent by good boxes: {first} in the first exchange, {second} in the second\n"
+        )
+    }
+
+    /// A line for each packet.
+    fn packets(&self, exchange: usize) -> String {
+        let mut text = String::new();
+        for it in self.parcels(exchange) {
+            let (length, worth) = (bytes(it.length), it.worth.words());
+            let way = format!("{} to {}", it.sender, it.receiver);
+            text += &format!("  {way:<8} {length:>11}   {worth:<18} {}\n", it.what);
+        }
+        text
+    }
+}

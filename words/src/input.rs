@@ -1,0 +1,53 @@
+//! What the program is given: words, or the bytes of a plan.
+
+use foreign::rehearsal::{play, read, Fault, LONGEST_PLAN};
+
+use crate::draft::Draft;
+use crate::explain::refused;
+use crate::parse::parse;
+use crate::text::text;
+
+/// Books with their names.
+pub type Named = Vec<(String, Vec<u8>)>;
+
+/// The plan in these words.
+pub fn draft(words: &[u8]) -> Result<Draft, String> {
+    let text = std::str::from_utf8(words).map_err(|error| {
+        let before = &words[..error.valid_up_to()];
+        let line = 1 + before.iter().filter(|&&byte| byte == b'\n').count();
+        format!("line {line}: expected text in UTF-8")
+    });
+    parse(text?).map_err(|error| error.to_string())
+}
+
+/// The words of a plan; if it is refused they say so at the top. A plan that is badly laid
+/// out has none.
+pub fn in_words(plan: &[u8], named: &[(String, Vec<u8>)]) -> Result<String, String> {
+    if plan.len() > LONGEST_PLAN {
+        return Err(refused(Fault::TooLong, plan).trim_end().to_string());
+    }
+    let layout = read(plan).map_err(Fault::Layout);
+    let layout = layout.map_err(|fault| refused(fault, plan).trim_end().to_string())?;
+    let note: String = match play(plan) {
+        Ok(_) => String::new(),
+        Err(fault) => refused(fault, plan)
+            .lines()
+            .map(|it| format!("# {it}\n"))
+            .collect(),
+    };
+    Ok(note + &text(&layout, named))
+}
+
+/// A plan's bytes and the names of its books, from words or bytes. Bytes hold a control
+/// character or are no text at all, whatever n is; blank input can be no words either.
+pub fn given(input: &[u8]) -> Result<(Vec<u8>, Named), String> {
+    let in_words = std::str::from_utf8(input).is_ok_and(|text| {
+        let control = |c: char| c.is_control() && !c.is_ascii_whitespace();
+        !text.contains(control) && !text.trim().is_empty()
+    });
+    if !in_words {
+        return Ok((input.to_vec(), Vec::new()));
+    }
+    let draft = draft(input)?;
+    Ok((draft.bytes(), draft.named()))
+}

@@ -1,0 +1,230 @@
+//! What text and picture tell of a session that was played: every packet with the words for it
+//! and its worth to the receiver, and what each good box did. All of it is worked out by the
+//! foreign implementation; here it is put into words.
+
+use foreign::coder::{rebuild, Answer, LONGEST_MESSAGE};
+use foreign::inbox::lay_out;
+use foreign::liars::Way;
+use foreign::packet::{classify, read, Reading, Standing};
+use foreign::rehearsal::{play, Fault, Session, Takings};
+use foreign::sha256::{hex, Hash};
+
+use crate::books::Books;
+use crate::recognise::recognise;
+use crate::text::{known, named_root, written};
+
+/// The words for a packet are cut here.
+const SHOWN: usize = 72;
+
+pub struct View {
+    pub session: Session,
+    pub books: Books,
+}
+
+/// A packet on its way.
+pub struct Parcel {
+    pub sender: usize,
+    pub receiver: usize,
+    pub length: usize,
+    pub what: String,
+    pub worth: Worth,
+    /// The receiver is good and unhappy, and so looks at it.
+    pub looked_at: bool,
+    /// Its share is the one that the receiver relays.
+    pub taken: bool,
+}
+
+/// What a packet is to its receiver.
+#[derive(Clone, Copy, Debug, PartialEq, Eq)]
+pub enum Worth {
+    Passes,
+    FailsCheck,
+    OtherNumber(usize),
+    Unreadable,
+    Silence,
+    ToBadBox,
+}
+
+impl Worth {
+    pub fn words(self) -> String {
+        match self {
+            Worth::Passes => "passes".to_string(),
+            Worth::FailsCheck => "fails the check".to_string(),
+            Worth::OtherNumber(number) => format!("bears number {number}"),
+            Worth::Unreadable => "cannot be read".to_string(),
+            Worth::Silence => "is silence".to_string(),
+            Worth::ToBadBox => "goes to a bad box".to_string(),
+        }
+    }
+}
+
+/// The first digits of a root.
+pub fn short(root: &Hash) -> String {
+    hex(&root[..4]) + "…"
+}
+
+/// A count of bytes.
+pub fn bytes(count: usize) -> String {
+    match count {
+        1 => "1 byte".to_string(),
+        _ => format!("{count} bytes"),
+    }
+}
+
+/// Numbers one behind the other.
+pub fn numbers(numbers: &[usize]) -> String {
+    let numbers: Vec<String> = numbers.iter().map(usize::to_string).collect();
+    numbers.join(" ")
+}
+
+impl View {
+    /// Plays the plan; the named books are called by their names.
+    pub fn new(plan: &[u8], named: &[(String, Vec<u8>)]) -> Result<View, Fault> {
+        let session = play(plan)?;
+        let books = known(&session.plan, named);
+        Ok(View { session, books })
+    }
+
+    pub fn n(&self) -> usize {
+        self.session.plan.n
+    }
+
+    pub fn bad(&self) -> Vec<usize> {
+        let good = &self.session.plan.good;
+        (1..=self.n()).filter(|it| !good.contains(it)).collect()
+    }
+
+    /// The place of a good box in the session's lists.
+    pub fn place(&self, number: usize) -> Option<usize> {
+        self.session.plan.good.iter().position(|&it| it == number)
+    }
+
+    pub fn happy(&self, place: usize) -> bool {
+        self.session.bits[place] == 1
+    }
+
+    pub fn book_of(&self, place: usize) -> &str {
+        let name = self.books.name_of(&self.session.plan.messages[place]);
+        name.expect("every good box's book is known")
+    }
+
+    /// Where a value of the short agreement comes from.
+    pub fn origin(&self, given: bool) -> String {
+        match given {
+            true => "as the plan gives it".to_string(),
+            false => format!(
+                "box {}'s, as the plan gives none",
+                self.session.plan.good[0]
+            ),
+        }
+    }
+
+    pub fn root_name(&self) -> String {
+        let name = named_root(&self.books, self.session.root);
+        name.map_or("of no book here".to_string(), |name| format!("of {name}"))
+    }
+
+    /// The packets of exchange 0 or 1, by sender and receiver.
+    pub fn parcels(&self, exchange: usize) -> Vec<Parcel> {
+        let plan = &self.session.plan;
+        let mut parcels = Vec::new();
+        for (sender, row) in (1..).zip([&plan.first, &plan.second][exchange]) {
+            for (receiver, packet) in (1..).zip(row) {
+                let way = Way::new(exchange, sender, receiver);
+                parcels.extend(
+                    packet
+                        .as_deref()
+                        .map(|packet| self.parcel(way, exchange, packet)),
+                );
+            }
+        }
+        parcels
+    }
+
+    fn parcel(&self, way: Way, exchange: usize, packet: &[u8]) -> Parcel {
+        let place = self.place(way.receiver);
+        let taken = match (&self.session.takings, place, exchange) {
+            (Some(takings), Some(place), 0) => takings.sources[place] == Some(way.sender),
+            _ => false,
+        };
+        Parcel {
+            sender: way.sender,
+            receiver: way.receiver,
+            length: packet.len(),
+            what: self.what(packet),
+            worth: match place {
+                Some(_) => self.worth(way.demanded, packet),
+                None => Worth::ToBadBox,
+            },
+            looked_at: place.is_some_and(|place| !self.happy(place)),
+            taken,
+        }
+    }
+
+    fn worth(&self, demanded: usize, packet: &[u8]) -> Worth {
+        let standing = classify(self.n(), demanded, self.session.root, packet);
+        match (standing, read(self.n(), packet)) {
+            (Ok(Standing::Valid(_)), _) => Worth::Passes,
+            (Ok(Standing::Silent), _) => Worth::Silence,
+            (_, Reading::Share { number, .. }) if number != demanded => Worth::OtherNumber(number),
+            (_, Reading::Share { .. }) => Worth::FailsCheck,
+            _ => Worth::Unreadable,
+        }
+    }
+
+    /// Words for a packet, cut short if they are long.
+    fn what(&self, packet: &[u8]) -> String {
+        let words = recognise(&self.books, packet).to_string();
+        match words.get(..SHOWN) {
+            Some(start) => start.trim_end().to_string() + " …",
+            None => words,
+        }
+    }
+
+    /// What a good box does with the first inbox.
+    pub fn first_step(&self, takings: &Takings, place: usize) -> String {
+        let own = self.session.plan.good[place];
+        match takings.sources[place] {
+            _ if self.n() == 1 => "is alone and relays nothing".to_string(),
+            _ if self.happy(place) => {
+                format!("is happy, looks at no packet and relays its own share {own}")
+            }
+            Some(sender) => format!("takes share {own} from box {sender} and relays it"),
+            None => "finds no share that passes and relays nothing".to_string(),
+        }
+    }
+
+    /// What a good box does with the second inbox.
+    pub fn second_step(&self, takings: &Takings, place: usize) -> String {
+        let Some(gathered) = &takings.gathered[place] else {
+            return "is happy, looks at no packet and keeps its own book".to_string();
+        };
+        let present = (1..).zip(gathered).filter(|(_, share)| !share.is_empty());
+        let present: Vec<usize> = present.map(|(number, _)| number).collect();
+        let plan = &self.session.plan;
+        let mut room = [0; LONGEST_MESSAGE];
+        let outcome = match rebuild(plan.n, plan.t, &lay_out(gathered), &mut room) {
+            Answer::Done(_) => {
+                let used = &present[..plan.n - plan.t];
+                format!("rebuilds the book from {}", numbers(used))
+            }
+            Answer::Refused(11) => "has too few to rebuild a book".to_string(),
+            _ => "finds no book in them".to_string(),
+        };
+        match &present[..] {
+            [] => "gathers no share".to_string(),
+            present => format!("gathers shares {} and {outcome}", numbers(present)),
+        }
+    }
+
+    /// How a good box ended.
+    pub fn ending(&self, place: usize) -> String {
+        match &self.session.results[place] {
+            None => "ends with nothing".to_string(),
+            Some(message) => match self.books.name_of(message) {
+                Some(name) => format!("ends with {name}"),
+                None => format!("ends with {}", written(message)),
+            },
+        }
+    }
+}
