@@ -4,7 +4,7 @@ use std::collections::BTreeMap;
 
 use foreign::coder::{LONGEST_MESSAGE, MOST_PARTIES};
 use foreign::liars::Sharing;
-use foreign::packet::write;
+use foreign::packet::{write, HEADER};
 use foreign::sha256::Hash;
 use foreign::tree;
 
@@ -23,10 +23,10 @@ pub struct Book {
     pub coded: Option<Coded>,
 }
 
-/// A book's shares and their paths, the first of each being number 1's, and the root.
+/// The packets with a book's shares that a good party would send, and the root.
 pub struct Coded {
-    pub shares: Vec<Vec<u8>>,
-    pub paths: Vec<Vec<Hash>>,
+    packets: Vec<Vec<u8>>,
+    share_length: usize,
     pub root: Hash,
 }
 
@@ -34,17 +34,20 @@ impl Coded {
     fn new(n: usize, t: usize, message: &[u8]) -> Coded {
         let Sharing { shares, root } = Sharing::of(n, t, message);
         let leaves = tree::leaves(&shares);
-        let paths = (1..=n).map(|j| tree::path_of(&leaves, j)).collect();
+        let packet = |j| write(j, &shares[j - 1], &tree::path_of(&leaves, j));
         Coded {
-            shares,
-            paths,
+            packets: (1..=n).map(packet).collect(),
+            share_length: shares[0].len(),
             root,
         }
     }
 
-    /// The packet with share j that a good party would send.
-    pub fn packet(&self, j: usize) -> Vec<u8> {
-        write(j, &self.shares[j - 1], &self.paths[j - 1])
+    /// The header, the share and the path of packet j.
+    pub fn fields(&self, j: usize) -> (&[u8; HEADER], &[u8], &[u8]) {
+        let header = self.packets[j - 1].split_first_chunk();
+        let (header, behind) = header.expect("a packet has a header");
+        let (share, path) = behind.split_at(self.share_length);
+        (header, share, path)
     }
 }
 

@@ -2,6 +2,8 @@
 
 use foreign::rehearsal::{Fault, Misfit, Part};
 
+use crate::view::bytes;
+
 /// The words of the table of causes, for those that a plan can have.
 pub fn words(cause: u32) -> &'static str {
     match cause {
@@ -9,9 +11,7 @@ pub fn words(cause: u32) -> &'static str {
         2 => "2·t ≥ n",
         4 => "book over 1,024, or string to hash over 65,535 bytes",
         13 => "plan badly laid out, or over 60,000 bytes",
-        _ => {
-            "plan with over t bad parties, or a root or bit against the rule of the short agreement"
-        }
+        _ => "plan with over t bad parties, or a root or bit against the rule above",
     }
 }
 
@@ -40,10 +40,12 @@ pub fn place(misfit: Misfit, length: usize) -> String {
     let part = named(part);
     let place = match missing {
         0 => format!("At byte {place}: {}.", wrong(misfit.part)),
-        1 => format!("At byte {place}, in {part}, the plan runs out: 1 byte is missing."),
-        _ => format!("At byte {place}, in {part}, the plan runs out: {missing} bytes are missing."),
+        _ => format!(
+            "At byte {place}, in {part}: the plan runs out, {} short.",
+            bytes(missing)
+        ),
     };
-    format!("{place} It has {length} bytes, counted from 0.")
+    format!("{place} It has {}, counted from 0.", bytes(length))
 }
 
 fn named(part: Part) -> String {

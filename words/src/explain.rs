@@ -1,19 +1,17 @@
 //! A sitting told in text, round by round, for a person. The last lines are those that the
 //! rehearsal prints.
 
-use foreign::rehearsal::{rehearse, Fault, Takings};
+use foreign::rehearsal::{Fault, Takings};
 
 use crate::causes::{detail, words};
 use crate::text::written;
-use crate::view::{bytes, numbers, short, View};
+use crate::view::{boxes, bytes, numbers, short, View};
 
 pub fn explain(plan: &[u8], named: &[(String, Vec<u8>)]) -> String {
-    let told = match View::new(plan, named) {
-        Ok(view) => view.told(),
-        Err(fault) => refused(fault, plan),
-    };
-    let printed = String::from_utf8(rehearse(plan)).expect("a text");
-    told + "\n" + &printed
+    match View::new(plan, named) {
+        Ok(view) => view.told() + "\n" + &view.session.report(),
+        Err(fault) => format!("{}\nrefused {}\n", refused(fault, plan), fault.cause()),
+    }
 }
 
 /// Why a plan is refused.
@@ -26,8 +24,8 @@ impl View {
     fn told(&self) -> String {
         let plan = &self.session.plan;
         let heading = format!(
-            "Sitting of {} boxes, at most {} of them bad; {} shares give a book back.\n",
-            plan.n,
+            "Sitting of {}, at most {} bad; {} of the shares give a book back.\n",
+            boxes(plan.n),
             plan.t,
             plan.n - plan.t
         );

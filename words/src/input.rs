@@ -1,7 +1,8 @@
 //! What the program is given: words, or the bytes of a plan.
 
-use foreign::rehearsal::{play, read, Fault, LONGEST_PLAN};
+use foreign::rehearsal::{play, read};
 
+use crate::causes::place;
 use crate::draft::Draft;
 use crate::explain::refused;
 use crate::parse::parse;
@@ -21,21 +22,24 @@ pub fn draft(words: &[u8]) -> Result<Draft, String> {
 }
 
 /// The words of a plan; if it is refused they say so at the top. A plan that is badly laid
-/// out has none.
+/// out has none, and the error tells where.
 pub fn in_words(plan: &[u8], named: &[(String, Vec<u8>)]) -> Result<String, String> {
-    if plan.len() > LONGEST_PLAN {
-        return Err(refused(Fault::TooLong, plan).trim_end().to_string());
+    let refusal = play(plan).err().map(|fault| refused(fault, plan));
+    let refusal = refusal.unwrap_or_default();
+    match read(plan) {
+        Ok(layout) => {
+            let note: String = refusal.lines().map(|it| format!("# {it}\n")).collect();
+            Ok(note + &text(&layout, named))
+        }
+        Err(misfit) => {
+            // A lower cause tells of no place.
+            let place = place(misfit, plan.len());
+            match refusal.trim_end() {
+                told if told.ends_with(&place) => Err(told.to_string()),
+                told => Err(format!("{told}\n{place}")),
+            }
+        }
     }
-    let layout = read(plan).map_err(Fault::Layout);
-    let layout = layout.map_err(|fault| refused(fault, plan).trim_end().to_string())?;
-    let note: String = match play(plan) {
-        Ok(_) => String::new(),
-        Err(fault) => refused(fault, plan)
-            .lines()
-            .map(|it| format!("# {it}\n"))
-            .collect(),
-    };
-    Ok(note + &text(&layout, named))
 }
 
 /// A plan's bytes and the names of its books, from words or bytes. Bytes hold a control

@@ -10,6 +10,8 @@ pub mod input;
 pub mod lines;
 pub mod packet;
 pub mod parse;
+pub mod picture;
 pub mod recognise;
+pub mod svg;
 pub mod text;
 pub mod view;

@@ -14,6 +14,7 @@ use std::process::ExitCode;
 
 use words::explain::explain;
 use words::input::{draft, given, in_words};
+use words::picture::picture;
 
 const USAGE: &str = "words to-bytes [FILE]
 words from-bytes [--books FILE] [FILE]
@@ -52,12 +53,16 @@ fn answer(arguments: &[String]) -> Option<Result<Vec<u8>, String>> {
     Some(match &command[..] {
         "to-bytes" => on_file(&|words| Ok(draft(words)?.bytes())),
         "from-bytes" => on_file(&|plan| in_words(plan, &named(books)?).map(String::into_bytes)),
-        "explain" => on_file(&|input| {
-            let (plan, named) = given(input)?;
-            Ok(explain(&plan, &named).into_bytes())
-        }),
+        "explain" => on_file(&|input| told(input, explain)),
+        "picture" => on_file(&|input| told(input, picture)),
         _ => return None,
     })
+}
+
+/// The sitting of a plan in words or bytes.
+fn told(input: &[u8], tell: fn(&[u8], &[(String, Vec<u8>)]) -> String) -> Result<Vec<u8>, String> {
+    let (plan, named) = given(input)?;
+    Ok(tell(&plan, &named).into_bytes())
 }
 
 /// The books of a plan in words.

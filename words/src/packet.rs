@@ -3,6 +3,8 @@
 
 use std::fmt;
 
+use foreign::packet::HEADER;
+
 use crate::books::{Book, Books, Coded};
 
 #[derive(Clone, Debug, PartialEq, Eq)]
@@ -47,7 +49,7 @@ const LONGEST: usize = 65_535;
 
 /// A packet cut where its fields meet.
 struct Fields {
-    header: [u8; 4],
+    header: [u8; HEADER],
     share: Vec<u8>,
     path: Vec<u8>,
     behind: Vec<u8>,
@@ -109,13 +111,11 @@ fn changed(
     book: &str,
     changes: &[Change],
 ) -> Result<Vec<u8>, String> {
-    let coded = coded(books, book, number)?;
-    let packet = coded.packet(number);
-    let (header, _) = packet.split_first_chunk().expect("four bytes at least");
+    let (header, share, path) = coded(books, book, number)?.fields(number);
     let mut fields = Fields {
         header: *header,
-        share: coded.shares[number - 1].clone(),
-        path: coded.paths[number - 1].concat(),
+        share: share.to_vec(),
+        path: path.to_vec(),
         behind: Vec::new(),
         cut: 0,
     };
@@ -132,7 +132,7 @@ impl Fields {
             Change::Number(number) => self.header[1] = *number,
             Change::Length(length) => self.header[2..].copy_from_slice(&length.to_be_bytes()),
             Change::Path { number, book } => {
-                self.path = coded(books, book, *number)?.paths[number - 1].concat();
+                self.path = coded(books, book, *number)?.fields(*number).2.to_vec();
             }
             Change::ShareByte { place, bits } => turn(&mut self.share, *place, *bits, "share")?,
             Change::PathByte { place, bits } => turn(&mut self.path, *place, *bits, "path")?,

@@ -24,34 +24,33 @@ pub fn recognise(books: &Books, bytes: &[u8]) -> Packet {
 
 /// What makes the share's packet into these bytes; none if they are too far from it.
 fn changes(books: &Books, coded: &Coded, number: usize, bytes: &[u8]) -> Option<Vec<Change>> {
-    let (share, path) = (&coded.shares[number - 1], coded.paths[number - 1].concat());
-    let packet = coded.packet(number);
-    let (header, behind) = bytes.split_first_chunk::<HEADER>()?;
-    let (found, rest) = behind.split_at_checked(share.len())?;
-    let mut changes = header_changes(&packet, header);
-    if found != share {
-        let (place, bits) = one_byte(share, found)?;
+    let (good_header, good_share, good_path) = coded.fields(number);
+    let (header, behind) = bytes.split_first_chunk()?;
+    let (share, path) = behind.split_at_checked(good_share.len())?;
+    let mut changes = header_changes(good_header, header);
+    if share != good_share {
+        let (place, bits) = one_byte(good_share, share)?;
         changes.push(Change::ShareByte { place, bits });
     }
-    if rest == path {
+    if path == good_path {
         return Some(changes);
     }
     // With more changes than that, a packet that ends early has little in common with this one.
-    let change = match path.starts_with(rest) && changes.is_empty() {
-        true => Change::Cut(path.len() - rest.len()),
-        false => path_change(books, &path, rest)?,
+    let change = match good_path.starts_with(path) && changes.is_empty() {
+        true => Change::Cut(good_path.len() - path.len()),
+        false => path_change(books, good_path, path)?,
     };
     changes.push(change);
     Some(changes)
 }
 
-fn header_changes(packet: &[u8], header: &[u8; HEADER]) -> Vec<Change> {
+fn header_changes(good: &[u8; HEADER], header: &[u8; HEADER]) -> Vec<Change> {
     let &[map, number, high, low] = header;
     let length = Change::Length(u16::from_be_bytes([high, low]));
     let candidates = [
-        (map != packet[0], Change::Map(map)),
-        (number != packet[1], Change::Number(number)),
-        ([high, low] != packet[2..4], length),
+        (map != good[0], Change::Map(map)),
+        (number != good[1], Change::Number(number)),
+        ([high, low] != good[2..], length),
     ];
     let changed = candidates.into_iter().filter(|(differs, _)| *differs);
     changed.map(|(_, change)| change).collect()
@@ -66,7 +65,7 @@ fn path_change(books: &Books, path: &[u8], found: &[u8]) -> Option<Change> {
         return Some(Change::Followed(behind.to_vec()));
     }
     let mut others = books.shares();
-    let (book, _, number) = others.find(|(_, it, j)| it.paths[j - 1].concat() == found)?;
+    let (book, _, number) = others.find(|(_, it, j)| it.fields(*j).2 == found)?;
     Some(Change::Path {
         number,
         book: book.to_string(),

@@ -63,11 +63,26 @@ pub fn short(root: &Hash) -> String {
     hex(&root[..4]) + "…"
 }
 
-/// A count of bytes.
+/// The text, with an ellipsis if only so many letters of it are shown.
+pub fn cut(text: &str, letters: usize) -> String {
+    match text.char_indices().nth(letters) {
+        Some((end, _)) => text[..end].trim_end().to_string() + " …",
+        None => text.to_string(),
+    }
+}
+
 pub fn bytes(count: usize) -> String {
+    counted(count, "byte", "bytes")
+}
+
+pub fn boxes(count: usize) -> String {
+    counted(count, "box", "boxes")
+}
+
+fn counted(count: usize, one: &str, more: &str) -> String {
     match count {
-        1 => "1 byte".to_string(),
-        _ => format!("{count} bytes"),
+        1 => format!("1 {one}"),
+        _ => format!("{count} {more}"),
     }
 }
 
@@ -174,11 +189,7 @@ impl View {
 
     /// Words for a packet, cut short if they are long.
     fn what(&self, packet: &[u8]) -> String {
-        let words = recognise(&self.books, packet).to_string();
-        match words.get(..SHOWN) {
-            Some(start) => start.trim_end().to_string() + " …",
-            None => words,
-        }
+        cut(&recognise(&self.books, packet).to_string(), SHOWN)
     }
 
     /// What a good box does with the first inbox.

@@ -1,0 +1,331 @@
+//! A sitting as a picture: boxes as columns, time downward, an arrow for each packet.
+
+use foreign::rehearsal::{Fault, Takings};
+
+use crate::explain::refused;
+use crate::svg::{wrapped, Svg};
+use crate::text::written;
+use crate::view::{boxes, cut, short, Parcel, View, Worth};
+
+const MARGIN: i32 = 16;
+const LINE: i32 = 13;
+/// How far an arrow falls.
+const FALL: i32 = 40;
+/// The width of a letter, at most.
+const LETTER: i32 = 7;
+/// So many letters of a book, and of the words for a packet, are shown.
+const BOOK_SHOWN: usize = 80;
+const PACKET_SHOWN: usize = 40;
+/// The narrowest picture, so that headings have room.
+const LEAST_WIDTH: i32 = 640;
+
+pub fn picture(plan: &[u8], named: &[(String, Vec<u8>)]) -> String {
+    match View::new(plan, named) {
+        Ok(view) => Picture::new(&view).drawn(),
+        Err(fault) => refusal(fault, plan),
+    }
+}
+
+/// A picture of a refused plan tells why.
+fn refusal(fault: Fault, plan: &[u8]) -> String {
+    let mut svg = Svg::default();
+    let (told, letters) = (refused(fault, plan), (LEAST_WIDTH / LETTER) as usize);
+    let lines: Vec<String> = told.lines().flat_map(|it| wrapped(it, letters)).collect();
+    let mut y = MARGIN;
+    for line in &lines {
+        y += LINE + 4;
+        svg.text((MARGIN, y), "heading", line);
+    }
+    svg.document(LEAST_WIDTH + 2 * MARGIN, y + MARGIN)
+}
+
+/// The picture so far, and how far down it reaches.
+struct Picture<'a> {
+    view: &'a View,
+    svg: Svg,
+    column: i32,
+    y: i32,
+}
+
+impl Picture<'_> {
+    fn new(view: &View) -> Picture<'_> {
+        let n = view.n() as i32;
+        Picture {
+            view,
+            svg: Svg::default(),
+            column: (800 / n).clamp(112, 160).max(LEAST_WIDTH / n),
+            y: MARGIN,
+        }
+    }
+
+    fn width(&self) -> i32 {
+        self.view.n() as i32 * self.column + 2 * MARGIN
+    }
+
+    /// The middle of a box's column.
+    fn x(&self, number: usize) -> i32 {
+        MARGIN + self.column * (number as i32 - 1) + self.column / 2
+    }
+
+    /// The letters that have room in a column.
+    fn letters(&self) -> usize {
+        ((self.column - 12) / LETTER) as usize
+    }
+
+    fn drawn(mut self) -> String {
+        self.titles();
+        let top = self.y;
+        self.heads();
+        let lanes_end = match &self.view.session.takings {
+            Some(takings) => self.exchanges(takings),
+            None => self.no_exchange(),
+        };
+        let mut whole = Svg::default();
+        for number in 1..=self.view.n() {
+            let x = self.x(number);
+            whole.line((x, top), (x, lanes_end), "lane");
+        }
+        let (width, height) = (self.width(), self.y + MARGIN);
+        whole.append(self.svg);
+        whole.document(width, height)
+    }
+
+    fn paragraph(&mut self, class: &str, text: &str) {
+        let letters = (self.width() - 2 * MARGIN) / LETTER;
+        for line in wrapped(text, letters as usize) {
+            self.y += LINE + 2;
+            self.svg.text((MARGIN, self.y), class, &line);
+        }
+    }
+
+    fn titles(&mut self) {
+        let (session, view) = (&self.view.session, self.view);
+        let (n, t) = (session.plan.n, session.plan.t);
+        let root = format!("{} {}", short(&session.root), view.root_name());
+        let root_origin = view.origin(session.plan.root.is_some());
+        let bit_origin = view.origin(session.plan.bit.is_some());
+        self.y += 4;
+        self.paragraph(
+            "title",
+            &format!("Sitting of {}, at most {t} bad", boxes(n)),
+        );
+        self.y += 4;
+        self.paragraph("", &format!("Agreed root: {root} ({root_origin})"));
+        self.paragraph("", &format!("Agreed bit: {} ({bit_origin})", session.bit));
+        for book in &view.books.known {
+            let words = cut(&written(&book.message), BOOK_SHOWN);
+            self.paragraph("", &format!("Book {}: {words}", book.name));
+        }
+        self.y += 12;
+    }
+
+    /// What each box is and has.
+    fn heads(&mut self) {
+        let cards = (1..=self.view.n())
+            .map(|number| self.head(number))
+            .collect();
+        self.cards(cards);
+    }
+
+    fn head(&self, number: usize) -> Card {
+        let title = format!("box {number}");
+        let Some(place) = self.view.place(number) else {
+            return Card::new(number, "bad", &[title, "bad".to_string()]);
+        };
+        let class = ["unhappy", "happy"][usize::from(self.view.happy(place))];
+        let root = format!("root {}", short(&self.view.session.roots[place]));
+        let book = format!("has {}", self.view.book_of(place));
+        Card::new(number, class, &[title, book, root, class.to_string()])
+    }
+
+    /// Cards beside each other, all as high as the highest.
+    fn cards(&mut self, cards: Vec<Card>) {
+        let letters = self.letters();
+        let lines = |card: &Card| -> Vec<String> {
+            card.text
+                .iter()
+                .flat_map(|it| wrapped(it, letters))
+                .collect()
+        };
+        let most = cards.iter().map(|card| lines(card).len()).max();
+        let height = most.unwrap_or(0) as i32 * LINE + 10;
+        for card in cards {
+            let x = self.x(card.number);
+            let corner = (x - self.column / 2 + 4, self.y);
+            let class = format!("card {}", card.class);
+            self.svg.rect(corner, (self.column - 8, height), &class);
+            for (place, line) in (1..).zip(lines(&card)) {
+                let at = (x, self.y + place * LINE + 2);
+                let strong = if place == 1 && card.titled {
+                    "middle strong"
+                } else {
+                    "middle"
+                };
+                self.svg.text(at, strong, &line);
+            }
+        }
+        self.y += height + 12;
+    }
+
+    fn bar(&mut self, title: &str) {
+        let size = (self.width() - 2 * MARGIN, 22);
+        self.svg.rect((MARGIN, self.y), size, "bar");
+        self.svg.text((MARGIN + 8, self.y + 15), "heading", title);
+        self.y += 22 + 8;
+    }
+
+    fn exchanges(&mut self, takings: &Takings) -> i32 {
+        let [first, second] = self.view.session.bytes_sent();
+        self.bar(&format!(
+            "First exchange: the good boxes send {first} bytes"
+        ));
+        self.exchange(0);
+        self.steps(|view, place| view.first_step(takings, place));
+        self.bar(&format!(
+            "Second exchange: the good boxes send {second} bytes"
+        ));
+        self.exchange(1);
+        self.steps(|view, place| view.second_step(takings, place));
+        let lanes_end = self.results();
+        self.legend();
+        lanes_end
+    }
+
+    fn no_exchange(&mut self) -> i32 {
+        self.bar("On bit 0 nothing is sent");
+        self.results()
+    }
+
+    /// How the boxes end; the columns end here too.
+    fn results(&mut self) -> i32 {
+        self.bar("Results");
+        let end = self.y;
+        let cards = self.view.session.plan.good.iter().enumerate();
+        let cards = cards.map(|(place, &number)| {
+            let class = match self.view.session.results[place] {
+                Some(_) => "happy",
+                None => "step",
+            };
+            Card::new(
+                number,
+                class,
+                &[format!("box {number}"), self.view.ending(place)],
+            )
+        });
+        self.cards(cards.collect());
+        end
+    }
+
+    /// What each good box does.
+    fn steps(&mut self, step: impl Fn(&View, usize) -> String) {
+        let good = self.view.session.plan.good.iter().enumerate();
+        let cards = good.map(|(place, &number)| Card {
+            number,
+            class: "step",
+            text: vec![step(self.view, place)],
+            titled: false,
+        });
+        self.cards(cards.collect());
+    }
+
+    fn exchange(&mut self, exchange: usize) {
+        let parcels = self.view.parcels(exchange);
+        for row in parcels.chunk_by(|one, next| one.sender == next.sender) {
+            self.row(row);
+        }
+    }
+
+    /// One sender's packets.
+    fn row(&mut self, row: &[Parcel]) {
+        let from = (self.x(row[0].sender), self.y + 18);
+        let sender = format!("box {} sends", row[0].sender);
+        let above = (from.0, from.1 - 8);
+        self.svg.text(above, "middle strong halo", &sender);
+        let heights = row.iter().map(|parcel| self.parcel(from, parcel));
+        let most = heights.max();
+        self.svg.dot(from);
+        self.y = from.1 + FALL + most.unwrap_or(0) + 12;
+    }
+
+    /// An arrow and the words at its tip, which are so high.
+    fn parcel(&mut self, from: (i32, i32), parcel: &Parcel) -> i32 {
+        let (x, y) = (self.x(parcel.receiver), from.1 + FALL);
+        let kind = kind(parcel.worth);
+        let class = match (parcel.taken, parcel.looked_at) {
+            (true, _) => "taken",
+            (_, true) => "",
+            _ => "pale",
+        };
+        self.svg.arrow(from, (x, y), kind, class);
+        let what = wrapped(&cut(&parcel.what, PACKET_SHOWN), self.letters());
+        let worth = match parcel.worth {
+            Worth::Passes | Worth::ToBadBox => Vec::new(),
+            worth => wrapped(&worth.words(), self.letters()),
+        };
+        let what = what.into_iter().map(|line| (line, "ink"));
+        let lines = what.chain(worth.into_iter().map(|line| (line, kind)));
+        let mut height = 0;
+        for (line, class) in lines {
+            height += LINE;
+            let class = format!("middle halo {class}");
+            self.svg.text((x, y + height), &class, &line);
+        }
+        height
+    }
+
+    fn legend(&mut self) {
+        let entries = [
+            ("passes", "", "passes the check"),
+            ("passes", "taken", "passes, is taken and relayed"),
+            (
+                "passes",
+                "pale",
+                "pale: to a happy box, which does not look",
+            ),
+            ("fails", "", "fails the check, or bears another number"),
+            ("unreadable", "", "cannot be read"),
+            ("silence", "", "silence"),
+            ("to-bad", "pale", "to a bad box"),
+        ];
+        let width = 310;
+        let in_row = ((self.width() - 2 * MARGIN) / width).max(1);
+        for (place, (kind, class, words)) in (0..).zip(entries) {
+            let x = MARGIN + place % in_row * width;
+            let y = self.y + 8 + place / in_row * 18;
+            self.svg.arrow((x, y), (x + 40, y), kind, class);
+            self.svg.text((x + 48, y + 4), "", words);
+        }
+        let rows = (entries.len() as i32 + in_row - 1) / in_row;
+        self.y += rows * 18;
+    }
+}
+
+/// A box in a column, with lines of text; the first may be its title.
+struct Card {
+    number: usize,
+    class: &'static str,
+    text: Vec<String>,
+    titled: bool,
+}
+
+impl Card {
+    fn new(number: usize, class: &'static str, text: &[String]) -> Card {
+        Card {
+            number,
+            class,
+            text: text.to_vec(),
+            titled: true,
+        }
+    }
+}
+
+/// The kind of arrow for a packet of this worth.
+fn kind(worth: Worth) -> &'static str {
+    match worth {
+        Worth::Passes => "passes",
+        Worth::FailsCheck | Worth::OtherNumber(_) => "fails",
+        Worth::Unreadable => "unreadable",
+        Worth::Silence => "silence",
+        Worth::ToBadBox => "to-bad",
+    }
+}

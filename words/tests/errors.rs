@@ -1,0 +1,320 @@
+//! Wrong words: the line and what was expected there.
+
+use words::input::draft;
+use words::parse::parse;
+
+/// Five sound lines that end above the exchanges.
+const SOUND: &str = "boxes 3\nlimit 1\nbook A \"AB\"\nbox 1 has A\nbox 3 is bad\n";
+
+/// The error of these words.
+fn error(words: &str) -> String {
+    match parse(words) {
+        Ok(_) => panic!("no error in\n{words}"),
+        Err(error) => error.to_string(),
+    }
+}
+
+/// The errors of each line behind the sound ones, without the line's number, 6.
+fn behind(cases: &[(&str, &str)]) {
+    for (line, expected) in cases {
+        let found = error(&format!("{SOUND}{line}\n"));
+        assert_eq!(found, format!("line 6: {expected}"), "{line}");
+    }
+}
+
+/// The same in an exchange, as line 7.
+fn in_exchange(cases: &[(&str, &str)]) {
+    for (line, expected) in cases {
+        let found = error(&format!("{SOUND}first exchange\n{line}\n"));
+        assert_eq!(found, format!("line 7: {expected}"), "{line}");
+    }
+}
+
+#[test]
+fn the_first_lines() {
+    let cases = [
+        ("", "line 1: expected 'boxes', found the end of the plan"),
+        (
+            "# none\n\n",
+            "line 2: expected 'boxes', found the end of the plan",
+        ),
+        ("limit 1", "line 1: expected 'boxes', found 'limit'"),
+        (
+            "boxes",
+            "line 1: expected the number of boxes from 0 to 255, found the end of the line",
+        ),
+        (
+            "boxes three",
+            "line 1: expected the number of boxes from 0 to 255, found 'three'",
+        ),
+        (
+            "boxes 256",
+            "line 1: expected the number of boxes from 0 to 255, found '256'",
+        ),
+        (
+            "boxes +3",
+            "line 1: expected the number of boxes from 0 to 255, found '+3'",
+        ),
+        (
+            "boxes 3 4",
+            "line 1: expected the end of the line, found '4'",
+        ),
+        (
+            "boxes 3",
+            "line 1: expected 'limit', found the end of the plan",
+        ),
+        (
+            "\nboxes 3\nbook A \"\"",
+            "line 3: expected 'limit', found 'book'",
+        ),
+        (
+            "boxes 3\nlimit 1.5",
+            "line 2: expected the greatest number of bad boxes from 0 to 255, found '1.5'",
+        ),
+    ];
+    for (words, expected) in cases {
+        assert_eq!(error(words), expected);
+    }
+}
+
+#[test]
+fn statements() {
+    behind(&[
+        (
+            "boxes 3",
+            "expected 'root', 'bit', 'book', 'box', 'first exchange', 'second exchange', \
+             'options', 'behind', 'cut by' or a sender's number, found 'boxes'",
+        ),
+        (
+            ": 3",
+            "expected 'root', 'bit', 'book', 'box', 'first exchange', 'second exchange', \
+             'options', 'behind', 'cut by' or a sender's number, found ':'",
+        ),
+        ("first round", "expected 'exchange', found 'round'"),
+        (
+            "bit",
+            "expected a bit from 0 to 255, found the end of the line",
+        ),
+        ("bit 256", "expected a bit from 0 to 255, found '256'"),
+    ]);
+    let twice = [
+        ("bit 1\nbit 0", "line 7: 'bit' stands in line 6 already"),
+        (
+            "root of A\nroot of A",
+            "line 7: 'root' stands in line 6 already",
+        ),
+        ("book A \"\"", "line 6: book A stands in line 3 already"),
+        ("box 1 has A", "line 6: box 1 stands in line 4 already"),
+        ("box 3 has A", "line 6: box 3 stands in line 5 already"),
+        (
+            "second exchange\nsecond exchange",
+            "line 7: 'second exchange' stands in line 6 already",
+        ),
+        (
+            "cut by 1\ncut by 1",
+            "line 7: 'cut' stands in line 6 already",
+        ),
+    ];
+    for (lines, expected) in twice {
+        assert_eq!(error(&format!("{SOUND}{lines}")), expected);
+    }
+}
+
+#[test]
+fn roots_books_and_boxes() {
+    behind(&[
+        (
+            "root",
+            "expected 'of' and a book, or 64 hexadecimal digits, found the end of the line",
+        ),
+        (
+            "root 00ff",
+            "expected 'of' and a book, or 64 hexadecimal digits, found '00ff'",
+        ),
+        ("root of C", "no line above has a book C"),
+        ("root of box 2", "no line above says what box 2 has"),
+        ("root of box 17", "expected a box number from 1 to 16, found '17'"),
+        ("root of 2", "expected a book's name, or 'box' and a number, found '2'"),
+        (
+            "book hex 41",
+            "expected a name for the book, letters and digits beginning with a letter, found 'hex'",
+        ),
+        (
+            "book 1 \"\"",
+            "expected a name for the book, letters and digits beginning with a letter, found '1'",
+        ),
+        ("book B", "expected a text in quotes, or 'hex' and digits, found the end of the line"),
+        ("book B A", "expected a text in quotes, or 'hex' and digits, found 'A'"),
+        (
+            "book B \"open",
+            "expected a closing \" in this line; in a text, \\\" stands for \" and \\\\ for \\",
+        ),
+        (
+            "book B \"\\n\"",
+            "expected a closing \" in this line; in a text, \\\" stands for \" and \\\\ for \\",
+        ),
+        ("book B \"\" \"\"", "expected the end of the line, found a text in quotes"),
+        ("book B hex", "expected pairs of hexadecimal digits, found the end of the line"),
+        ("book B hex 4", "expected pairs of hexadecimal digits, found '4'"),
+        ("book B hex 41 0x42", "expected pairs of hexadecimal digits, found '0x42'"),
+        ("box 2", "expected 'has' and a book, or 'is bad', found the end of the line"),
+        ("box 2 is good", "expected 'bad', found 'good'"),
+        ("box 2 has", "expected a book: its name, a text in quotes, or 'hex' and digits, found the end of the line"),
+        ("box 2 has C", "no line above has a book C"),
+        ("box 0 is bad", "expected a box number from 1 to 255, found '0'"),
+        ("box 4 is bad", "box 4 is none of the 3 boxes"),
+        ("box 17 has A", "box 17 cannot be good: a plan's maps end at 16"),
+    ]);
+}
+
+#[test]
+fn sendings() {
+    behind(&[(
+        "3 to 1: empty",
+        "'first exchange' or 'second exchange' must stand above",
+    )]);
+    in_exchange(&[
+        ("1 to 1: empty", "no line above says that box 1 is bad"),
+        ("3 for 1: empty", "expected 'to', found 'for'"),
+        (
+            "3 to : empty",
+            "expected a receiver from 1 to 16, found ':'",
+        ),
+        (
+            "3 to 17: empty",
+            "expected a receiver from 1 to 16, found '17'",
+        ),
+        (
+            "3 to 1, 2: empty",
+            "expected ':' or a receiver from 1 to 16, found ','",
+        ),
+        (
+            "3 to 1 empty",
+            "expected ':' or a receiver from 1 to 16, found 'empty'",
+        ),
+        (
+            "3 to 1: silence",
+            "expected 'share', 'hex', 'empty' or 'nothing', found 'silence'",
+        ),
+        (
+            "3 to 1: hex 7",
+            "expected pairs of hexadecimal digits, found '7'",
+        ),
+        (
+            "3 to 1: share 0 of A",
+            "expected a share number from 1 to 16, found '0'",
+        ),
+        (
+            "3 to 1: share 4 of A",
+            "shares have numbers from 1 to 3, not 4",
+        ),
+        ("3 to 1: share 1 from A", "expected 'of', found 'from'"),
+        ("3 to 1: share 1 of C", "no line above has a book C"),
+        (
+            "3 to 1: share 1 of box 3",
+            "no line above says what box 3 has",
+        ),
+        (
+            "3 to 1: share 1 of A number 2",
+            "expected the end of the line, found 'number'",
+        ),
+        (
+            "3 to 1: share 1 of A, damaged",
+            "expected 'map', 'number', 'length', 'path', 'share byte', 'followed by' or 'cut by', \
+             found 'damaged'",
+        ),
+        (
+            "3 to 1: share 1 of A, number 256",
+            "expected a number from 0 to 255, found '256'",
+        ),
+        (
+            "3 to 1: share 1 of A, map 07h",
+            "expected a map from 0 to 255, found '07h'",
+        ),
+        (
+            "3 to 1: share 1 of A, length 65536",
+            "expected a length from 0 to 65535, found '65536'",
+        ),
+        (
+            "3 to 1: share 1 of A, path of A",
+            "expected 'byte' or a share number from 1 to 16, found 'of'",
+        ),
+        (
+            "3 to 1: share 1 of A, path 9 of A",
+            "shares have numbers from 1 to 3, not 9",
+        ),
+        (
+            "3 to 1: share 1 of A, path byte 64 damaged",
+            "the path has 64 bytes, counted from 0",
+        ),
+        (
+            "3 to 1: share 1 of A, share byte 2 damaged",
+            "the share has 2 bytes, counted from 0",
+        ),
+        (
+            "3 to 1: share 1 of A, share byte 0 changed",
+            "expected 'damaged', found 'changed'",
+        ),
+        (
+            "3 to 1: share 1 of A, share byte 0 damaged by 256",
+            "expected two hexadecimal digits, found '256'",
+        ),
+        (
+            "3 to 1: share 1 of A, cut by 71",
+            "the packet has 70 bytes to cut",
+        ),
+        (
+            "3 to 1: share 1 of A, followed 41",
+            "expected 'by', found '41'",
+        ),
+        (
+            "3 to 1: empty, cut by 1",
+            "expected the end of the line, found ','",
+        ),
+        (
+            "3 to 1 1: empty",
+            "3 to 1 in the first exchange stands in line 7 already",
+        ),
+    ]);
+    let twice = format!("{SOUND}first exchange\n3 to 1: nothing\n3 to 2 1: empty\n");
+    let expected = "line 8: 3 to 1 in the first exchange stands in line 7 already";
+    assert_eq!(error(&twice), expected);
+}
+
+#[test]
+fn whole_plans() {
+    let unnamed = "line 1: no line says what box 2 has, or that it is bad";
+    assert_eq!(error(SOUND), unnamed);
+    let cut = format!("{SOUND}box 2 has A\ncut by 18\n");
+    assert_eq!(error(&cut), "line 7: the plan has 17 bytes to cut");
+    let no_shares = "there are no shares: n is 1 to 16, 2·t < n, and a book has at most 1024 bytes";
+    for head in ["boxes 2\nlimit 1", "boxes 17\nlimit 1"] {
+        let words = format!("{head}\nbox 1 has \"\"\nbox 2 is bad\nfirst exchange\n");
+        let words = words + "2 to 1: share 1 of box 1\n";
+        assert_eq!(error(&words), format!("line 6: {no_shares}"));
+        let rooted = format!("{head}\nbook A \"\"\nroot of A");
+        assert_eq!(error(&rooted), "line 4: 'A' has no root under n and t");
+    }
+    let long = " 41".repeat(65_536);
+    let book = format!("boxes 1\nlimit 0\nbox 1 has hex{long}");
+    assert_eq!(error(&book), "line 3: the book has 65536 bytes, over 65535");
+    let packet = format!("{SOUND}first exchange\n3 to 1: hex{long}");
+    assert_eq!(
+        error(&packet),
+        "line 7: the packet has 65536 bytes, over 65535"
+    );
+}
+
+/// A line that goes on is called by its first line.
+#[test]
+fn lines_that_go_on() {
+    let words = format!("{SOUND}box 2 has hex \\\n 41 \\\n 4\n");
+    let expected = "line 6: expected pairs of hexadecimal digits, found '4'";
+    assert_eq!(error(&words), expected);
+}
+
+#[test]
+fn not_a_text() {
+    let found = draft(b"boxes 3\nlimit \xFF").err();
+    assert_eq!(found.as_deref(), Some("line 2: expected text in UTF-8"));
+}

@@ -1,0 +1,129 @@
+//! The program itself, on the plans that are kept in the repository.
+
+use std::io::Write;
+use std::path::PathBuf;
+use std::process::{Command, Output, Stdio};
+use std::thread;
+
+use foreign::rehearsal::rehearse;
+
+fn root() -> PathBuf {
+    PathBuf::from(env!("CARGO_MANIFEST_DIR")).join("..")
+}
+
+fn kept(file: &str) -> Vec<u8> {
+    std::fs::read(root().join(file)).expect("a file of the repository")
+}
+
+/// Runs the program in the repository, with the input beside the reading of its output.
+fn run(arguments: &[&str], input: &[u8]) -> Output {
+    let mut child = Command::new(env!("CARGO_BIN_EXE_words"))
+        .args(arguments)
+        .current_dir(root())
+        .stdin(Stdio::piped())
+        .stdout(Stdio::piped())
+        .stderr(Stdio::piped())
+        .spawn()
+        .expect("the program starts");
+    let mut stdin = child.stdin.take().expect("a pipe");
+    let input = input.to_vec();
+    let writing = thread::spawn(move || stdin.write_all(&input).ok());
+    let output = child.wait_with_output().expect("the program ends");
+    writing.join().expect("the writing ends");
+    output
+}
+
+/// What the program prints; it is content.
+fn printed(arguments: &[&str], input: &[u8]) -> Vec<u8> {
+    let output = run(arguments, input);
+    assert!(output.status.success(), "{output:?}");
+    assert!(output.stderr.is_empty());
+    output.stdout
+}
+
+/// The exit status and what is said of the error.
+fn said(arguments: &[&str], input: &[u8]) -> (Option<i32>, String) {
+    let output = run(arguments, input);
+    assert!(output.stdout.is_empty());
+    let text = String::from_utf8(output.stderr).expect("a text");
+    (output.status.code(), text)
+}
+
+#[test]
+fn the_liars_plan() {
+    let plan = kept("plans/liar.plan");
+    assert_eq!(printed(&["to-bytes", "plans/liar.words"], b""), plan);
+    assert_eq!(printed(&["to-bytes"], &kept("plans/liar.words")), plan);
+    assert_eq!(rehearse(&plan), kept("plans/liar.out"));
+    let words = printed(&["from-bytes"], &plan);
+    assert_eq!(printed(&["from-bytes", "plans/liar.plan"], b""), words);
+    assert_eq!(printed(&["to-bytes"], &words), plan);
+    let svg = kept("docs/liar.svg");
+    assert_eq!(printed(&["picture", "plans/liar.words"], b""), svg);
+    assert_eq!(printed(&["picture"], &plan), svg);
+}
+
+#[test]
+fn words_and_bytes_are_told_apart() {
+    let told = printed(&["explain", "plans/liar.words"], b"");
+    assert_eq!(printed(&["explain"], &kept("plans/liar.plan")), told);
+    assert!(told.ends_with(&kept("plans/liar.out")));
+    // Ten boxes: the first byte of the plan is a line's end.
+    let ten: String = (1..=10)
+        .map(|number| format!("box {number} has \"\"\n"))
+        .collect();
+    let ten = format!("boxes 10\nlimit 4\n{ten}");
+    let plan = printed(&["to-bytes"], ten.as_bytes());
+    assert_eq!(plan[0], b'\n');
+    let told = printed(&["explain"], &plan);
+    assert!(told.starts_with(b"Sitting of 10 boxes, "));
+    assert_eq!(printed(&["explain"], ten.as_bytes()), told);
+    let empty = printed(&["explain"], b"");
+    assert!(empty.ends_with(b"\n\nrefused 13\n"));
+}
+
+#[test]
+fn errors() {
+    let wrong = b"boxes 3\nlimit one\n";
+    let expected =
+        "standard input: line 2: expected the greatest number of bad boxes from 0 to 255, \
+         found 'one'\n";
+    for command in ["to-bytes", "explain", "picture"] {
+        assert_eq!(said(&[command], wrong), (Some(1), expected.to_string()));
+    }
+    let plan = kept("plans/worked-1.plan");
+    let expected = "standard input: Refused with cause 13: plan badly laid out, or over 60,000 \
+        bytes.\nAt byte 11, in box 2's book or its length: the plan runs out, 1 byte short. It \
+        has 12 bytes, counted from 0.\n";
+    let found = said(&["from-bytes"], &plan[..12]);
+    assert_eq!(found, (Some(1), expected.to_string()));
+    let (status, text) = said(&["explain", "plans/absent"], b"");
+    assert_eq!(status, Some(1));
+    assert!(text.starts_with("plans/absent: "));
+}
+
+#[test]
+fn usage() {
+    let wrong: [&[&str]; 5] = [
+        &[],
+        &["draw"],
+        &["explain", "a", "b"],
+        &["explain", "--books", "plans/liar.words"],
+        &["from-bytes", "--books", "a", "b", "c"],
+    ];
+    for arguments in wrong {
+        let (status, text) = said(arguments, b"");
+        assert_eq!(status, Some(2), "{arguments:?}");
+        assert!(text.starts_with("words to-bytes [FILE]\n"));
+    }
+    let words = printed(
+        &[
+            "from-bytes",
+            "--books",
+            "plans/liar.words",
+            "plans/liar.plan",
+        ],
+        b"",
+    );
+    assert!(words.starts_with(b"boxes 5\nlimit 2\n"));
+}
