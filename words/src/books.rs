@@ -8,6 +8,9 @@ use foreign::packet::{write, HEADER};
 use foreign::sha256::Hash;
 use foreign::tree;
 
+/// A book and what it is called.
+pub type Named = (String, Vec<u8>);
+
 /// The books, each once; the first name that it was given is the one it is called by.
 pub struct Books {
     pub n: usize,

@@ -2,7 +2,7 @@
 
 use foreign::rehearsal::{Fault, Misfit, Part};
 
-use crate::view::bytes;
+use crate::phrases::bytes;
 
 /// The words of the table of causes, for those that a plan can have.
 pub fn words(cause: u32) -> &'static str {

@@ -7,7 +7,7 @@ use foreign::plans::map_of;
 use foreign::rehearsal::{BIT_GIVEN, ROOT_GIVEN};
 use foreign::sha256::Hash;
 
-use crate::books::Books;
+use crate::books::{Books, Named};
 
 /// Packets by sender and receiver.
 pub type Packets = BTreeMap<(usize, usize), Vec<u8>>;
@@ -45,7 +45,7 @@ impl Draft {
     }
 
     /// The books that have names of their own.
-    pub fn named(&self) -> Vec<(String, Vec<u8>)> {
+    pub fn named(&self) -> Vec<Named> {
         let known = self.books.known.iter();
         let named = known.filter(|it| !it.name.starts_with("box "));
         named

@@ -3,11 +3,13 @@
 
 use foreign::rehearsal::{Fault, Takings};
 
+use crate::books::Named;
 use crate::causes::{detail, words};
+use crate::phrases::{boxes, bytes, numbers, short};
 use crate::text::written;
-use crate::view::{boxes, bytes, numbers, short, View};
+use crate::view::View;
 
-pub fn explain(plan: &[u8], named: &[(String, Vec<u8>)]) -> String {
+pub fn explain(plan: &[u8], named: &[Named]) -> String {
     match View::new(plan, named) {
         Ok(view) => view.told() + "\n" + &view.session.report(),
         Err(fault) => format!("{}\nrefused {}\n", refused(fault, plan), fault.cause()),

@@ -2,14 +2,12 @@
 
 use foreign::rehearsal::{play, read};
 
+use crate::books::Named;
 use crate::causes::place;
 use crate::draft::Draft;
 use crate::explain::refused;
 use crate::parse::parse;
 use crate::text::text;
-
-/// Books with their names.
-pub type Named = Vec<(String, Vec<u8>)>;
 
 /// The plan in these words.
 pub fn draft(words: &[u8]) -> Result<Draft, String> {
@@ -18,12 +16,14 @@ pub fn draft(words: &[u8]) -> Result<Draft, String> {
         let line = 1 + before.iter().filter(|&&byte| byte == b'\n').count();
         format!("line {line}: expected text in UTF-8")
     });
-    parse(text?).map_err(|error| error.to_string())
+    // Some editors put a mark in front of the text.
+    let text = text?.trim_start_matches('\u{feff}');
+    parse(text).map_err(|error| error.to_string())
 }
 
 /// The words of a plan; if it is refused they say so at the top. A plan that is badly laid
 /// out has none, and the error tells where.
-pub fn in_words(plan: &[u8], named: &[(String, Vec<u8>)]) -> Result<String, String> {
+pub fn in_words(plan: &[u8], named: &[Named]) -> Result<String, String> {
     let refusal = play(plan).err().map(|fault| refused(fault, plan));
     let refusal = refusal.unwrap_or_default();
     match read(plan) {
@@ -42,14 +42,12 @@ pub fn in_words(plan: &[u8], named: &[(String, Vec<u8>)]) -> Result<String, Stri
     }
 }
 
-/// A plan's bytes and the names of its books, from words or bytes. Bytes hold a control
-/// character or are no text at all, whatever n is; blank input can be no words either.
-pub fn given(input: &[u8]) -> Result<(Vec<u8>, Named), String> {
-    let in_words = std::str::from_utf8(input).is_ok_and(|text| {
-        let control = |c: char| c.is_control() && !c.is_ascii_whitespace();
-        !text.contains(control) && !text.trim().is_empty()
-    });
-    if !in_words {
+/// A plan's bytes and its named books, from words or bytes. A lawful plan's bytes hold a
+/// control character other than a tab or a line's end, since t is below 8; blank input can be
+/// no words either.
+pub fn given(input: &[u8]) -> Result<(Vec<u8>, Vec<Named>), String> {
+    let control = |byte: &u8| *byte < b' ' && !byte.is_ascii_whitespace();
+    if input.iter().any(control) || input.trim_ascii().is_empty() {
         return Ok((input.to_vec(), Vec::new()));
     }
     let draft = draft(input)?;

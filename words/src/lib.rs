@@ -10,6 +10,7 @@ pub mod input;
 pub mod lines;
 pub mod packet;
 pub mod parse;
+pub mod phrases;
 pub mod picture;
 pub mod recognise;
 pub mod svg;

@@ -12,6 +12,7 @@
 use std::io::{stdin, stdout, Read, Write};
 use std::process::ExitCode;
 
+use words::books::Named;
 use words::explain::explain;
 use words::input::{draft, given, in_words};
 use words::picture::picture;
@@ -21,18 +22,35 @@ words from-bytes [--books FILE] [FILE]
 words explain [FILE]
 words picture [FILE]";
 
-fn contents(file: Option<&String>) -> Result<Vec<u8>, String> {
-    let mut bytes = Vec::new();
-    let read = match file {
-        Some(file) => std::fs::read(file).map(|found| bytes = found),
-        None => stdin().read_to_end(&mut bytes).map(|_| ()),
-    };
-    let name = file.map_or("standard input", |it| it);
-    read.map(|()| bytes)
-        .map_err(|error| format!("{name}: {error}"))
+const COMMANDS: [&str; 4] = ["to-bytes", "from-bytes", "explain", "picture"];
+
+/// What stands in a file, or on standard input if there is none.
+struct Input {
+    name: String,
+    bytes: Vec<u8>,
 }
 
-/// What the command gives; an error is told with the file's name.
+impl Input {
+    fn new(file: Option<&String>) -> Result<Input, String> {
+        let mut bytes = Vec::new();
+        let read = match file {
+            Some(file) => std::fs::read(file).map(|found| bytes = found),
+            None => stdin().read_to_end(&mut bytes).map(|_| ()),
+        };
+        let name = file.map_or("standard input", |it| it).to_string();
+        match read {
+            Ok(()) => Ok(Input { name, bytes }),
+            Err(error) => Err(format!("{name}: {error}")),
+        }
+    }
+
+    /// What is made of the bytes; an error is told with the name.
+    fn made<T>(&self, make: impl Fn(&[u8]) -> Result<T, String>) -> Result<T, String> {
+        make(&self.bytes).map_err(|error| format!("{}: {error}", self.name))
+    }
+}
+
+/// What the command gives; none if it is called in a wrong way.
 fn answer(arguments: &[String]) -> Option<Result<Vec<u8>, String>> {
     let (command, rest) = arguments.split_first()?;
     let (books, rest) = match rest {
@@ -41,35 +59,29 @@ fn answer(arguments: &[String]) -> Option<Result<Vec<u8>, String>> {
         }
         rest => (None, rest),
     };
-    let file = match rest {
-        [] => None,
-        [file] => Some(file),
-        _ => return None,
-    };
-    let on_file = |work: &dyn Fn(&[u8]) -> Result<Vec<u8>, String>| {
-        let name = file.map_or("standard input", |it| it);
-        work(&contents(file)?).map_err(|error| format!("{name}: {error}"))
-    };
-    Some(match &command[..] {
-        "to-bytes" => on_file(&|words| Ok(draft(words)?.bytes())),
-        "from-bytes" => on_file(&|plan| in_words(plan, &named(books)?).map(String::into_bytes)),
-        "explain" => on_file(&|input| told(input, explain)),
-        "picture" => on_file(&|input| told(input, picture)),
-        _ => return None,
-    })
+    let known = COMMANDS.contains(&&command[..]);
+    let called = known && rest.len() <= 1;
+    called.then(|| done(command, books, rest.first()))
 }
 
-/// The sitting of a plan in words or bytes.
-fn told(input: &[u8], tell: fn(&[u8], &[(String, Vec<u8>)]) -> String) -> Result<Vec<u8>, String> {
-    let (plan, named) = given(input)?;
-    Ok(tell(&plan, &named).into_bytes())
-}
-
-/// The books of a plan in words.
-fn named(file: Option<&String>) -> Result<Vec<(String, Vec<u8>)>, String> {
-    match file {
-        None => Ok(Vec::new()),
-        Some(_) => Ok(draft(&contents(file)?)?.named()),
+fn done(command: &str, books: Option<&String>, file: Option<&String>) -> Result<Vec<u8>, String> {
+    let named = match books {
+        Some(_) => Input::new(books)?.made(draft)?.named(),
+        None => Vec::new(),
+    };
+    let input = Input::new(file)?;
+    let told = |tell: fn(&[u8], &[Named]) -> String| {
+        let (plan, named) = input.made(given)?;
+        Ok(tell(&plan, &named).into_bytes())
+    };
+    match command {
+        "to-bytes" => input.made(draft).map(|it| it.bytes()),
+        "from-bytes" => {
+            let words = input.made(|plan| in_words(plan, &named));
+            words.map(String::into_bytes)
+        }
+        "explain" => told(explain),
+        _ => told(picture),
     }
 }
 

@@ -44,8 +44,8 @@ pub enum Change {
     Cut(usize),
 }
 
-/// The longest packet whose length has room in two bytes.
-const LONGEST: usize = 65_535;
+/// The longest packet or book whose length has room in two bytes.
+pub const LONGEST: usize = 65_535;
 
 /// A packet cut where its fields meet.
 struct Fields {

@@ -8,10 +8,7 @@ use foreign::sha256::Hash;
 
 use crate::draft::Draft;
 use crate::lines::{lines, pairs, Error, Line};
-use crate::packet::{Change, Packet};
-
-/// The longest book or packet whose length has room in two bytes.
-const LONGEST: usize = 65_535;
+use crate::packet::{Change, Packet, LONGEST};
 
 /// Words that cannot name a book.
 const KEYWORDS: [&str; 2] = ["box", "hex"];

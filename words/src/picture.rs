@@ -2,10 +2,12 @@
 
 use foreign::rehearsal::{Fault, Takings};
 
+use crate::books::Named;
 use crate::explain::refused;
+use crate::phrases::{boxes, cut, short};
 use crate::svg::{wrapped, Svg};
 use crate::text::written;
-use crate::view::{boxes, cut, short, Parcel, View, Worth};
+use crate::view::{Parcel, View, Worth};
 
 const MARGIN: i32 = 16;
 const LINE: i32 = 13;
@@ -19,7 +21,7 @@ const PACKET_SHOWN: usize = 40;
 /// The narrowest picture, so that headings have room.
 const LEAST_WIDTH: i32 = 640;
 
-pub fn picture(plan: &[u8], named: &[(String, Vec<u8>)]) -> String {
+pub fn picture(plan: &[u8], named: &[Named]) -> String {
     match View::new(plan, named) {
         Ok(view) => Picture::new(&view).drawn(),
         Err(fault) => refusal(fault, plan),

@@ -5,7 +5,7 @@ use std::collections::BTreeSet;
 use foreign::rehearsal::{Exchange, Plan};
 use foreign::sha256::{hex, Hash};
 
-use crate::books::Books;
+use crate::books::{Books, Named};
 use crate::packet::Hex;
 use crate::recognise::recognise;
 
@@ -14,7 +14,7 @@ const WIDTH: usize = 100;
 
 /// The plan in words. Shares of the good parties' books and of the named ones are told as
 /// such; books that are not spoken of are left out.
-pub fn text(plan: &Plan, named: &[(String, Vec<u8>)]) -> String {
+pub fn text(plan: &Plan, named: &[Named]) -> String {
     let books = known(plan, named);
     let mut used = BTreeSet::new();
     let mut middle = agreed(plan, &books, &mut used);
@@ -36,7 +36,7 @@ pub fn text(plan: &Plan, named: &[(String, Vec<u8>)]) -> String {
 }
 
 /// The books, the good parties' ones named by letters where they have no name.
-pub fn known(plan: &Plan, named: &[(String, Vec<u8>)]) -> Books {
+pub fn known(plan: &Plan, named: &[Named]) -> Books {
     let mut books = Books::new(plan.n, plan.t);
     for (name, message) in named {
         books.add(name, message);

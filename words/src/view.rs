@@ -7,9 +7,9 @@ use foreign::inbox::lay_out;
 use foreign::liars::Way;
 use foreign::packet::{classify, read, Reading, Standing};
 use foreign::rehearsal::{play, Fault, Session, Takings};
-use foreign::sha256::{hex, Hash};
 
-use crate::books::Books;
+use crate::books::{Books, Named};
+use crate::phrases::{cut, numbers};
 use crate::recognise::recognise;
 use crate::text::{known, named_root, written};
 
@@ -58,43 +58,9 @@ impl Worth {
     }
 }
 
-/// The first digits of a root.
-pub fn short(root: &Hash) -> String {
-    hex(&root[..4]) + "…"
-}
-
-/// The text, with an ellipsis if only so many letters of it are shown.
-pub fn cut(text: &str, letters: usize) -> String {
-    match text.char_indices().nth(letters) {
-        Some((end, _)) => text[..end].trim_end().to_string() + " …",
-        None => text.to_string(),
-    }
-}
-
-pub fn bytes(count: usize) -> String {
-    counted(count, "byte", "bytes")
-}
-
-pub fn boxes(count: usize) -> String {
-    counted(count, "box", "boxes")
-}
-
-fn counted(count: usize, one: &str, more: &str) -> String {
-    match count {
-        1 => format!("1 {one}"),
-        _ => format!("{count} {more}"),
-    }
-}
-
-/// Numbers one behind the other.
-pub fn numbers(numbers: &[usize]) -> String {
-    let numbers: Vec<String> = numbers.iter().map(usize::to_string).collect();
-    numbers.join(" ")
-}
-
 impl View {
     /// Plays the plan; the named books are called by their names.
-    pub fn new(plan: &[u8], named: &[(String, Vec<u8>)]) -> Result<View, Fault> {
+    pub fn new(plan: &[u8], named: &[Named]) -> Result<View, Fault> {
         let session = play(plan)?;
         let books = known(&session.plan, named);
         Ok(View { session, books })

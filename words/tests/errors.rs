@@ -14,115 +14,108 @@ fn error(words: &str) -> String {
     }
 }
 
-/// The errors of each line behind the sound ones, without the line's number, 6.
-fn behind(cases: &[(&str, &str)]) {
-    for (line, expected) in cases {
-        let found = error(&format!("{SOUND}{line}\n"));
-        assert_eq!(found, format!("line 6: {expected}"), "{line}");
+/// Words and what is said of them.
+type Cases = [(&'static str, &'static str)];
+
+/// Each case's words stand behind others; what is said begins with the place.
+fn check(above: &str, place: &str, cases: &Cases) {
+    for (words, expected) in cases {
+        let found = error(&format!("{above}{words}"));
+        assert_eq!(found, format!("{place}{expected}"), "{words}");
     }
 }
 
-/// The same in an exchange, as line 7.
-fn in_exchange(cases: &[(&str, &str)]) {
-    for (line, expected) in cases {
-        let found = error(&format!("{SOUND}first exchange\n{line}\n"));
-        assert_eq!(found, format!("line 7: {expected}"), "{line}");
-    }
-}
+const FIRST_LINES: &Cases = &[
+    ("", "line 1: expected 'boxes', found the end of the plan"),
+    (
+        "# none\n\n",
+        "line 2: expected 'boxes', found the end of the plan",
+    ),
+    ("limit 1", "line 1: expected 'boxes', found 'limit'"),
+    (
+        "boxes",
+        "line 1: expected the number of boxes from 0 to 255, found the end of the line",
+    ),
+    (
+        "boxes three",
+        "line 1: expected the number of boxes from 0 to 255, found 'three'",
+    ),
+    (
+        "boxes 256",
+        "line 1: expected the number of boxes from 0 to 255, found '256'",
+    ),
+    (
+        "boxes +3",
+        "line 1: expected the number of boxes from 0 to 255, found '+3'",
+    ),
+    (
+        "boxes 3 4",
+        "line 1: expected the end of the line, found '4'",
+    ),
+    (
+        "boxes 3",
+        "line 1: expected 'limit', found the end of the plan",
+    ),
+    (
+        "\nboxes 3\nbook A \"\"",
+        "line 3: expected 'limit', found 'book'",
+    ),
+    (
+        "boxes 3\nlimit 1.5",
+        "line 2: expected the greatest number of bad boxes from 0 to 255, found '1.5'",
+    ),
+];
 
 #[test]
 fn the_first_lines() {
-    let cases = [
-        ("", "line 1: expected 'boxes', found the end of the plan"),
-        (
-            "# none\n\n",
-            "line 2: expected 'boxes', found the end of the plan",
-        ),
-        ("limit 1", "line 1: expected 'boxes', found 'limit'"),
-        (
-            "boxes",
-            "line 1: expected the number of boxes from 0 to 255, found the end of the line",
-        ),
-        (
-            "boxes three",
-            "line 1: expected the number of boxes from 0 to 255, found 'three'",
-        ),
-        (
-            "boxes 256",
-            "line 1: expected the number of boxes from 0 to 255, found '256'",
-        ),
-        (
-            "boxes +3",
-            "line 1: expected the number of boxes from 0 to 255, found '+3'",
-        ),
-        (
-            "boxes 3 4",
-            "line 1: expected the end of the line, found '4'",
-        ),
-        (
-            "boxes 3",
-            "line 1: expected 'limit', found the end of the plan",
-        ),
-        (
-            "\nboxes 3\nbook A \"\"",
-            "line 3: expected 'limit', found 'book'",
-        ),
-        (
-            "boxes 3\nlimit 1.5",
-            "line 2: expected the greatest number of bad boxes from 0 to 255, found '1.5'",
-        ),
-    ];
-    for (words, expected) in cases {
-        assert_eq!(error(words), expected);
-    }
+    check("", "", FIRST_LINES);
 }
+
+const STATEMENTS: &Cases = &[
+    (
+        "boxes 3",
+        "expected 'root', 'bit', 'book', 'box', 'first exchange', 'second exchange', \
+             'options', 'behind', 'cut by' or a sender's number, found 'boxes'",
+    ),
+    (
+        ": 3",
+        "expected 'root', 'bit', 'book', 'box', 'first exchange', 'second exchange', \
+             'options', 'behind', 'cut by' or a sender's number, found ':'",
+    ),
+    ("first round", "expected 'exchange', found 'round'"),
+    (
+        "bit",
+        "expected a bit from 0 to 255, found the end of the line",
+    ),
+    ("bit 256", "expected a bit from 0 to 255, found '256'"),
+];
+
+const TWICE: &Cases = &[
+    ("bit 1\nbit 0", "line 7: 'bit' stands in line 6 already"),
+    (
+        "root of A\nroot of A",
+        "line 7: 'root' stands in line 6 already",
+    ),
+    ("book A \"\"", "line 6: book A stands in line 3 already"),
+    ("box 1 has A", "line 6: box 1 stands in line 4 already"),
+    ("box 3 has A", "line 6: box 3 stands in line 5 already"),
+    (
+        "second exchange\nsecond exchange",
+        "line 7: 'second exchange' stands in line 6 already",
+    ),
+    (
+        "cut by 1\ncut by 1",
+        "line 7: 'cut' stands in line 6 already",
+    ),
+];
 
 #[test]
 fn statements() {
-    behind(&[
-        (
-            "boxes 3",
-            "expected 'root', 'bit', 'book', 'box', 'first exchange', 'second exchange', \
-             'options', 'behind', 'cut by' or a sender's number, found 'boxes'",
-        ),
-        (
-            ": 3",
-            "expected 'root', 'bit', 'book', 'box', 'first exchange', 'second exchange', \
-             'options', 'behind', 'cut by' or a sender's number, found ':'",
-        ),
-        ("first round", "expected 'exchange', found 'round'"),
-        (
-            "bit",
-            "expected a bit from 0 to 255, found the end of the line",
-        ),
-        ("bit 256", "expected a bit from 0 to 255, found '256'"),
-    ]);
-    let twice = [
-        ("bit 1\nbit 0", "line 7: 'bit' stands in line 6 already"),
-        (
-            "root of A\nroot of A",
-            "line 7: 'root' stands in line 6 already",
-        ),
-        ("book A \"\"", "line 6: book A stands in line 3 already"),
-        ("box 1 has A", "line 6: box 1 stands in line 4 already"),
-        ("box 3 has A", "line 6: box 3 stands in line 5 already"),
-        (
-            "second exchange\nsecond exchange",
-            "line 7: 'second exchange' stands in line 6 already",
-        ),
-        (
-            "cut by 1\ncut by 1",
-            "line 7: 'cut' stands in line 6 already",
-        ),
-    ];
-    for (lines, expected) in twice {
-        assert_eq!(error(&format!("{SOUND}{lines}")), expected);
-    }
+    check(SOUND, "line 6: ", STATEMENTS);
+    check(SOUND, "", TWICE);
 }
 
-#[test]
-fn roots_books_and_boxes() {
-    behind(&[
+const MEMBERS: &Cases = &[
         (
             "root",
             "expected 'of' and a book, or 64 hexadecimal digits, found the end of the line",
@@ -164,118 +157,128 @@ fn roots_books_and_boxes() {
         ("box 0 is bad", "expected a box number from 1 to 255, found '0'"),
         ("box 4 is bad", "box 4 is none of the 3 boxes"),
         ("box 17 has A", "box 17 cannot be good: a plan's maps end at 16"),
-    ]);
+];
+
+#[test]
+fn roots_books_and_boxes() {
+    check(SOUND, "line 6: ", MEMBERS);
 }
+
+const SENDINGS: &Cases = &[
+    ("1 to 1: empty", "no line above says that box 1 is bad"),
+    ("3 for 1: empty", "expected 'to', found 'for'"),
+    (
+        "3 to : empty",
+        "expected a receiver from 1 to 16, found ':'",
+    ),
+    (
+        "3 to 17: empty",
+        "expected a receiver from 1 to 16, found '17'",
+    ),
+    (
+        "3 to 1, 2: empty",
+        "expected ':' or a receiver from 1 to 16, found ','",
+    ),
+    (
+        "3 to 1 empty",
+        "expected ':' or a receiver from 1 to 16, found 'empty'",
+    ),
+    (
+        "3 to 1: silence",
+        "expected 'share', 'hex', 'empty' or 'nothing', found 'silence'",
+    ),
+    (
+        "3 to 1: hex 7",
+        "expected pairs of hexadecimal digits, found '7'",
+    ),
+    (
+        "3 to 1: share 0 of A",
+        "expected a share number from 1 to 16, found '0'",
+    ),
+    (
+        "3 to 1: share 4 of A",
+        "shares have numbers from 1 to 3, not 4",
+    ),
+    ("3 to 1: share 1 from A", "expected 'of', found 'from'"),
+    ("3 to 1: share 1 of C", "no line above has a book C"),
+    (
+        "3 to 1: share 1 of box 3",
+        "no line above says what box 3 has",
+    ),
+    (
+        "3 to 1: share 1 of A number 2",
+        "expected the end of the line, found 'number'",
+    ),
+    (
+        "3 to 1: share 1 of A, damaged",
+        "expected 'map', 'number', 'length', 'path', 'share byte', 'followed by' or 'cut by', \
+             found 'damaged'",
+    ),
+    (
+        "3 to 1: share 1 of A, number 256",
+        "expected a number from 0 to 255, found '256'",
+    ),
+    (
+        "3 to 1: share 1 of A, map 07h",
+        "expected a map from 0 to 255, found '07h'",
+    ),
+    (
+        "3 to 1: share 1 of A, length 65536",
+        "expected a length from 0 to 65535, found '65536'",
+    ),
+    (
+        "3 to 1: share 1 of A, path of A",
+        "expected 'byte' or a share number from 1 to 16, found 'of'",
+    ),
+    (
+        "3 to 1: share 1 of A, path 9 of A",
+        "shares have numbers from 1 to 3, not 9",
+    ),
+    (
+        "3 to 1: share 1 of A, path byte 64 damaged",
+        "the path has 64 bytes, counted from 0",
+    ),
+    (
+        "3 to 1: share 1 of A, share byte 2 damaged",
+        "the share has 2 bytes, counted from 0",
+    ),
+    (
+        "3 to 1: share 1 of A, share byte 0 changed",
+        "expected 'damaged', found 'changed'",
+    ),
+    (
+        "3 to 1: share 1 of A, share byte 0 damaged by 256",
+        "expected two hexadecimal digits, found '256'",
+    ),
+    (
+        "3 to 1: share 1 of A, cut by 71",
+        "the packet has 70 bytes to cut",
+    ),
+    (
+        "3 to 1: share 1 of A, followed 41",
+        "expected 'by', found '41'",
+    ),
+    (
+        "3 to 1: empty, cut by 1",
+        "expected the end of the line, found ','",
+    ),
+    (
+        "3 to 1 1: empty",
+        "3 to 1 in the first exchange stands in line 7 already",
+    ),
+];
 
 #[test]
 fn sendings() {
-    behind(&[(
-        "3 to 1: empty",
-        "'first exchange' or 'second exchange' must stand above",
-    )]);
-    in_exchange(&[
-        ("1 to 1: empty", "no line above says that box 1 is bad"),
-        ("3 for 1: empty", "expected 'to', found 'for'"),
-        (
-            "3 to : empty",
-            "expected a receiver from 1 to 16, found ':'",
-        ),
-        (
-            "3 to 17: empty",
-            "expected a receiver from 1 to 16, found '17'",
-        ),
-        (
-            "3 to 1, 2: empty",
-            "expected ':' or a receiver from 1 to 16, found ','",
-        ),
-        (
-            "3 to 1 empty",
-            "expected ':' or a receiver from 1 to 16, found 'empty'",
-        ),
-        (
-            "3 to 1: silence",
-            "expected 'share', 'hex', 'empty' or 'nothing', found 'silence'",
-        ),
-        (
-            "3 to 1: hex 7",
-            "expected pairs of hexadecimal digits, found '7'",
-        ),
-        (
-            "3 to 1: share 0 of A",
-            "expected a share number from 1 to 16, found '0'",
-        ),
-        (
-            "3 to 1: share 4 of A",
-            "shares have numbers from 1 to 3, not 4",
-        ),
-        ("3 to 1: share 1 from A", "expected 'of', found 'from'"),
-        ("3 to 1: share 1 of C", "no line above has a book C"),
-        (
-            "3 to 1: share 1 of box 3",
-            "no line above says what box 3 has",
-        ),
-        (
-            "3 to 1: share 1 of A number 2",
-            "expected the end of the line, found 'number'",
-        ),
-        (
-            "3 to 1: share 1 of A, damaged",
-            "expected 'map', 'number', 'length', 'path', 'share byte', 'followed by' or 'cut by', \
-             found 'damaged'",
-        ),
-        (
-            "3 to 1: share 1 of A, number 256",
-            "expected a number from 0 to 255, found '256'",
-        ),
-        (
-            "3 to 1: share 1 of A, map 07h",
-            "expected a map from 0 to 255, found '07h'",
-        ),
-        (
-            "3 to 1: share 1 of A, length 65536",
-            "expected a length from 0 to 65535, found '65536'",
-        ),
-        (
-            "3 to 1: share 1 of A, path of A",
-            "expected 'byte' or a share number from 1 to 16, found 'of'",
-        ),
-        (
-            "3 to 1: share 1 of A, path 9 of A",
-            "shares have numbers from 1 to 3, not 9",
-        ),
-        (
-            "3 to 1: share 1 of A, path byte 64 damaged",
-            "the path has 64 bytes, counted from 0",
-        ),
-        (
-            "3 to 1: share 1 of A, share byte 2 damaged",
-            "the share has 2 bytes, counted from 0",
-        ),
-        (
-            "3 to 1: share 1 of A, share byte 0 changed",
-            "expected 'damaged', found 'changed'",
-        ),
-        (
-            "3 to 1: share 1 of A, share byte 0 damaged by 256",
-            "expected two hexadecimal digits, found '256'",
-        ),
-        (
-            "3 to 1: share 1 of A, cut by 71",
-            "the packet has 70 bytes to cut",
-        ),
-        (
-            "3 to 1: share 1 of A, followed 41",
-            "expected 'by', found '41'",
-        ),
-        (
-            "3 to 1: empty, cut by 1",
-            "expected the end of the line, found ','",
-        ),
-        (
-            "3 to 1 1: empty",
-            "3 to 1 in the first exchange stands in line 7 already",
-        ),
-    ]);
+    check(
+        SOUND,
+        "line 6: ",
+        &[(
+            "3 to 1: empty",
+            "'first exchange' or 'second exchange' must stand above",
+        )],
+    );
+    check(&format!("{SOUND}first exchange\n"), "line 7: ", SENDINGS);
     let twice = format!("{SOUND}first exchange\n3 to 1: nothing\n3 to 2 1: empty\n");
     let expected = "line 8: 3 to 1 in the first exchange stands in line 7 already";
     assert_eq!(error(&twice), expected);

@@ -78,8 +78,15 @@ fn words_and_bytes_are_told_apart() {
     let told = printed(&["explain"], &plan);
     assert!(told.starts_with(b"Sitting of 10 boxes, "));
     assert_eq!(printed(&["explain"], ten.as_bytes()), told);
-    let empty = printed(&["explain"], b"");
-    assert!(empty.ends_with(b"\n\nrefused 13\n"));
+    for blank in [&b""[..], b"\n"] {
+        let told = printed(&["explain"], blank);
+        assert!(told.ends_with(b"\n\nrefused 13\n"));
+    }
+    let marked = ["\u{feff}", &ten].concat();
+    assert_eq!(printed(&["to-bytes"], marked.as_bytes()), plan);
+    let (status, text) = said(&["explain"], b"# caf\xE9\nboxes 1\n");
+    assert_eq!(status, Some(1));
+    assert_eq!(text, "standard input: line 1: expected text in UTF-8\n");
 }
 
 #[test]

@@ -1,0 +1,37 @@
+//! Short phrases that text and picture have in common.
+
+use foreign::sha256::{hex, Hash};
+
+/// The first digits of a root.
+pub fn short(root: &Hash) -> String {
+    hex(&root[..4]) + "…"
+}
+
+/// The text, with an ellipsis if only so many letters of it are shown.
+pub fn cut(text: &str, letters: usize) -> String {
+    match text.char_indices().nth(letters) {
+        Some((end, _)) => text[..end].trim_end().to_string() + " …",
+        None => text.to_string(),
+    }
+}
+
+pub fn bytes(count: usize) -> String {
+    counted(count, "byte", "bytes")
+}
+
+pub fn boxes(count: usize) -> String {
+    counted(count, "box", "boxes")
+}
+
+fn counted(count: usize, one: &str, more: &str) -> String {
+    match count {
+        1 => format!("1 {one}"),
+        _ => format!("{count} {more}"),
+    }
+}
+
+/// Numbers one behind the other.
+pub fn numbers(numbers: &[usize]) -> String {
+    let numbers: Vec<String> = numbers.iter().map(usize::to_string).collect();
+    numbers.join(" ")
+}
