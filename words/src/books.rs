@@ -100,10 +100,11 @@ impl Books {
         coded.flat_map(|(book, coded)| (1..=self.n).map(move |j| (&book.name[..], coded, j)))
     }
 
-    /// A name for one more book: the first letter that is free. A plan has at most 16 books.
+    /// A name for one more book: the first letter that is free, or Z with a number.
     pub fn free_name(&self) -> String {
-        let mut letters = ('A'..='Z').map(String::from);
-        let free = letters.find(|letter| !self.names.contains_key(letter));
-        free.unwrap_or_else(|| format!("Z{}", self.names.len()))
+        let letters = ('A'..='Z').map(String::from);
+        let mut names = letters.chain((1..).map(|number| format!("Z{number}")));
+        let free = names.find(|name| !self.names.contains_key(name));
+        free.expect("names do not run out")
     }
 }

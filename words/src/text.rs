@@ -5,7 +5,7 @@ use std::collections::BTreeSet;
 use foreign::rehearsal::{Exchange, Plan};
 use foreign::sha256::{hex, Hash};
 
-use crate::books::{Books, Named};
+use crate::books::{Book, Books, Coded, Named};
 use crate::packet::Hex;
 use crate::recognise::recognise;
 
@@ -15,23 +15,25 @@ const WIDTH: usize = 100;
 /// The plan in words. Shares of the good parties' books and of the named ones are told as
 /// such; books that are not spoken of are left out.
 pub fn text(plan: &Plan, named: &[Named]) -> String {
-    let books = known(plan, named);
-    let mut used = BTreeSet::new();
-    let mut middle = agreed(plan, &books, &mut used);
-    middle.push(String::new());
-    let mut exchanges = Vec::new();
-    for (title, exchange) in [("first", &plan.first), ("second", &plan.second)] {
-        exchanges.extend([String::new(), format!("{title} exchange")]);
-        exchanges.extend(sendings(exchange, plan, &books, &mut used));
-    }
-    middle.extend(members(plan, &books, &mut used));
-    let spoken_of = books.known.iter().filter(|it| used.contains(&it.name));
-    let spoken_of = spoken_of.map(|it| format!("book {} {}", it.name, written(&it.message)));
-    let mut lines = vec![format!("boxes {}", plan.n), format!("limit {}", plan.t)];
-    lines.push(String::new());
-    lines.extend(spoken_of);
-    lines.extend(middle);
-    lines.extend(exchanges);
+    let mut words = Words {
+        plan,
+        books: known(plan, named),
+        spoken_of: BTreeSet::new(),
+    };
+    let agreed = words.agreed();
+    let members = words.members();
+    let first = words.sendings(&plan.first);
+    let second = words.sendings(&plan.second);
+    let head = [
+        format!("boxes {}", plan.n),
+        format!("limit {}", plan.t),
+        String::new(),
+    ];
+    let title = |exchange: &str| [String::new(), format!("{exchange} exchange")];
+    let mut lines = [&head[..], &words.definitions(), &agreed, &[String::new()]].concat();
+    lines.extend(members);
+    lines.extend(title("first").into_iter().chain(first));
+    lines.extend(title("second").into_iter().chain(second));
     lines.iter().map(|line| broken(line)).collect()
 }
 
@@ -49,57 +51,72 @@ pub fn known(plan: &Plan, named: &[Named]) -> Books {
     books
 }
 
-/// The lines of root and bit.
-fn agreed(plan: &Plan, books: &Books, used: &mut BTreeSet<String>) -> Vec<String> {
-    let root = plan.root.map(|root| match named_root(books, root) {
-        Some(name) => {
-            used.insert(name.to_string());
-            format!("root of {name}")
-        }
-        None => format!("root {}", hex(&root)),
-    });
-    let bit = plan.bit.map(|bit| format!("bit {bit}"));
-    root.into_iter().chain(bit).collect()
-}
-
 /// The book whose root this is.
 pub fn named_root(books: &Books, root: Hash) -> Option<&str> {
-    let mut shares = books.shares();
-    shares
-        .find(|(_, coded, _)| coded.root == root)
-        .map(|it| it.0)
+    let mut known = books.known.iter();
+    let has_root = |it: &Coded| it.root == root;
+    let found = known.find(|it| it.coded.as_ref().is_some_and(has_root));
+    found.map(|it| &it.name[..])
 }
 
-fn members(plan: &Plan, books: &Books, used: &mut BTreeSet<String>) -> Vec<String> {
-    let mut messages = plan.messages.iter();
-    let mut line = |number| match plan.good.contains(&number) {
-        true => {
-            let message = messages.next().expect("each good party has a message");
-            let name = books.name_of(message).expect("all are known");
-            used.insert(name.to_string());
-            format!("box {number} has {name}")
-        }
-        false => format!("box {number} is bad"),
-    };
-    (1..=plan.n).map(&mut line).collect()
+/// A plan whose words are being found, and the books that they speak of so far.
+struct Words<'a> {
+    plan: &'a Plan,
+    books: Books,
+    spoken_of: BTreeSet<String>,
 }
 
-/// What the bad parties send, receivers of one packet together.
-fn sendings(
-    exchange: &Exchange,
-    plan: &Plan,
-    books: &Books,
-    used: &mut BTreeSet<String>,
-) -> Vec<String> {
-    let mut lines = Vec::new();
-    for sender in (1..=plan.n).filter(|party| !plan.good.contains(party)) {
-        for (receivers, bytes) in by_packet(&exchange[sender - 1]) {
-            let packet = recognise(books, bytes);
-            used.extend(packet.books().into_iter().map(String::from));
-            lines.push(format!("{sender} to{receivers}: {packet}"));
-        }
+impl Words<'_> {
+    /// The lines of the books that are spoken of.
+    fn definitions(&self) -> Vec<String> {
+        let known = self.books.known.iter();
+        let spoken_of = known.filter(|it| self.spoken_of.contains(&it.name));
+        let line = |it: &Book| format!("book {} {}", it.name, written(&it.message));
+        spoken_of.map(line).collect()
     }
-    lines
+
+    /// The lines of root and bit.
+    fn agreed(&mut self) -> Vec<String> {
+        let named = self.plan.root.and_then(|it| named_root(&self.books, it));
+        self.spoken_of.extend(named.map(String::from));
+        let root = self.plan.root.map(|root| match named {
+            Some(name) => format!("root of {name}"),
+            None => format!("root {}", hex(&root)),
+        });
+        let bit = self.plan.bit.map(|bit| format!("bit {bit}"));
+        root.into_iter().chain(bit).collect()
+    }
+
+    fn members(&mut self) -> Vec<String> {
+        let mut messages = self.plan.messages.iter();
+        let mut lines = Vec::new();
+        for number in 1..=self.plan.n {
+            if !self.plan.good.contains(&number) {
+                lines.push(format!("box {number} is bad"));
+                continue;
+            }
+            let message = messages.next().expect("each good party has a message");
+            let name = self.books.name_of(message).expect("all are known");
+            self.spoken_of.insert(name.to_string());
+            lines.push(format!("box {number} has {name}"));
+        }
+        lines
+    }
+
+    /// What the bad parties send in one exchange, receivers of one packet together.
+    fn sendings(&mut self, exchange: &Exchange) -> Vec<String> {
+        let plan = self.plan;
+        let mut lines = Vec::new();
+        for sender in (1..=plan.n).filter(|party| !plan.good.contains(party)) {
+            for (receivers, bytes) in by_packet(&exchange[sender - 1]) {
+                let packet = recognise(&self.books, bytes);
+                let books = packet.books().into_iter().map(String::from);
+                self.spoken_of.extend(books);
+                lines.push(format!("{sender} to{receivers}: {packet}"));
+            }
+        }
+        lines
+    }
 }
 
 /// The packets of a row, each once, with the receivers' numbers.
