@@ -2,7 +2,7 @@
 
 use foreign::rehearsal::{Fault, Misfit, Part};
 
-use crate::phrases::bytes;
+use crate::phrases::{bytes, EXCHANGES};
 
 /// The words of the table of causes, for those that a plan can have.
 pub fn words(cause: u32) -> &'static str {
@@ -25,9 +25,14 @@ pub fn detail(fault: Fault, plan: &[u8]) -> String {
         Fault::LongMessage(number) => format!("Box {number}'s book is too long."),
         Fault::TooManyBad => "More boxes are bad than the limit allows.".to_string(),
         Fault::BitAbove => "The bit that is given is neither 0 nor 1.".to_string(),
-        Fault::RootAgainst => "All good boxes have one root, and another one is given.".to_string(),
-        Fault::BitAgainst => "All good boxes have one bit, and another one is given.".to_string(),
+        Fault::RootAgainst => against("root"),
+        Fault::BitAgainst => against("bit"),
     }
+}
+
+/// The rule of the short agreement is broken.
+fn against(what: &str) -> String {
+    format!("All good boxes put one {what} into the short agreement, and the plan gives another.")
 }
 
 /// Where the layout went wrong, or ran out.
@@ -49,7 +54,6 @@ pub fn place(misfit: Misfit, length: usize) -> String {
 }
 
 fn named(part: Part) -> String {
-    let ordinal = |exchange: usize| ["first", "second"][exchange];
     match part {
         Part::Head => "n and t".to_string(),
         Part::Options => "the option map".to_string(),
@@ -58,7 +62,7 @@ fn named(part: Part) -> String {
         Part::Good => "the map of good boxes".to_string(),
         Part::Message(number) => format!("box {number}'s book or its length"),
         Part::Receivers { exchange, sender } => {
-            let exchange = ordinal(exchange);
+            let exchange = EXCHANGES[exchange];
             format!("box {sender}'s map of receivers in the {exchange} exchange")
         }
         Part::Packet {
@@ -66,7 +70,7 @@ fn named(part: Part) -> String {
             sender,
             receiver,
         } => {
-            let exchange = ordinal(exchange);
+            let exchange = EXCHANGES[exchange];
             format!("the packet from {sender} to {receiver} in the {exchange} exchange")
         }
         Part::End => "the end".to_string(),

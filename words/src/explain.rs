@@ -5,7 +5,7 @@ use foreign::rehearsal::{Fault, Takings};
 
 use crate::books::Named;
 use crate::causes::{detail, words};
-use crate::phrases::{boxes, bytes, numbers, short};
+use crate::phrases::{boxes, bytes, numbers, short, EXCHANGES};
 use crate::text::written;
 use crate::view::View;
 
@@ -66,8 +66,8 @@ impl View {
             self.origin(session.plan.root.is_some())
         );
         for (place, number) in session.plan.good.iter().enumerate() {
-            let mood = ["unhappy", "happy"][usize::from(self.happy(place))];
-            text += &format!("  box {number} is {mood}, bit {}\n", session.bits[place]);
+            let (mood, bit) = (self.mood(place), session.bits[place]);
+            text += &format!("  box {number} is {mood}, bit {bit}\n");
         }
         let origin = self.origin(session.plan.bit.is_some());
         text + &format!("Agreed bit {} ({origin})\n", session.bit)
@@ -75,13 +75,10 @@ impl View {
 
     fn exchanges(&self, takings: &Takings) -> String {
         let mut text = String::new();
-        for (exchange, title) in ["First", "Second"].into_iter().enumerate() {
-            text += &format!("\n{title} exchange\n{}", self.packets(exchange));
+        for (exchange, name) in EXCHANGES.iter().enumerate() {
+            text += &format!("\nThe {name} exchange\n{}", self.packets(exchange));
             for (place, number) in self.session.plan.good.iter().enumerate() {
-                let step = match exchange {
-                    0 => self.first_step(takings, place),
-                    _ => self.second_step(takings, place),
-                };
+                let step = self.step(exchange, takings, place);
                 text += &format!("  box {number} {step}\n");
             }
         }

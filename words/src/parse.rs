@@ -9,6 +9,7 @@ use foreign::sha256::Hash;
 use crate::draft::Draft;
 use crate::lines::{lines, pairs, Error, Line};
 use crate::packet::{Change, Packet, LONGEST};
+use crate::phrases::EXCHANGES;
 
 /// Words that cannot name a book.
 const KEYWORDS: [&str; 2] = ["box", "hex"];
@@ -186,7 +187,7 @@ impl Reader {
     }
 
     fn exchange(&mut self, line: &mut Line, exchange: usize) -> Result<(), Error> {
-        let keyword = ["first", "second"][exchange];
+        let keyword = EXCHANGES[exchange];
         self.once(format!("'{keyword} exchange'"), line)?;
         line.expect(keyword)?;
         line.expect("exchange")?;
@@ -233,7 +234,7 @@ impl Reader {
         let bytes = packet.bytes(&self.draft.books);
         let bytes = bytes.map_err(|text| line.error(text))?;
         for receiver in receivers {
-            let place = ["first", "second"][exchange];
+            let place = EXCHANGES[exchange];
             self.once(
                 format!("{sender} to {receiver} in the {place} exchange"),
                 line,

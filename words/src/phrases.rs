@@ -2,6 +2,9 @@
 
 use foreign::sha256::{hex, Hash};
 
+/// What the exchanges are called.
+pub const EXCHANGES: [&str; 2] = ["first", "second"];
+
 /// The first digits of a root.
 pub fn short(root: &Hash) -> String {
     hex(&root[..4]) + "…"

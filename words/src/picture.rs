@@ -4,7 +4,7 @@ use foreign::rehearsal::{Fault, Takings};
 
 use crate::books::Named;
 use crate::explain::refused;
-use crate::phrases::{boxes, cut, short};
+use crate::phrases::{boxes, bytes, cut, short, EXCHANGES};
 use crate::svg::{wrapped, Svg};
 use crate::text::written;
 use crate::view::{Parcel, View, Worth};
@@ -107,10 +107,8 @@ impl Picture<'_> {
         let root_origin = view.origin(session.plan.root.is_some());
         let bit_origin = view.origin(session.plan.bit.is_some());
         self.y += 4;
-        self.paragraph(
-            "title",
-            &format!("Sitting of {}, at most {t} bad", boxes(n)),
-        );
+        let title = format!("Sitting of {}, at most {t} bad", boxes(n));
+        self.paragraph("title", &title);
         self.y += 4;
         self.paragraph("", &format!("Agreed root: {root} ({root_origin})"));
         self.paragraph("", &format!("Agreed bit: {} ({bit_origin})", session.bit));
@@ -123,10 +121,8 @@ impl Picture<'_> {
 
     /// What each box is and has.
     fn heads(&mut self) {
-        let cards = (1..=self.view.n())
-            .map(|number| self.head(number))
-            .collect();
-        self.cards(cards);
+        let cards = (1..=self.view.n()).map(|number| self.head(number));
+        self.cards(cards.collect());
     }
 
     fn head(&self, number: usize) -> Card {
@@ -134,7 +130,7 @@ impl Picture<'_> {
         let Some(place) = self.view.place(number) else {
             return Card::new(number, "bad", &[title, "bad".to_string()]);
         };
-        let class = ["unhappy", "happy"][usize::from(self.view.happy(place))];
+        let class = self.view.mood(place);
         let root = format!("root {}", short(&self.view.session.roots[place]));
         let book = format!("has {}", self.view.book_of(place));
         Card::new(number, class, &[title, book, root, class.to_string()])
@@ -158,12 +154,11 @@ impl Picture<'_> {
             self.svg.rect(corner, (self.column - 8, height), &class);
             for (place, line) in (1..).zip(lines(&card)) {
                 let at = (x, self.y + place * LINE + 2);
-                let strong = if place == 1 && card.titled {
-                    "middle strong"
-                } else {
-                    "middle"
+                let class = match place == 1 && card.titled {
+                    true => "middle strong",
+                    false => "middle",
                 };
-                self.svg.text(at, strong, &line);
+                self.svg.text(at, class, &line);
             }
         }
         self.y += height + 12;
@@ -177,17 +172,13 @@ impl Picture<'_> {
     }
 
     fn exchanges(&mut self, takings: &Takings) -> i32 {
-        let [first, second] = self.view.session.bytes_sent();
-        self.bar(&format!(
-            "First exchange: the good boxes send {first} bytes"
-        ));
-        self.exchange(0);
-        self.steps(|view, place| view.first_step(takings, place));
-        self.bar(&format!(
-            "Second exchange: the good boxes send {second} bytes"
-        ));
-        self.exchange(1);
-        self.steps(|view, place| view.second_step(takings, place));
+        let sent = self.view.session.bytes_sent();
+        for (exchange, name) in EXCHANGES.iter().enumerate() {
+            let sent = bytes(sent[exchange]);
+            self.bar(&format!("The {name} exchange: the good boxes send {sent}"));
+            self.exchange(exchange);
+            self.steps(|view, place| view.step(exchange, takings, place));
+        }
         let lanes_end = self.results();
         self.legend();
         lanes_end
@@ -208,11 +199,8 @@ impl Picture<'_> {
                 Some(_) => "happy",
                 None => "step",
             };
-            Card::new(
-                number,
-                class,
-                &[format!("box {number}"), self.view.ending(place)],
-            )
+            let title = format!("box {number}");
+            Card::new(number, class, &[title, self.view.ending(place)])
         });
         self.cards(cards.collect());
         end
@@ -279,11 +267,7 @@ impl Picture<'_> {
         let entries = [
             ("passes", "", "passes the check"),
             ("passes", "taken", "passes, is taken and relayed"),
-            (
-                "passes",
-                "pale",
-                "pale: to a happy box, which does not look",
-            ),
+            ("passes", "pale", "to a happy box, which does not look"),
             ("fails", "", "fails the check, or bears another number"),
             ("unreadable", "", "cannot be read"),
             ("silence", "", "silence"),

@@ -84,6 +84,13 @@ impl View {
         self.session.bits[place] == 1
     }
 
+    pub fn mood(&self, place: usize) -> &'static str {
+        match self.happy(place) {
+            true => "happy",
+            false => "unhappy",
+        }
+    }
+
     pub fn book_of(&self, place: usize) -> &str {
         let name = self.books.name_of(&self.session.plan.messages[place]);
         name.expect("every good box's book is known")
@@ -112,11 +119,8 @@ impl View {
         for (sender, row) in (1..).zip([&plan.first, &plan.second][exchange]) {
             for (receiver, packet) in (1..).zip(row) {
                 let way = Way::new(exchange, sender, receiver);
-                parcels.extend(
-                    packet
-                        .as_deref()
-                        .map(|packet| self.parcel(way, exchange, packet)),
-                );
+                let parcel = |it: &Vec<u8>| self.parcel(way, exchange, it);
+                parcels.extend(packet.as_ref().map(parcel));
             }
         }
         parcels
@@ -158,8 +162,15 @@ impl View {
         cut(&recognise(&self.books, packet).to_string(), SHOWN)
     }
 
-    /// What a good box does with the first inbox.
-    pub fn first_step(&self, takings: &Takings, place: usize) -> String {
+    /// What a good box does with its inbox of exchange 0 or 1.
+    pub fn step(&self, exchange: usize, takings: &Takings, place: usize) -> String {
+        match exchange {
+            0 => self.first_step(takings, place),
+            _ => self.second_step(takings, place),
+        }
+    }
+
+    fn first_step(&self, takings: &Takings, place: usize) -> String {
         let own = self.session.plan.good[place];
         match takings.sources[place] {
             _ if self.n() == 1 => "is alone and relays nothing".to_string(),
@@ -171,8 +182,7 @@ impl View {
         }
     }
 
-    /// What a good box does with the second inbox.
-    pub fn second_step(&self, takings: &Takings, place: usize) -> String {
+    fn second_step(&self, takings: &Takings, place: usize) -> String {
         let Some(gathered) = &takings.gathered[place] else {
             return "is happy, looks at no packet and keeps its own book".to_string();
         };
