@@ -4,10 +4,121 @@
 use foreign::plans::plan;
 use foreign::rehearsal::rehearse;
 use words::explain::explain;
+use words::input::given;
 use words::picture::picture;
 use words::view::{Parcel, View, Worth};
 
 const COUNT: u64 = 2_000;
+
+/// A small sitting in which the bit is given, and a book has two names.
+const WORDS: &str = "boxes 3
+limit 1
+book A \"A\"
+book Same \"A\"
+bit 1
+box 1 is bad
+box 2 has \"A\"
+box 3 has \"B\"
+first exchange
+1 to 2: hex 00
+1 to 3: share 2 of box 2
+second exchange
+1 to 3: share 1 of A, number 9
+";
+
+const TOLD: &str = "Sitting of 3 boxes, at most 1 bad; 2 of the shares give a book back.
+
+Books
+  A, 1 byte: \"A\"
+  B, 1 byte: \"B\"
+
+Openings
+  box 2 has A, root 975f8bd5…
+  box 3 has B, root 037e6bb8…
+  bad: 1
+
+Agreed root 975f8bd5… of A (box 2's, as the plan gives none)
+  box 2 is happy, bit 1
+  box 3 is unhappy, bit 0
+Agreed bit 1 (as the plan gives it)
+
+The first exchange
+  1 to 2        1 byte   is silence         hex 00
+  1 to 3      70 bytes   bears number 2     share 2 of A
+  2 to 1      70 bytes   goes to a bad box  share 1 of A
+  2 to 3      38 bytes   passes             share 3 of A
+  box 2 is happy, looks at no packet and relays its own share 2
+  box 3 takes share 3 from box 2 and relays it
+
+The second exchange
+  1 to 3      70 bytes   cannot be read     share 1 of A, number 9
+  2 to 1      70 bytes   goes to a bad box  share 2 of A
+  2 to 3      70 bytes   passes             share 2 of A
+  3 to 1      38 bytes   goes to a bad box  share 3 of A
+  3 to 2      38 bytes   passes             share 3 of A
+  box 2 is happy, looks at no packet and keeps its own book
+  box 3 gathers shares 2 3 and rebuilds the book from 2 3
+
+Results
+  box 2 ends with A
+  box 3 ends with A
+  bytes sent by good boxes: 108 in the first exchange, 216 in the second
+
+2 = 41
+3 = 41
+sent 324
+";
+
+#[test]
+fn a_sitting_word_by_word() {
+    let (plan, named) = given(WORDS.as_bytes()).expect("good words");
+    assert_eq!(explain(&plan, &named), TOLD);
+}
+
+/// What is said of a plan in these words before the line that the rehearsal prints.
+fn refusal(words: &str) -> String {
+    let (plan, named) = given(words.as_bytes()).expect("good words");
+    let told = explain(&plan, &named);
+    let (before, _) = told.split_once("\n\nrefused ").expect("refused");
+    before.to_string()
+}
+
+#[test]
+fn refused_plans() {
+    let rule = "Refused with cause 14: plan with over t bad parties, or a root or bit against \
+        the rule above.\n";
+    let layout = "Refused with cause 13: plan badly laid out, or over 60,000 bytes.\n";
+    let sound = "boxes 2\nlimit 0\nbook A \"\"\nbox 1 has A\nbox 2 has A\n";
+    let two = |words: &str| refusal(&format!("{sound}{words}"));
+    let expected = "Refused with cause 1: n outside 1 to 16.\nThe plan has n 0.";
+    assert_eq!(refusal("boxes 0\nlimit 0"), expected);
+    let expected = "Refused with cause 2: 2·t ≥ n.\nThe plan has n 2 and t 1.";
+    assert_eq!(refusal(&sound.replace("limit 0", "limit 1")), expected);
+    let long = format!("boxes 1\nlimit 0\nbox 1 has \"{}\"", "x".repeat(1_025));
+    let expected = "Refused with cause 4: book over 1,024, or string to hash over 65,535 bytes.\n\
+        Box 1's book is too long.";
+    assert_eq!(refusal(&long), expected);
+    let bad = refusal("boxes 2\nlimit 0\nbox 1 has \"\"\nbox 2 is bad");
+    assert_eq!(
+        bad,
+        format!("{rule}More boxes are bad than the limit allows.")
+    );
+    let bit = format!("{rule}The bit that is given is neither 0 nor 1.");
+    assert_eq!(two("bit 2"), bit);
+    let against = |what| {
+        format!(
+            "{rule}All good boxes put one {what} into the short agreement, and the plan gives \
+             another."
+        )
+    };
+    assert_eq!(two("bit 0"), against("bit"));
+    assert_eq!(two("book B \"B\"\nroot of B"), against("root"));
+    let left_over = "At byte 9: the plan is at its end, and bytes are left over. It has 10 bytes, \
+        counted from 0.";
+    assert_eq!(two("behind hex 00"), format!("{layout}{left_over}"));
+    let option = "At byte 2: the option map has an unknown option. It has 9 bytes, counted from 0.";
+    assert_eq!(two("options 4"), format!("{layout}{option}"));
+}
 
 #[test]
 fn the_last_lines_are_the_rehearsals() {

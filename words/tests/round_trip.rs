@@ -4,8 +4,10 @@ use foreign::liars::{Lie, Scene, Sharing, Way};
 use foreign::plans::plan;
 use foreign::random::Random;
 use foreign::rehearsal::read;
+use words::books::Books;
 use words::input::in_words;
 use words::parse::parse;
+use words::recognise::recognise;
 
 const COUNT: u64 = 5_000;
 
@@ -128,20 +130,25 @@ fn unlawful_plans() {
     assert_eq!(laid_out("boxes 0\nlimit 255"), [0, 255, 0, 0, 0]);
 }
 
-/// The words that from-bytes finds for a lie, in a plan whose good boxes have A and B.
-fn found(lie: Lie, exchange: usize, random: &mut Random) -> String {
-    let (a, b): (&[u8], &[u8]) = (b"Listening", b"Speaking");
+const A: &[u8] = b"Listening";
+const B: &[u8] = b"Speaking";
+
+/// The words for a packet where A and B are known.
+fn found(packet: &[u8]) -> String {
+    let mut books = Books::new(4, 1);
+    books.add("A", A);
+    books.add("B", B);
+    recognise(&books, packet).to_string()
+}
+
+/// The words for a lie from box 4 to box 2.
+fn lie(lie: Lie, exchange: usize, random: &mut Random) -> String {
     let scene = Scene {
-        agreed: Sharing::of(4, 1, a),
-        other: Sharing::of(4, 1, b),
+        agreed: Sharing::of(4, 1, A),
+        other: Sharing::of(4, 1, B),
     };
-    let way = Way::new(exchange, 4, 2);
-    let packet = scene.told(lie, way, random).expect("a packet");
-    let mut books = words::books::Books::new(4, 1);
-    books.add("A", a);
-    books.add("B", b);
-    let packet = words::recognise::recognise(&books, &packet);
-    packet.to_string()
+    let packet = scene.told(lie, Way::new(exchange, 4, 2), random);
+    found(&packet.expect("a packet"))
 }
 
 #[test]
@@ -165,13 +172,28 @@ fn lies_have_words() {
         (Lie::FieldMap, "share 2 of A, map "),
         (Lie::NumberOutside, "share 2 of A, number "),
     ];
-    for (lie, words) in expected {
+    for (kind, words) in expected {
         for _ in 0..20 {
-            let found = found(lie, 0, &mut random);
-            assert!(found.contains(words), "{lie:?}: {found}");
+            let found = lie(kind, 0, &mut random);
+            assert!(found.contains(words), "{kind:?}: {found}");
         }
     }
-    assert_eq!(found(Lie::Honest, 1, &mut random), "share 4 of A");
+    assert_eq!(lie(Lie::Honest, 1, &mut random), "share 4 of A");
+}
+
+/// Bytes that have only little in common with a share are told as they are.
+#[test]
+fn little_in_common() {
+    let packet = Sharing::of(4, 1, A).packet(1);
+    let header_and_share = &packet[..8];
+    assert_eq!(found(header_and_share), "share 1 of A, cut by 64");
+    let renumbered = [&[7, 3], &header_and_share[2..]].concat();
+    assert_eq!(found(&renumbered), "hex 07 03 00 04 1a 13 4e 07");
+    assert_eq!(found(&packet[..7]), "hex 07 01 00 04 1a 13 4e");
+    let mut twice = packet.clone();
+    twice[8] ^= 1;
+    twice[9] ^= 1;
+    assert!(found(&twice).starts_with("hex 07 01 "));
 }
 
 /// A book that no good box has is found if it is named.
