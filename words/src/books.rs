@@ -79,8 +79,14 @@ impl Books {
         self.names.insert(name.to_string(), place);
     }
 
-    pub fn find(&self, name: &str) -> Option<&Book> {
-        self.names.get(name).map(|&place| &self.known[place])
+    /// The book of this name, or that there is none. A good box's book is called by its box
+    /// as well.
+    pub fn find(&self, name: &str) -> Result<&Book, String> {
+        match (self.names.get(name), name.starts_with("box ")) {
+            (Some(&place), _) => Ok(&self.known[place]),
+            (None, true) => Err(format!("no line above says what {name} has")),
+            (None, false) => Err(format!("no line above has a book {name}")),
+        }
     }
 
     /// What the book is called.

@@ -5,7 +5,7 @@ use std::fmt;
 
 use foreign::packet::HEADER;
 
-use crate::books::{Book, Books, Coded};
+use crate::books::{Books, Coded};
 
 #[derive(Clone, Debug, PartialEq, Eq)]
 pub enum Packet {
@@ -92,10 +92,8 @@ impl Packet {
 
 /// The book's shares, or why there are none of this number.
 fn coded<'a>(books: &'a Books, name: &str, number: usize) -> Result<&'a Coded, String> {
-    let book = books.find(name);
-    let Book { coded, .. } = book.ok_or_else(|| format!("no book is called '{name}' above"))?;
     let none = "there are no shares: n is 1 to 16, 2·t < n, and a book has at most 1024 bytes";
-    let coded = coded.as_ref().ok_or(none)?;
+    let coded = books.find(name)?.coded.as_ref().ok_or(none)?;
     match (1..=books.n).contains(&number) {
         true => Ok(coded),
         false => Err(format!(

@@ -6,6 +6,7 @@ use std::collections::{BTreeMap, BTreeSet};
 use foreign::coder::MOST_PARTIES;
 use foreign::sha256::Hash;
 
+use crate::books::Book;
 use crate::draft::Draft;
 use crate::lines::{lines, pairs, Error, Line};
 use crate::packet::{Change, Packet, LONGEST};
@@ -94,11 +95,9 @@ impl Reader {
         self.keyword(line, "root")?;
         self.draft.root = Some(if line.accept("of") {
             let name = self.reference(line)?;
-            let book = self.draft.books.find(&name).expect("a reference is known");
-            let coded = book.coded.as_ref();
-            coded
-                .ok_or_else(|| line.error(format!("'{name}' has no root under n and t")))?
-                .root
+            let coded = self.known(line, &name)?.coded.as_ref();
+            let none = || line.error(format!("'{name}' has no root under n and t"));
+            coded.ok_or_else(none)?.root
         } else {
             let hash = line.take(|word| Hash::try_from(pairs(word)?).ok());
             hash.ok_or_else(|| line.expected("'of' and a book, or 64 hexadecimal digits"))?
@@ -128,7 +127,7 @@ impl Reader {
     fn cut(&mut self, line: &mut Line) -> Result<(), Error> {
         self.keyword(line, "cut")?;
         line.expect("by")?;
-        self.draft.cut = line.number("a number of bytes", 0..=usize::MAX)?;
+        self.draft.cut = line.number("a number of bytes", 1..=LONGEST)?;
         Ok(())
     }
 
@@ -167,9 +166,7 @@ impl Reader {
             None => {
                 let name = line.take(name);
                 let name = name.ok_or_else(|| line.expected(BOOK_EXPECTED))?;
-                self.known(line, &name)?;
-                let book = self.draft.books.find(&name).expect("it is known");
-                book.message.clone()
+                self.known(line, &name)?.message.clone()
             }
         };
         self.draft.books.add(&format!("box {number}"), &message);
@@ -207,12 +204,9 @@ impl Reader {
         Ok(name)
     }
 
-    fn known(&self, line: &Line, name: &str) -> Result<(), Error> {
-        match (self.draft.books.find(name), name.starts_with("box ")) {
-            (Some(_), _) => Ok(()),
-            (None, true) => Err(line.error(format!("no line above says what {name} has"))),
-            (None, false) => Err(line.error(format!("no line above has a book {name}"))),
-        }
+    fn known(&self, line: &Line, name: &str) -> Result<&Book, Error> {
+        let book = self.draft.books.find(name);
+        book.map_err(|text| line.error(text))
     }
 
     /// What a bad box sends to one or several.
