@@ -19,7 +19,7 @@ fn bad_parties(n: usize, t: usize) -> Option<u32> {
     if !(1..=MOST_PARTIES).contains(&n) {
         return Some(1);
     }
-    if 2 * t >= n {
+    if t >= n.div_ceil(2) {
         return Some(2);
     }
     None
@@ -208,7 +208,9 @@ mod tests {
             Answer::Done(16 * 114)
         );
         assert_eq!(encode(16, 7, &message, &mut out), Answer::Refused(4));
-        assert_eq!(encode(16, 8, b"", &mut out), Answer::Refused(2));
+        for t in [8, 1 << 63, usize::MAX] {
+            assert_eq!(encode(16, t, b"", &mut out), Answer::Refused(2));
+        }
         assert_eq!(encode(17, 0, b"", &mut out), Answer::Refused(1));
         assert_eq!(encode(0, 0, b"", &mut out), Answer::Refused(1));
     }
