@@ -1,0 +1,63 @@
+//! One box (document 01) for programs in Rust: the proved functions of `libcipangohu.a` behind safe types. A box is a party here, a book a
+//! message.
+//!
+//! A call is accepted, or turned away with a [`Cause`] and nothing changed; none panics. What the host owes is told in docs/HOSTING.md.
+
+mod cause;
+mod entries;
+mod packet;
+mod party;
+
+pub mod calls;
+
+pub use cause::Cause;
+pub use entries::{entries, lay_out};
+pub use packet::{check_path, read_packet, Packet};
+pub use party::{Outcome, Party};
+
+pub const MAX_PARTIES: usize = 16;
+pub const MAX_MESSAGE: usize = 1024;
+pub const MAX_SHARE: usize = 1026;
+
+/// The longest string that is hashed.
+pub const MAX_HASHED: usize = 65_535;
+
+/// The longest packet: map, number and share length, the share, a path of four hashes.
+pub const MAX_PACKET: usize = 4 + MAX_SHARE + 4 * 32;
+
+/// Room for any outbox: for each party a two-byte length and a packet.
+pub const MAX_OUTBOX: usize = MAX_PARTIES * (2 + MAX_PACKET);
+
+/// Room for all shares of a message: n is less than 2·(n − t), so that they have less than twice the bytes of the longest frame with its zeros.
+const MAX_SHARES: usize = 2 * (MAX_SHARE + MAX_PARTIES);
+
+/// The bytes of a party's state.
+pub const STATE: usize = 40 + MAX_MESSAGE + MAX_SHARE;
+
+/// A SHA-256 hash.
+pub type Hash = [u8; 32];
+
+/// The n shares of a message.
+pub fn shares(n: usize, t: usize, message: &[u8]) -> Result<Vec<Vec<u8>>, Cause> {
+    let mut out = vec![0; MAX_SHARES];
+    let length = calls::shares((n, t), message, &mut out)? as usize;
+    out.truncate(length);
+    // They are equal in length, and no part of a division may be 0 even if the archive were not the proved one.
+    let each = (length / n.max(1)).max(1);
+    Ok(out.chunks(each).map(<[u8]>::to_vec).collect())
+}
+
+/// The message that the shares of parties 1 to n give; an empty share counts as missing.
+pub fn rebuild<S: AsRef<[u8]>>(n: usize, t: usize, shares: &[S]) -> Result<Vec<u8>, Cause> {
+    let mut out = vec![0; MAX_MESSAGE];
+    let length = calls::rebuild((n, t), &lay_out(shares), &mut out)?;
+    out.truncate(length as usize);
+    Ok(out)
+}
+
+/// SHA-256 of at most [`MAX_HASHED`] bytes.
+pub fn hash(message: &[u8]) -> Result<Hash, Cause> {
+    let mut digest = [0; 32];
+    calls::hash(message, &mut digest)?;
+    Ok(digest)
+}

@@ -1,0 +1,182 @@
+//! Random arguments: groups, messages, inboxes with good and bad packets, states with bytes changed.
+
+use cipangohu::{lay_out, MAX_MESSAGE, STATE};
+use foreign::liars::{Lie, Scene, Sharing, Way};
+use foreign::random::Random;
+
+/// A number that no group has.
+pub const ODD: [usize; 8] = [0, 17, 18, 255, 256, 1 << 32, 1 << 63, usize::MAX];
+
+/// n and t that keep to the limits.
+pub fn group(random: &mut Random) -> (usize, usize) {
+    let n = 1 + random.below(16);
+    (n, random.below(n.div_ceil(2)))
+}
+
+/// n and t that break a limit, mostly.
+pub fn odd_group(random: &mut Random) -> (usize, usize) {
+    let (n, t) = group(random);
+    match random.below(3) {
+        0 => (random.pick(&ODD), t),
+        1 => (n, n.div_ceil(2) + random.below(3)),
+        _ => (n, random.pick(&ODD)),
+    }
+}
+
+/// A message; mostly a short one.
+pub fn message(random: &mut Random) -> Vec<u8> {
+    let length = match random.below(8) {
+        0 => 0,
+        1 => random.below(MAX_MESSAGE + 1),
+        2 => MAX_MESSAGE - random.below(3),
+        _ => random.below(24),
+    };
+    random.bytes(length)
+}
+
+/// Shares under one root: of a message, or of a frame that holds none.
+fn sharing(n: usize, t: usize, random: &mut Random) -> Sharing {
+    if random.below(6) > 0 {
+        return Sharing::of(n, t, &message(random));
+    }
+    let length = (n - t) * (1 + random.below(4));
+    Sharing::of_frame(n, t, &random.bytes(length))
+}
+
+/// What the packets of a list of calls are about.
+pub struct Play {
+    pub group: (usize, usize, usize),
+    pub message: Vec<u8>,
+    pub scene: Scene,
+}
+
+impl Play {
+    pub fn new(random: &mut Random) -> Play {
+        let (n, t) = group(random);
+        let message = message(random);
+        let agreed = match random.once_in(3) {
+            true => Sharing::of(n, t, &message),
+            false => sharing(n, t, random),
+        };
+        let other = sharing(n, t, random);
+        Play {
+            group: (n, t, 1 + random.below(n)),
+            message,
+            scene: Scene { agreed, other },
+        }
+    }
+
+    /// What one sender puts into the inbox of exchange 0 or 1. A party alone hears noise.
+    fn packet(&self, exchange: usize, sender: usize, honest: bool, random: &mut Random) -> Vec<u8> {
+        let (n, _, own) = self.group;
+        let lie = match honest {
+            true => Lie::Honest,
+            false => random.pick(&Lie::SMALL),
+        };
+        if n == 1 {
+            let length = random.below(9);
+            return random.bytes(length);
+        }
+        let told = self
+            .scene
+            .told(lie, Way::new(exchange, sender, own), random);
+        told.unwrap_or_default()
+    }
+
+    /// An inbox, now and then with its layout damaged.
+    pub fn inbox(&self, exchange: usize, random: &mut Random) -> Vec<u8> {
+        let honest = random.below(5);
+        let packets: Vec<Vec<u8>> = (1..=self.group.0)
+            .map(|sender| {
+                let honest = random.below(4) < honest;
+                self.packet(exchange, sender, honest, random)
+            })
+            .collect();
+        let mut bytes = lay_out(&packets);
+        if random.once_in(8) {
+            let length = random.below(bytes.len() + 2);
+            bytes.resize(length, 0);
+        }
+        bytes
+    }
+}
+
+/// Bytes for a buffer of this length, none of them a zero that nobody would miss.
+pub fn dirt(length: usize, random: &mut Random) -> Vec<u8> {
+    let mut bytes = random.bytes(length);
+    bytes.iter_mut().for_each(|byte| *byte |= 1);
+    bytes
+}
+
+/// A length for a buffer that needs `needed` bytes: exact, short or long.
+pub fn room(needed: usize, random: &mut Random) -> usize {
+    match random.below(6) {
+        0 => needed.saturating_sub(1),
+        1 => random.below(needed + 1),
+        2 => needed + 1,
+        3 => needed + random.below(70),
+        _ => needed,
+    }
+}
+
+/// Changes a state in one way that its holder should not.
+pub fn spoil(state: &mut Vec<u8>, play: &Play, random: &mut Random) {
+    match random.below(12) {
+        0 => {
+            let length = STATE - 1 - random.below(STATE);
+            state.truncate(length);
+        }
+        1 => {
+            let more = 1 + random.below(64);
+            state.extend(random.bytes(more));
+        }
+        2 => *state = dirt(state.len(), random),
+        _ if state.len() < STATE => state.resize(STATE, 0),
+        3 => state[random.below(3)] = random.pick(&[0, 1, 2, 3, 16, 17, 255]),
+        4 | 5 => state[3] = random.pick(&[0, 1, 2, 3, 2, 3, 4, 5, 6, 255]),
+        6 => put(
+            state,
+            4,
+            &random
+                .pick(&[0u16, 1, 24, 1023, 1024, 1025, 65_535])
+                .to_be_bytes(),
+        ),
+        7 => put(
+            state,
+            6,
+            &random
+                .pick(&[0u16, 1, 2, 1025, 1026, 1027, 65_535])
+                .to_be_bytes(),
+        ),
+        8 => put(state, 8, &play.scene.agreed.root),
+        9 => hold(state, play),
+        10 => past_lengths(state, random),
+        _ => {
+            let place = random.below(state.len());
+            state[place] ^= 1 << random.below(8);
+        }
+    }
+}
+
+fn put(state: &mut [u8], at: usize, bytes: &[u8]) {
+    state[at..at + bytes.len()].copy_from_slice(bytes);
+}
+
+/// Puts the share that the party should have been sent into its state.
+fn hold(state: &mut [u8], play: &Play) {
+    let share = &play.scene.agreed.shares[play.group.2 - 1];
+    put(state, 6, &(share.len() as u16).to_be_bytes());
+    put(state, 1064, share);
+}
+
+/// Dirt where a state given back has zeros.
+fn past_lengths(state: &mut [u8], random: &mut Random) {
+    for (at, end) in [(40, 1064), (1064, STATE)] {
+        let length = 1 + random.below(200);
+        put(
+            state,
+            end - length.min(end - at),
+            &dirt(length.min(end - at), random),
+        );
+    }
+}

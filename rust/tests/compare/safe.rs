@@ -1,0 +1,142 @@
+//! The safe types beside the foreign implementation: a party's steps with its state, packets, shares, rebuilding.
+
+use cipangohu::{
+    check_path, entries, hash, lay_out, read_packet, rebuild, shares, Cause, Outcome, Party,
+    MAX_OUTBOX, MAX_PACKET,
+};
+use foreign::coder::{self, frame_of, shares_of};
+use foreign::packet::Reading;
+use foreign::party::{Refusal, State};
+use foreign::random::Random;
+use foreign::{inbox, packet, sha256};
+
+use crate::made::{group, message, Play};
+use crate::reference::encoded;
+use crate::times;
+
+/// An answer of the foreign implementation in the library's words.
+fn told<T>(answer: Result<T, Refusal>) -> Result<T, Cause> {
+    answer.map_err(|Refusal { cause, needed }| Cause {
+        number: cause,
+        needed,
+    })
+}
+
+/// What a step wrote, or its cause.
+fn wrote(answer: Result<usize, Cause>, out: &[u8]) -> Result<Vec<u8>, Cause> {
+    answer.map(|length| out[..length].to_vec())
+}
+
+/// The four steps on the library's party and on the foreign state; gives the outcome.
+fn steps(play: &Play, random: &mut Random) -> Outcome {
+    let (n, t, own) = play.group;
+    let (mut party, root) = Party::open(n, t, own, &play.message).expect("a lawful opening");
+    let (state, expected) = State::open(n as u64, t as u64, own as u64, &play.message);
+    assert_eq!(Ok(root), expected);
+    let (state, happy) = state.agree_root(&play.scene.agreed.root);
+    assert_eq!(party.agree_root(&play.scene.agreed.root), told(happy));
+    let (mut out, mut theirs) = (vec![0; MAX_OUTBOX], vec![0; MAX_OUTBOX]);
+    let (state, length) = state.agree_bit(1, &mut theirs);
+    let outbox = wrote(party.agree_bit(1, &mut out), &out).expect("a step in turn");
+    assert_eq!(wrote(told(length), &theirs), Ok(outbox.clone()));
+    assert_eq!(entries(&outbox), inbox::entries(n, &outbox).ok());
+    let first = play.inbox(0, random);
+    let (state, length) = state.take_shares(&first, &mut theirs);
+    let relay = wrote(party.take_shares(&first, &mut out[..MAX_PACKET]), &out);
+    assert_eq!(relay, wrote(told(length), &theirs));
+    let second = play.inbox(1, random);
+    let (state, length) = state.take_relays(&second, &mut theirs);
+    let outcome = party.take_relays(&second);
+    let expected = told(length).map(|length| match length {
+        Some(length) => Outcome::Message(theirs[..length].to_vec()),
+        None => Outcome::Nothing,
+    });
+    assert_eq!(outcome, expected);
+    assert_eq!(party.state()[..], encoded(&state));
+    outcome.unwrap_or(Outcome::Nothing)
+}
+
+#[test]
+fn parties() {
+    let mut random = Random::new(7);
+    let (mut books, mut nothing) = (0, 0);
+    for _ in 0..times(1_500) {
+        match steps(&Play::new(&mut random), &mut random) {
+            Outcome::Message(_) => books += 1,
+            Outcome::Nothing => nothing += 1,
+        }
+    }
+    println!("parties: {books} ended with a message, {nothing} with nothing or refused");
+    assert!(books >= 100 && nothing >= 100);
+}
+
+/// Reads a packet on both sides and checks its path on the way.
+fn reads(n: usize, bytes: &[u8], root: &[u8; 32]) {
+    let expected = match packet::read(n, bytes) {
+        Reading::Refused(number) => Err(Cause { number, needed: 0 }),
+        Reading::Silence => Ok(None),
+        Reading::Share {
+            number,
+            share,
+            path,
+        } => Ok(Some((number, share, path.concat()))),
+    };
+    let found = read_packet(n, bytes);
+    if let Ok(Some(packet)) = found {
+        let passes = check_path(n, packet.number, packet.share, packet.path, root);
+        let standing = packet::classify(n, packet.number, *root, bytes);
+        let valid = matches!(standing, Ok(packet::Standing::Valid(_)));
+        assert_eq!(passes, Ok(valid));
+    }
+    let found = found.map(|packet| packet.map(|p| (p.number, p.share.to_vec(), p.path.to_vec())));
+    assert_eq!(found, expected);
+}
+
+#[test]
+fn packets_read() {
+    let mut random = Random::new(8);
+    for _ in 0..times(600) {
+        let play = Play::new(&mut random);
+        let inbox = play.inbox(random.below(2), &mut random);
+        for bytes in entries(&inbox).unwrap_or_default() {
+            reads(play.group.0, bytes, &play.scene.agreed.root);
+        }
+    }
+}
+
+#[test]
+fn shares_made_and_joined() {
+    let mut random = Random::new(9);
+    for _ in 0..times(600) {
+        let (n, t) = group(&mut random);
+        let message = message(&mut random);
+        let mut made = shares(n, t, &message).expect("a lawful group");
+        assert_eq!(made, shares_of(n, n - t, &frame_of(n - t, &message)));
+        assert_eq!(hash(&message), Ok(sha256::hash(&message)));
+        let count = random.below(t + 2).min(n);
+        let missing = random.choice(n, count);
+        (0..n)
+            .filter(|place| (missing >> place) & 1 == 1)
+            .for_each(|place| made[place].clear());
+        let mut out = vec![0; coder::LONGEST_MESSAGE];
+        let expected = match coder::rebuild(n, t, &lay_out(&made), &mut out) {
+            coder::Answer::Done(length) => Ok(out[..length].to_vec()),
+            coder::Answer::Refused(number) => Err(Cause { number, needed: 0 }),
+            coder::Answer::Short(needed) => Err(Cause { number: 9, needed }),
+        };
+        assert_eq!(rebuild(n, t, &made), expected);
+    }
+}
+
+#[test]
+fn bytes_too_many_for_a_length_stand_as_none() {
+    assert_eq!(lay_out(&[vec![1; 65_536], vec![2]]), [0, 0, 0, 1, 2]);
+    assert_eq!(entries(&[0, 1]), None);
+    assert_eq!(
+        shares(17, 0, b""),
+        Err(Cause {
+            number: 1,
+            needed: 0
+        })
+    );
+}

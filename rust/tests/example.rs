@@ -1,0 +1,25 @@
+//! Compiles the example in C against the archive, with every warning an error, and runs it.
+
+use std::path::Path;
+use std::process::Command;
+
+const EXPECTED: &str = "1 happy\n2 happy\n3 unhappy\n1 = AB\n2 = AB\n3 = AB\n";
+
+#[test]
+fn the_example_in_c_settles_on_one_book() {
+    let c = Path::new(env!("CARGO_MANIFEST_DIR")).join("../c");
+    let program = Path::new(env!("CARGO_TARGET_TMPDIR")).join("example");
+    let compiled = Command::new("gcc")
+        .args(["-std=c99", "-pedantic", "-Wall", "-Wextra", "-Werror", "-I"])
+        .arg(&c)
+        .arg(c.join("example.c"))
+        .arg(env!("CIPANGOHU_ARCHIVE"))
+        .arg("-o")
+        .arg(&program)
+        .status()
+        .expect("gcc runs");
+    assert!(compiled.success());
+    let run = Command::new(&program).output().expect("the example runs");
+    assert!(run.status.success());
+    assert_eq!(String::from_utf8_lossy(&run.stdout), EXPECTED);
+}
