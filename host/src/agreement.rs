@@ -1,0 +1,217 @@
+//! A stand-in for the short agreement, a service that all trust. It keeps document 01's rule while at most t boxes lie: all get one value, and if all
+//! good boxes put in the same value, it is that one. A real host runs a protocol among the boxes in its place.
+
+use std::collections::BTreeMap;
+use std::io::{Error, ErrorKind, Result};
+use std::net::{TcpListener, TcpStream};
+use std::sync::{Arc, Condvar, Mutex, PoisonError};
+use std::thread;
+use std::time::{Duration, Instant};
+
+use crate::links::{connect, listen, PATIENCE};
+use crate::wire::{self, Hello, Token, ROUNDS};
+
+/// What the service is told of the sitting.
+pub struct Terms {
+    pub parties: usize,
+    pub faults: usize,
+    /// How long after the first value of a round the others are waited for.
+    pub limit: Duration,
+    /// By number from 1.
+    pub tokens: Vec<Token>,
+    /// Breaks the rule: each box gets back what it put in.
+    pub echo: bool,
+}
+
+/// The values put in so far in one round, and when the waiting ends.
+#[derive(Default)]
+struct Round {
+    values: BTreeMap<usize, Vec<u8>>,
+    end: Option<Instant>,
+    settled: Option<Vec<u8>>,
+}
+
+struct Service {
+    terms: Terms,
+    rounds: Mutex<[Round; ROUNDS]>,
+    changed: Condvar,
+}
+
+/// Starts the service in threads of its own and gives its port.
+pub fn serve(terms: Terms) -> Result<u16> {
+    let (listener, port) = listen()?;
+    let service = Arc::new(Service {
+        terms,
+        rounds: Mutex::default(),
+        changed: Condvar::new(),
+    });
+    thread::spawn(move || accept(&listener, &service));
+    Ok(port)
+}
+
+fn accept(listener: &TcpListener, service: &Arc<Service>) {
+    for stream in listener.incoming().flatten() {
+        let service = Arc::clone(service);
+        thread::spawn(move || service.attend(stream));
+    }
+}
+
+/// A root has 32 bytes, a bit is 0 or 1; nothing else is taken from a liar.
+fn lawful(round: usize, value: &[u8]) -> bool {
+    match round {
+        0 => value.len() == 32,
+        _ => matches!(value, [0 | 1]),
+    }
+}
+
+/// The value of n − t boxes, as soon as there is one. More good boxes than bad have it, so that it is the good ones' common value if they have one.
+/// Where all have spoken or the time is up, and no such value came, the lowest-numbered box's is as good as any.
+fn settle(
+    values: &BTreeMap<usize, Vec<u8>>,
+    parties: usize,
+    faults: usize,
+    up: bool,
+) -> Option<Vec<u8>> {
+    let backed = |value: &&Vec<u8>| {
+        values.values().filter(|other| other == value).count() + faults >= parties
+    };
+    let common = values.values().find(backed);
+    let lowest = values
+        .values()
+        .next()
+        .filter(|_| up || values.len() == parties);
+    common.or(lowest).cloned()
+}
+
+impl Service {
+    /// Serves one box until it goes away or breaks the form.
+    fn attend(&self, mut stream: TcpStream) -> Result<()> {
+        let hello = wire::read_hello(&mut stream)?;
+        let place = hello.sender.wrapping_sub(1);
+        if self.terms.tokens.get(place) != Some(&hello.token) {
+            return Err(Error::from(ErrorKind::PermissionDenied));
+        }
+        loop {
+            let frame = wire::read_frame(&mut stream)?;
+            if !lawful(frame.round, &frame.body) {
+                return Err(Error::from(ErrorKind::InvalidData));
+            }
+            let value = match self.terms.echo {
+                true => frame.body,
+                false => self.agreed(frame.round, hello.sender, frame.body),
+            };
+            wire::write_frame(&mut stream, frame.round, &value)?;
+        }
+    }
+
+    /// Puts a box's first value of this round in, and waits for the agreed one.
+    fn agreed(&self, round: usize, sender: usize, value: Vec<u8>) -> Vec<u8> {
+        let Terms {
+            parties,
+            faults,
+            limit,
+            ..
+        } = self.terms;
+        let mut rounds = self.rounds.lock().unwrap_or_else(PoisonError::into_inner);
+        let end = *rounds[round]
+            .end
+            .get_or_insert_with(|| Instant::now() + limit);
+        rounds[round].values.entry(sender).or_insert(value);
+        self.changed.notify_all();
+        loop {
+            let now = Instant::now();
+            let Round {
+                values, settled, ..
+            } = &mut rounds[round];
+            if settled.is_none() {
+                *settled = settle(values, parties, faults, now >= end);
+            }
+            if let Some(value) = settled {
+                return value.clone();
+            }
+            let waited = self
+                .changed
+                .wait_timeout(rounds, end.saturating_duration_since(now));
+            rounds = waited.unwrap_or_else(PoisonError::into_inner).0;
+        }
+    }
+}
+
+/// One box's connection to the service.
+pub struct Agreement {
+    stream: TcpStream,
+}
+
+impl Agreement {
+    pub fn join(port: u16, own: usize, token: Token, limit: Duration) -> Result<Agreement> {
+        let hello = Hello { sender: own, token };
+        let stream = connect(port, &hello)?;
+        stream.set_read_timeout(Some(limit + PATIENCE))?;
+        Ok(Agreement { stream })
+    }
+
+    /// Puts in a value and waits for the agreed one.
+    pub fn agree(&mut self, round: usize, value: &[u8]) -> Result<Vec<u8>> {
+        wire::write_frame(&mut self.stream, round, value)?;
+        Ok(wire::read_frame(&mut self.stream)?.body)
+    }
+}
+
+#[cfg(test)]
+mod tests {
+    use super::*;
+
+    fn settled(values: &[(usize, u8)], parties: usize, faults: usize, up: bool) -> Option<u8> {
+        let values = values.iter().map(|&(sender, value)| (sender, vec![value]));
+        settle(&values.collect(), parties, faults, up).map(|value| value[0])
+    }
+
+    #[test]
+    fn common_value_of_the_good_wins() {
+        assert_eq!(settled(&[(1, 9), (2, 5), (3, 5)], 3, 1, false), Some(5));
+        assert_eq!(settled(&[(2, 5), (3, 5)], 3, 1, false), Some(5));
+        assert_eq!(settled(&[(1, 9), (2, 5)], 3, 1, false), None);
+        assert_eq!(settled(&[(2, 5)], 3, 1, false), None);
+        assert_eq!(settled(&[(1, 7)], 1, 0, false), Some(7));
+    }
+
+    #[test]
+    fn the_lowest_where_there_is_no_common_value() {
+        assert_eq!(settled(&[(1, 9), (2, 5), (3, 6)], 3, 1, false), Some(9));
+        assert_eq!(settled(&[(2, 5), (3, 6)], 3, 1, true), Some(5));
+        assert_eq!(settled(&[], 3, 1, true), None);
+    }
+
+    #[test]
+    fn only_roots_and_bits_are_taken() {
+        assert!(lawful(0, &[1; 32]) && !lawful(0, &[1; 31]) && !lawful(0, &[]));
+        assert!(lawful(1, &[0]) && lawful(1, &[1]) && !lawful(1, &[2]) && !lawful(1, &[0, 0]));
+    }
+
+    /// Two of three boxes put in values, the third never comes.
+    #[test]
+    fn the_service_answers_without_the_silent() {
+        let tokens = vec![[1; 16], [2; 16], [3; 16]];
+        let limit = Duration::from_millis(50);
+        let terms = Terms {
+            parties: 3,
+            faults: 1,
+            limit,
+            tokens,
+            echo: false,
+        };
+        let port = serve(terms).unwrap();
+        let ask = |own: usize, value: u8| {
+            thread::spawn(move || {
+                let mut agreement = Agreement::join(port, own, [own as u8; 16], limit).unwrap();
+                agreement.agree(0, &[value; 32]).unwrap()
+            })
+        };
+        let asked = [ask(2, 20), ask(1, 10)];
+        for answer in asked {
+            assert_eq!(answer.join().unwrap(), [10; 32]);
+        }
+        let mut forger = Agreement::join(port, 3, [9; 16], limit).unwrap();
+        assert!(forger.agree(0, &[30; 32]).is_err());
+    }
+}

@@ -1,0 +1,44 @@
+//! An example host: each box is a process of its own, linked with the others by TCP on the loopback. Some boxes may lie, and the host may be
+//! told to break one of its own duties; docs/HOSTING.md has sittings of each kind.
+
+mod agreement;
+mod clock;
+mod good;
+mod hex;
+mod liars;
+mod links;
+mod options;
+mod roster;
+mod seat;
+mod sitting;
+mod wire;
+
+use std::process::ExitCode;
+
+use options::Options;
+
+/// Wrong usage, or a failure of the host itself.
+const FAILED: u8 = 2;
+
+/// Two good boxes differ, or a good box had an error.
+const DIFFER: u8 = 1;
+
+fn run(arguments: &[String]) -> Result<ExitCode, String> {
+    let options = Options::parse(arguments)?;
+    if let Some(own) = options.own {
+        seat::take(&options, own)?;
+        return Ok(ExitCode::SUCCESS);
+    }
+    Ok(match sitting::run(&options, arguments)? {
+        true => ExitCode::SUCCESS,
+        false => ExitCode::from(DIFFER),
+    })
+}
+
+fn main() -> ExitCode {
+    let arguments: Vec<String> = std::env::args().skip(1).collect();
+    run(&arguments).unwrap_or_else(|message| {
+        eprintln!("host: {message}");
+        ExitCode::from(FAILED)
+    })
+}

@@ -1,0 +1,202 @@
+//! The command line. Each box is started with the same words and its own number, so that all know the sitting in the same way.
+
+use std::collections::BTreeMap;
+use std::fs;
+use std::str::FromStr;
+use std::time::Duration;
+
+use crate::hex;
+use crate::liars::Lie;
+
+pub const USAGE: &str = "usage: host --parties N --faults T --book BOOK [--own-book I=BOOK]... [--lie I=LIE]... [--limit-ms MS] [--seed S] [--break DUTY]
+  BOOK  hexadecimal bytes, or the name of a file
+  LIE   silent, noise, split, other-book, replay or forge
+  DUTY  forge, clock, agreement or state";
+
+/// What the host can be told to do badly.
+#[derive(Clone, Copy, Debug, PartialEq, Eq)]
+pub enum Duty {
+    /// Links: a number is believed without its token.
+    Forge,
+    /// The clock: the lowest-numbered good box sends its first packets when the others have stopped listening.
+    Clock,
+    /// The agreement: each box gets back what it put in.
+    Agreement,
+    /// The state: somebody else writes into the highest-numbered good box's.
+    State,
+}
+
+#[derive(Debug)]
+pub struct Options {
+    pub parties: usize,
+    pub faults: usize,
+    book: Vec<u8>,
+    own_books: BTreeMap<usize, Vec<u8>>,
+    pub lies: BTreeMap<usize, Lie>,
+    pub limit: Duration,
+    pub seed: u64,
+    pub broken: Option<Duty>,
+    /// The number of the box that this process is; none for the process that starts the others.
+    pub own: Option<usize>,
+}
+
+impl FromStr for Duty {
+    type Err = String;
+
+    fn from_str(text: &str) -> Result<Duty, String> {
+        match text {
+            "forge" => Ok(Duty::Forge),
+            "clock" => Ok(Duty::Clock),
+            "agreement" => Ok(Duty::Agreement),
+            "state" => Ok(Duty::State),
+            _ => Err(format!("{text} is no duty\n{USAGE}")),
+        }
+    }
+}
+
+fn number<N: FromStr>(text: &str) -> Result<N, String> {
+    text.parse()
+        .map_err(|_| format!("{text} is no number here\n{USAGE}"))
+}
+
+/// Hexadecimal digits, else a file.
+fn book(text: &str) -> Result<Vec<u8>, String> {
+    match hex::decode(text) {
+        Some(bytes) => Ok(bytes),
+        None => fs::read(text).map_err(|error| format!("{text}: {error}")),
+    }
+}
+
+/// A box's number, `=`, and what is said of it.
+fn of_box(text: &str) -> Result<(usize, &str), String> {
+    let (own, rest) = text
+        .split_once('=')
+        .ok_or(format!("{text} has no =\n{USAGE}"))?;
+    Ok((number(own)?, rest))
+}
+
+impl Options {
+    pub fn parse(arguments: &[String]) -> Result<Options, String> {
+        let mut options = Options {
+            parties: 0,
+            faults: 0,
+            book: Vec::new(),
+            own_books: BTreeMap::new(),
+            lies: BTreeMap::new(),
+            limit: Duration::from_millis(500),
+            seed: 0,
+            broken: None,
+            own: None,
+        };
+        let mut given = Vec::new();
+        let mut words = arguments.iter();
+        while let Some(name) = words.next() {
+            let value = words
+                .next()
+                .ok_or(format!("{name} lacks its value\n{USAGE}"))?;
+            options.set(name, value)?;
+            given.push(name.as_str());
+        }
+        let needed = ["--parties", "--faults", "--book"];
+        if let Some(name) = needed.iter().find(|name| !given.contains(name)) {
+            return Err(format!("{name} is missing\n{USAGE}"));
+        }
+        options.check_numbers()?;
+        Ok(options)
+    }
+
+    fn set(&mut self, name: &str, value: &str) -> Result<(), String> {
+        match name {
+            "--parties" => self.parties = number(value)?,
+            "--faults" => self.faults = number(value)?,
+            "--book" => self.book = book(value)?,
+            "--own-book" => {
+                let (own, text) = of_box(value)?;
+                self.own_books.insert(own, book(text)?);
+            }
+            "--lie" => {
+                let (own, lie) = of_box(value)?;
+                self.lies.insert(own, lie.parse()?);
+            }
+            "--limit-ms" => self.limit = Duration::from_millis(u64::from(number::<u32>(value)?)),
+            "--seed" => self.seed = number(value)?,
+            "--break" => self.broken = Some(value.parse()?),
+            "--as" => self.own = Some(number(value)?),
+            _ => return Err(format!("{name} is not known\n{USAGE}")),
+        }
+        Ok(())
+    }
+
+    /// Whatever is said of a box must be said of one of the sitting's.
+    fn check_numbers(&self) -> Result<(), String> {
+        let named = self
+            .own_books
+            .keys()
+            .chain(self.lies.keys())
+            .chain(&self.own);
+        let mut strange = named.filter(|own| !(1..=self.parties).contains(own));
+        strange
+            .next()
+            .map_or(Ok(()), |own| Err(format!("there is no box {own}")))
+    }
+
+    /// The book that a box opens with.
+    pub fn book_of(&self, own: usize) -> &[u8] {
+        self.own_books.get(&own).unwrap_or(&self.book)
+    }
+
+    pub fn good(&self) -> impl DoubleEndedIterator<Item = usize> + '_ {
+        (1..=self.parties).filter(|own| !self.lies.contains_key(own))
+    }
+
+    pub fn breaks(&self, duty: Duty) -> bool {
+        self.broken == Some(duty)
+    }
+}
+
+#[cfg(test)]
+mod tests {
+    use super::*;
+
+    fn parsed(line: &str) -> Result<Options, String> {
+        let words: Vec<String> = line.split_whitespace().map(String::from).collect();
+        Options::parse(&words)
+    }
+
+    #[test]
+    fn a_whole_line() {
+        let line =
+            "--parties 5 --faults 2 --book 4142 --own-book 3=43 --lie 4=noise --lie 5=split \
+                    --limit-ms 70 --seed 9 --break clock";
+        let options = parsed(line).unwrap();
+        assert_eq!((options.parties, options.faults, options.seed), (5, 2, 9));
+        assert_eq!(
+            (options.book_of(1), options.book_of(3)),
+            (&b"AB"[..], &b"C"[..])
+        );
+        assert_eq!(options.good().collect::<Vec<_>>(), [1, 2, 3]);
+        assert_eq!(options.lies[&4], Lie::Noise);
+        assert_eq!(options.limit, Duration::from_millis(70));
+        assert!(options.breaks(Duty::Clock) && !options.breaks(Duty::State));
+    }
+
+    #[test]
+    fn wrong_lines() {
+        let few = "--parties 3 --faults 1 --book 41";
+        assert!(parsed(few).is_ok());
+        for more in [
+            "--lie 4=noise",
+            "--lie 0=noise",
+            "--lie 3",
+            "--lie 3=truth",
+            "--seed x",
+            "--seed",
+            "--what 1",
+            "--break all",
+        ] {
+            assert!(parsed(&format!("{few} {more}")).is_err(), "{more}");
+        }
+        assert!(parsed("--parties 3 --faults 1").is_err());
+        assert!(parsed("--parties 3 --faults 1 --book no/such/file").is_err());
+    }
+}

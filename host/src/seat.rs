@@ -1,0 +1,99 @@
+//! One box's process. On standard output it tells its port, then that it is ready, then its report; on standard input it is told its roster, then to
+//! go.
+
+use std::io::{stdin, BufRead, Write};
+use std::net::TcpListener;
+use std::sync::Arc;
+
+use cipangohu::Outcome;
+
+use crate::agreement::Agreement;
+use crate::good::{self, Failure, Report};
+use crate::hex;
+use crate::liars::{Liar, Lie};
+use crate::links::{connect, listen, receive, Door, Links, Mailbox};
+use crate::options::{Duty, Options};
+use crate::roster::{Peer, Roster};
+use crate::wire::Hello;
+
+/// The words between a box's process and the one that started it.
+pub const READY: &str = "ready";
+pub const GO: &str = "go";
+
+fn told() -> Result<String, String> {
+    let mut line = String::new();
+    stdin()
+        .lock()
+        .read_line(&mut line)
+        .map_err(|error| error.to_string())?;
+    Ok(line.trim_end().to_string())
+}
+
+fn tell(line: &str) -> Result<(), String> {
+    let mut out = std::io::stdout().lock();
+    writeln!(out, "{line}")
+        .and_then(|()| out.flush())
+        .map_err(|error| error.to_string())
+}
+
+/// The line that reports how a good box ended: the bytes it sent, and its result as document 01 prints it.
+fn reported(ended: Result<Report, Failure>) -> String {
+    match ended {
+        Ok(Report { outcome, sent }) => match outcome {
+            Outcome::Nothing => format!("{sent} -"),
+            Outcome::Message(book) if book.is_empty() => format!("{sent} ="),
+            Outcome::Message(book) => format!("{sent} = {}", hex::encode(&book)),
+        },
+        Err(Failure::Refused(cause)) => format!("0 error: {cause}"),
+        Err(Failure::Link(error)) => format!("0 error: {error}"),
+    }
+}
+
+/// The links from and to all others; a silent liar opens none.
+fn open_links(options: &Options, own: usize, roster: &Roster, listener: TcpListener) -> Links {
+    let mailbox = Arc::new(Mailbox::new(options.parties));
+    let door = Door {
+        tokens: roster.peers.iter().map(|peer| peer.demanded).collect(),
+        open: options.breaks(Duty::Forge),
+    };
+    receive(listener, door, Arc::clone(&mailbox));
+    let silent = options.lies.get(&own) == Some(&Lie::Silent);
+    let link = |(number, peer): (usize, &Peer)| {
+        let token = peer.said;
+        let wanted = number != own && !silent;
+        wanted.then(|| connect(peer.port, &Hello { sender: own, token }).ok())?
+    };
+    Links {
+        own,
+        mailbox,
+        streams: (1..).zip(&roster.peers).map(link).collect(),
+    }
+}
+
+/// Takes the box's part in the sitting.
+pub fn take(options: &Options, own: usize) -> Result<(), String> {
+    let text = |error: std::io::Error| error.to_string();
+    let (listener, port) = listen().map_err(text)?;
+    tell(&port.to_string())?;
+    let roster = Roster::read(&told()?, options.parties).ok_or("the roster cannot be read")?;
+
+    let lie = options.lies.get(&own).copied();
+    let liar = lie.map(|lie| Liar::new(lie, own, options)).transpose();
+    let liar = liar.map_err(|cause| cause.to_string())?;
+    let mut links = open_links(options, own, &roster, listener);
+    if let Some(liar) = &liar {
+        liar.prepare(&roster);
+    }
+    tell(READY)?;
+    if told()? != GO || lie == Some(Lie::Silent) {
+        return Ok(());
+    }
+
+    let Peer { port, said, .. } = roster.agreement;
+    let mut agreement = Agreement::join(port, own, said, options.limit).map_err(text)?;
+    match liar {
+        Some(liar) => liar.run(options, &mut links, &mut agreement),
+        None => tell(&reported(good::run(options, &mut links, &mut agreement)))?,
+    }
+    Ok(())
+}

@@ -1,0 +1,186 @@
+//! The process that starts the boxes of a sitting, brings them together, and holds the good ones' results against each other.
+
+use std::io::{BufRead, BufReader, Write};
+use std::process::{Child, ChildStdin, Command, Stdio};
+use std::sync::mpsc::{channel, Receiver};
+use std::thread;
+use std::time::Duration;
+
+use cipangohu::Party;
+
+use crate::agreement::{serve, Terms};
+use crate::links::PATIENCE;
+use crate::options::{Duty, Options};
+use crate::roster::{tokens, Roster};
+use crate::seat::{GO, READY};
+
+/// A box's process; it is ended with this.
+struct Seat {
+    own: usize,
+    process: Child,
+    input: ChildStdin,
+    lines: Receiver<String>,
+}
+
+impl Drop for Seat {
+    fn drop(&mut self) {
+        self.process.kill().ok();
+        self.process.wait().ok();
+    }
+}
+
+impl Seat {
+    fn start(own: usize, arguments: &[String]) -> std::io::Result<Seat> {
+        let mut process = Command::new(std::env::current_exe()?)
+            .args(arguments)
+            .args(["--as", &own.to_string()])
+            .stdin(Stdio::piped())
+            .stdout(Stdio::piped())
+            .spawn()?;
+        let broken = || std::io::Error::from(std::io::ErrorKind::BrokenPipe);
+        let input = process.stdin.take().ok_or_else(broken)?;
+        let output = process.stdout.take().ok_or_else(broken)?;
+        let (told, lines) = channel();
+        thread::spawn(move || {
+            BufReader::new(output)
+                .lines()
+                .map_while(Result::ok)
+                .try_for_each(|line| told.send(line))
+        });
+        Ok(Seat {
+            own,
+            process,
+            input,
+            lines,
+        })
+    }
+
+    fn tell(&mut self, line: &str) -> Result<(), String> {
+        writeln!(self.input, "{line}").map_err(|error| format!("box {}: {error}", self.own))
+    }
+
+    /// The next line of the box, which does not wait for ever.
+    fn line(&self, patience: Duration) -> Result<String, String> {
+        self.lines
+            .recv_timeout(patience)
+            .map_err(|_| format!("box {} does not answer", self.own))
+    }
+}
+
+/// How a good box ended: the bytes it sent, and its result as it is printed.
+struct Ended {
+    own: usize,
+    sent: usize,
+    result: String,
+}
+
+/// A box that tells nothing that can be read has an error.
+fn ended(seat: &Seat, patience: Duration) -> Ended {
+    let line = seat
+        .line(patience)
+        .unwrap_or_else(|message| format!("0 error: {message}"));
+    let (sent, result) = line.split_once(' ').unwrap_or(("0", "error: no report"));
+    Ended {
+        own: seat.own,
+        sent: sent.parse().unwrap_or(0),
+        result: result.to_string(),
+    }
+}
+
+/// The limits are the box's: it says whether it would open with this number and book.
+fn check_openings(options: &Options) -> Result<(), String> {
+    for own in 1..=options.parties.max(1) {
+        Party::open(options.parties, options.faults, own, options.book_of(own))
+            .map_err(|cause| format!("box {own}: {cause}"))?;
+    }
+    Ok(())
+}
+
+/// Starts all boxes and the agreement, and tells each where the others are. All are ready when this returns, and none has gone ahead.
+fn gather(options: &Options, arguments: &[String]) -> Result<Vec<Seat>, String> {
+    let text = |error: std::io::Error| error.to_string();
+    let n = options.parties;
+    let tokens = tokens(n * n + n).map_err(text)?;
+    let agreement = serve(Terms {
+        parties: n,
+        faults: options.faults,
+        limit: options.limit,
+        tokens: tokens[n * n..].to_vec(),
+        echo: options.breaks(Duty::Agreement),
+    })
+    .map_err(text)?;
+    let seats: std::io::Result<Vec<Seat>> =
+        (1..=n).map(|own| Seat::start(own, arguments)).collect();
+    let mut seats = seats.map_err(text)?;
+    let mut ports = Vec::new();
+    for seat in &seats {
+        let port = seat.line(PATIENCE)?;
+        ports.push(
+            port.parse()
+                .map_err(|_| format!("box {} has no port", seat.own))?,
+        );
+    }
+    for (seat, roster) in seats
+        .iter_mut()
+        .zip(Roster::all(&ports, agreement, &tokens))
+    {
+        seat.tell(&roster.line())?;
+    }
+    for seat in &seats {
+        if seat.line(PATIENCE)? != READY {
+            return Err(format!("box {} is not ready", seat.own));
+        }
+    }
+    Ok(seats)
+}
+
+/// Runs a sitting and prints it; gives whether all good boxes ended, and ended alike.
+pub fn run(options: &Options, arguments: &[String]) -> Result<bool, String> {
+    check_openings(options)?;
+    let mut seats = gather(options, arguments)?;
+    for seat in &mut seats {
+        seat.tell(GO)?;
+    }
+    let patience = options.limit * 8 + PATIENCE;
+    let good = seats
+        .iter()
+        .filter(|seat| !options.lies.contains_key(&seat.own));
+    let ended: Vec<Ended> = good.map(|seat| ended(seat, patience)).collect();
+    Ok(print(options, &ended))
+}
+
+fn print(options: &Options, ended: &[Ended]) -> bool {
+    if options.lies.len() > options.faults {
+        println!(
+            "{} boxes lie, more than the fault limit {}",
+            options.lies.len(),
+            options.faults
+        );
+    }
+    for own in 1..=options.parties {
+        match options.lies.get(&own) {
+            Some(lie) => println!("{own} lies: {}", lie.name()),
+            None => ended
+                .iter()
+                .filter(|ended| ended.own == own)
+                .for_each(|ended| println!("{own} {}", ended.result)),
+        }
+    }
+    println!(
+        "sent {}",
+        ended.iter().map(|ended| ended.sent).sum::<usize>()
+    );
+    let failed = ended.iter().any(|ended| ended.result.starts_with("error"));
+    let alike = ended
+        .windows(2)
+        .all(|pair| pair[0].result == pair[1].result);
+    println!(
+        "{}",
+        match (failed, alike) {
+            (true, _) => "broken: a good box failed",
+            (_, false) => "broken: good boxes differ",
+            _ => "settled: all good boxes have one result",
+        }
+    );
+    !failed && alike
+}

@@ -1,0 +1,221 @@
+//! Sittings as real processes: with liars of every kind, with duties broken, and those of docs/HOSTING.md. None may hang.
+
+use std::io::Read;
+use std::path::Path;
+use std::process::{Command, Stdio};
+use std::thread;
+use std::time::{Duration, Instant};
+
+/// No sitting takes so long, however busy the machine.
+const LONGEST: Duration = Duration::from_secs(60);
+
+/// The time limit of an exchange, ample for a busy machine.
+const LIMIT: &str = "--limit-ms 1500";
+
+const LIES: [&str; 6] = ["silent", "noise", "split", "other-book", "replay", "forge"];
+
+struct Run {
+    status: i32,
+    lines: Vec<String>,
+}
+
+/// Runs the host with these words, and ends it if it hangs.
+fn host(words: &str) -> Run {
+    let mut process = Command::new(env!("CARGO_BIN_EXE_host"))
+        .args(words.split_whitespace())
+        .current_dir(env!("CARGO_MANIFEST_DIR"))
+        .stdout(Stdio::piped())
+        .stderr(Stdio::piped())
+        .spawn()
+        .expect("the host starts");
+    let end = Instant::now() + LONGEST;
+    let status = loop {
+        if let Some(status) = process.try_wait().expect("the host can be waited for") {
+            break status;
+        }
+        if Instant::now() > end {
+            process.kill().ok();
+            panic!("hangs: host {words}");
+        }
+        thread::sleep(Duration::from_millis(10));
+    };
+    let mut text = String::new();
+    let output = process.stdout.as_mut().expect("a pipe");
+    output.read_to_string(&mut text).expect("a text");
+    Run {
+        status: status.code().unwrap_or(-1),
+        lines: text.lines().map(String::from).collect(),
+    }
+}
+
+impl Run {
+    /// The results of good boxes.
+    fn results(&self) -> Vec<&str> {
+        let parts = self.lines.iter().filter_map(|line| line.split_once(' '));
+        parts
+            .filter(|(_, rest)| rest.starts_with(['=', '-']))
+            .map(|(_, rest)| rest)
+            .collect()
+    }
+}
+
+/// All good boxes must end with one of these results.
+fn settles(words: &str, good: usize, allowed: &[&str]) {
+    let run = host(words);
+    let results = run.results();
+    assert_eq!(run.status, 0, "{words}: {:?}", run.lines);
+    assert_eq!(results.len(), good, "{words}: {:?}", run.lines);
+    assert!(
+        results.iter().all(|result| *result == results[0]),
+        "{words}: {results:?}"
+    );
+    assert!(allowed.contains(&results[0]), "{words}: {results:?}");
+}
+
+/// Runs sittings beside one another: most of their time they wait.
+fn beside(sittings: Vec<Box<dyn Fn() + Send + Sync>>) {
+    for few in sittings.chunks(6) {
+        thread::scope(|scope| few.iter().for_each(|sitting| drop(scope.spawn(sitting))));
+    }
+}
+
+/// The words for a sitting in which `t` boxes, the lowest or the highest, tell the lie.
+fn liars(n: usize, t: usize, lie: &str, lowest: bool) -> String {
+    let first = if lowest { 1 } else { n - t + 1 };
+    let lies: Vec<String> = (first..first + t)
+        .map(|own| format!("--lie {own}={lie}"))
+        .collect();
+    format!("--parties {n} --faults {t} {LIMIT} {}", lies.join(" "))
+}
+
+/// One common book is settled on; of two books one is, or nothing.
+#[test]
+fn liars_of_every_kind() {
+    let mut sittings: Vec<Box<dyn Fn() + Send + Sync>> = Vec::new();
+    for lie in LIES {
+        for (seed, (n, t)) in [(3, 1), (4, 1), (5, 2), (8, 3), (16, 7)]
+            .into_iter()
+            .enumerate()
+        {
+            for lowest in [true, false] {
+                let words = format!("{} --seed {seed}", liars(n, t, lie, lowest));
+                let middle = n.div_ceil(2) + usize::from(lowest);
+                let common = format!("{words} --book 4142");
+                let divided = format!("{common} --own-book {middle}=43");
+                sittings.push(Box::new(move || settles(&common, n - t, &["= 4142"])));
+                sittings.push(Box::new(move || {
+                    settles(&divided, n - t, &["= 4142", "= 43", "-"])
+                }));
+            }
+        }
+    }
+    println!("{} sittings", sittings.len());
+    beside(sittings);
+}
+
+#[test]
+fn every_lie_at_once() {
+    let lies: Vec<String> = (2..)
+        .zip(LIES)
+        .map(|(own, lie)| format!("--lie {own}={lie}"))
+        .collect();
+    for seed in 1..=3 {
+        let words = format!(
+            "--parties 14 --faults 6 --book 00ff --own-book 1=41 --seed {seed} {LIMIT} {}",
+            lies.join(" ")
+        );
+        settles(&words, 8, &["= 00ff", "= 41", "-"]);
+    }
+}
+
+/// The figures that document 01 gives.
+#[test]
+fn worked_sittings() {
+    let silent = format!("--parties 3 --faults 1 --lie 3=silent {LIMIT}");
+    let one = host(&format!("{silent} --book 4142"));
+    assert_eq!(
+        one.lines[..4],
+        ["1 = 4142", "2 = 4142", "3 lies: silent", "sent 496"]
+    );
+    let two = host(&format!("{silent} --book 41 --own-book 2=42"));
+    assert_eq!(
+        two.lines[..4],
+        ["1 = 41", "2 = 41", "3 lies: silent", "sent 388"]
+    );
+    let alone = host("--parties 1 --faults 0 --book 4142");
+    assert_eq!(alone.lines[..2], ["1 = 4142", "sent 0"]);
+}
+
+#[test]
+fn books_from_files_and_of_any_length() {
+    let file = Path::new(env!("CARGO_TARGET_TMPDIR")).join("book");
+    for (length, status) in [(0, 0), (1, 0), (1024, 0), (1025, 2)] {
+        std::fs::write(&file, vec![7; length]).expect("the book is written");
+        let words = format!(
+            "--parties 4 --faults 1 --own-book 4=41 --book {} {LIMIT}",
+            file.display()
+        );
+        let run = host(&words);
+        assert_eq!(run.status, status, "length {length}");
+        if status == 0 {
+            let book = format!("= {}", "07".repeat(length));
+            assert_eq!(run.results(), [book.trim_end(); 4]);
+        }
+    }
+}
+
+#[test]
+fn a_broken_duty_breaks_the_sitting() {
+    let words = format!("--parties 3 --faults 1 --book 41 --own-book 2=42 --lie 3=forge {LIMIT}");
+    settles(&words, 2, &["= 41"]);
+    for duty in ["forge", "clock", "agreement", "state"] {
+        let run = host(&format!("{words} --break {duty}"));
+        assert_eq!(run.status, 1, "{duty}: {:?}", run.lines);
+        let results = run.results();
+        assert_ne!(results[0], results[1], "{duty}");
+    }
+}
+
+#[test]
+fn wrong_words_are_refused() {
+    for words in [
+        "",
+        "--parties 3",
+        "--parties 17 --faults 1 --book 41",
+        "--parties 4 --faults 2 --book 41",
+        "--parties 3 --faults 1 --book 41 --lie 4=noise",
+        "--parties 3 --faults 1 --book 41 --lie 3=truth",
+    ] {
+        let run = host(words);
+        assert_eq!((run.status, run.lines.len()), (2, 0), "{words}");
+    }
+}
+
+/// In the document a line `$ host ...` is followed by what it prints and its exit status.
+#[test]
+fn the_documents_sittings_print_what_it_says() {
+    let text = include_str!("../../docs/HOSTING.md");
+    let mut commands = 0;
+    let mut lines = text.lines().map(str::trim).peekable();
+    while let Some(line) = lines.next() {
+        let Some(words) = line.strip_prefix("$ host ") else {
+            continue;
+        };
+        let mut expected = Vec::new();
+        while let Some(line) = lines.next_if(|line| !line.is_empty()) {
+            expected.push(line);
+        }
+        let run = host(words);
+        let status = format!("[exit status {}]", run.status);
+        let printed: Vec<&str> = run
+            .lines
+            .iter()
+            .map(String::as_str)
+            .chain([&status[..]])
+            .collect();
+        assert_eq!(printed, expected, "{words}");
+        commands += 1;
+    }
+    println!("{commands} commands of the document");
+    assert!(commands >= 8);
+}
