@@ -1,4 +1,5 @@
-//! Finds libcipangohu.a: in the folder that CIPANGOHU_LIB names, else in ../dist, where `library/build` puts it.
+//! Finds libcipangohu.a: in the folder that CIPANGOHU_LIB names, else in ../dist, where
+//! `library/build` puts it.
 
 use std::env;
 use std::path::{Path, PathBuf};

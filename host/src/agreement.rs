@@ -1,5 +1,6 @@
-//! A stand-in for the short agreement, a service that all trust. It keeps document 01's rule while at most t boxes lie: all get one value, and if all
-//! good boxes put in the same value, it is that one. A real host runs a protocol among the boxes in its place.
+//! A stand-in for the short agreement, a service that all trust. It keeps document 01's rule while
+//! at most t boxes lie: all get one value, and if all good boxes put in the same value, it is that
+//! one. A real host runs a protocol among the boxes in its place.
 
 use std::collections::BTreeMap;
 use std::io::{Error, ErrorKind, Result};
@@ -15,7 +16,7 @@ use crate::wire::{self, Hello, Token, ROUNDS};
 pub struct Terms {
     pub parties: usize,
     pub faults: usize,
-    /// How long after the first value of a round the others are waited for.
+    /// How long the last good box may speak after the first one.
     pub limit: Duration,
     /// By number from 1.
     pub tokens: Vec<Token>,
@@ -64,8 +65,9 @@ fn lawful(round: usize, value: &[u8]) -> bool {
     }
 }
 
-/// The value of n − t boxes, as soon as there is one. More good boxes than bad have it, so that it is the good ones' common value if they have one.
-/// Where all have spoken or the time is up, and no such value came, the lowest-numbered box's is as good as any.
+/// The value of n − t boxes, as soon as there is one. More good boxes than bad have it, so that it
+/// is the good ones' common value if they have one. Where all have spoken or the time is up, and no
+/// such value came, the lowest-numbered box's is as good as any.
 fn settle(
     values: &BTreeMap<usize, Vec<u8>>,
     parties: usize,
@@ -104,7 +106,9 @@ impl Service {
         }
     }
 
-    /// Puts a box's first value of this round in, and waits for the agreed one.
+    /// Puts a box's first value of this round in, and waits for the agreed one. The time starts
+    /// when more than t boxes have spoken: one of them is good, so that liars cannot let it run out
+    /// before the good boxes are there.
     fn agreed(&self, round: usize, sender: usize, value: Vec<u8>) -> Vec<u8> {
         let Terms {
             parties,
@@ -113,25 +117,29 @@ impl Service {
             ..
         } = self.terms;
         let mut rounds = self.rounds.lock().unwrap_or_else(PoisonError::into_inner);
-        let end = *rounds[round]
-            .end
-            .get_or_insert_with(|| Instant::now() + limit);
         rounds[round].values.entry(sender).or_insert(value);
+        if rounds[round].values.len() > faults {
+            rounds[round]
+                .end
+                .get_or_insert_with(|| Instant::now() + limit);
+        }
         self.changed.notify_all();
         loop {
-            let now = Instant::now();
             let Round {
-                values, settled, ..
+                values,
+                end,
+                settled,
             } = &mut rounds[round];
+            let left = end.map_or(PATIENCE, |end| {
+                end.saturating_duration_since(Instant::now())
+            });
             if settled.is_none() {
-                *settled = settle(values, parties, faults, now >= end);
+                *settled = settle(values, parties, faults, left.is_zero());
             }
             if let Some(value) = settled {
                 return value.clone();
             }
-            let waited = self
-                .changed
-                .wait_timeout(rounds, end.saturating_duration_since(now));
+            let waited = self.changed.wait_timeout(rounds, left);
             rounds = waited.unwrap_or_else(PoisonError::into_inner).0;
         }
     }
@@ -153,7 +161,9 @@ impl Agreement {
     /// Puts in a value and waits for the agreed one.
     pub fn agree(&mut self, round: usize, value: &[u8]) -> Result<Vec<u8>> {
         wire::write_frame(&mut self.stream, round, value)?;
-        Ok(wire::read_frame(&mut self.stream)?.body)
+        let frame = wire::read_frame(&mut self.stream);
+        let none = |_| Error::new(ErrorKind::TimedOut, "the agreement gives no value");
+        Ok(frame.map_err(none)?.body)
     }
 }
 
@@ -188,30 +198,46 @@ mod tests {
         assert!(lawful(1, &[0]) && lawful(1, &[1]) && !lawful(1, &[2]) && !lawful(1, &[0, 0]));
     }
 
-    /// Two of three boxes put in values, the third never comes.
-    #[test]
-    fn the_service_answers_without_the_silent() {
+    const LIMIT: Duration = Duration::from_millis(50);
+
+    /// A service for three boxes, one of which may lie. The token of each is its number.
+    fn service() -> u16 {
         let tokens = vec![[1; 16], [2; 16], [3; 16]];
-        let limit = Duration::from_millis(50);
         let terms = Terms {
             parties: 3,
             faults: 1,
-            limit,
+            limit: LIMIT,
             tokens,
             echo: false,
         };
-        let port = serve(terms).unwrap();
-        let ask = |own: usize, value: u8| {
-            thread::spawn(move || {
-                let mut agreement = Agreement::join(port, own, [own as u8; 16], limit).unwrap();
-                agreement.agree(0, &[value; 32]).unwrap()
-            })
-        };
-        let asked = [ask(2, 20), ask(1, 10)];
-        for answer in asked {
+        serve(terms).unwrap()
+    }
+
+    /// A box that puts in a root of this byte.
+    fn ask(port: u16, own: usize, value: u8) -> thread::JoinHandle<Vec<u8>> {
+        thread::spawn(move || {
+            let mut agreement = Agreement::join(port, own, [own as u8; 16], LIMIT).unwrap();
+            agreement.agree(0, &[value; 32]).unwrap()
+        })
+    }
+
+    #[test]
+    fn the_service_answers_without_the_silent() {
+        let port = service();
+        for answer in [ask(port, 2, 20), ask(port, 1, 10)] {
             assert_eq!(answer.join().unwrap(), [10; 32]);
         }
-        let mut forger = Agreement::join(port, 3, [9; 16], limit).unwrap();
+        let mut forger = Agreement::join(port, 3, [9; 16], LIMIT).unwrap();
         assert!(forger.agree(0, &[30; 32]).is_err());
+    }
+
+    #[test]
+    fn a_liar_cannot_start_the_clock() {
+        let port = service();
+        let liar = ask(port, 1, 10);
+        thread::sleep(LIMIT * 3);
+        for answer in [ask(port, 2, 20), ask(port, 3, 20), liar] {
+            assert_eq!(answer.join().unwrap(), [20; 32]);
+        }
     }
 }

@@ -1,6 +1,7 @@
-//! The clock of the two exchanges. Both ends are counted from one start, the arrival of the agreed bit, which all good boxes get at about the
-//! same time. Were the second counted from the end of a box's first, a box that heard everybody early would stop listening before one that
-//! waited for a silent liar has sent its relay.
+//! The clock of the two exchanges. Both ends are counted from one start, the arrival of the agreed
+//! bit, which all good boxes get at about the same time. Were the second counted from the end of a
+//! box's first, a box that heard everybody early would stop listening before one that waited for a
+//! silent liar has sent its relay.
 
 use std::time::{Duration, Instant};
 

@@ -37,7 +37,8 @@ impl From<io::Error> for Failure {
 /// Where the agreed root stands in a state.
 const ROOT: usize = 8;
 
-/// A party that has been given the agreed bit, its root, its packets by receiver, and the clock that the bit has started.
+/// A party that has been given the agreed bit, its root, its packets by receiver, and the clock
+/// that the bit has started.
 struct Agreed {
     party: Party,
     root: Hash,
@@ -105,7 +106,8 @@ pub fn run(
     Ok(Report { outcome, sent })
 }
 
-/// The party with its own root written where the agreed one stood, by somebody who should not: it now takes itself for happy.
+/// The party with its own root written where the agreed one stood, by somebody who should not: it
+/// now takes itself for happy.
 fn meddled(party: &Party, root: &Hash) -> Party {
     let mut state = *party.state();
     state[ROOT..ROOT + root.len()].copy_from_slice(root);

@@ -1,4 +1,5 @@
-//! What lying boxes do, by name. A liar knows the whole sitting, and may see what good boxes send before it speaks itself.
+//! What lying boxes do, by name. A liar knows the whole sitting, and may see what good boxes send
+//! before it speaks itself.
 
 use std::io;
 use std::str::FromStr;
@@ -114,7 +115,8 @@ impl Liar {
         })
     }
 
-    /// What it does before the sitting begins. A forger says silence in both exchanges under every other number, with tokens that are guesses.
+    /// What it does before the sitting begins. A forger says silence in both exchanges under every
+    /// other number, with tokens that are guesses.
     pub fn prepare(&self, roster: &Roster) {
         if self.lie != Lie::Forge {
             return;

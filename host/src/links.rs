@@ -1,5 +1,5 @@
-//! The links among the boxes: one connection for each sender and receiver, opened by the sender with the link's token, and the mailbox that
-//! what arrives is put into.
+//! The links among the boxes: one connection for each sender and receiver, opened by the sender
+//! with the link's token, and the mailbox that what arrives is put into.
 
 use std::io::{Error, ErrorKind, Result};
 use std::net::{Ipv4Addr, SocketAddr, TcpListener, TcpStream};
@@ -63,8 +63,8 @@ impl Mailbox {
         self.arrived.notify_all();
     }
 
-    /// The packets of an exchange in the senders' order, as soon as all others have sent or the time is up. Who sent nothing by then has sent
-    /// no bytes.
+    /// The packets of an exchange in the senders' order, as soon as all others have sent or the
+    /// time is up. Who sent nothing by then has sent no bytes.
     pub fn collect(&self, exchange: usize, own: usize, end: Instant) -> Vec<Vec<u8>> {
         let mut packets = self.lock();
         loop {
@@ -120,7 +120,8 @@ fn listen_to(mut stream: TcpStream, door: &Door, mailbox: &Mailbox) -> Result<()
     }
 }
 
-/// This box's own links to the others, by number from 1; none to itself, nor to a box that cannot be reached.
+/// This box's own links to the others, by number from 1; none to itself, nor to a box that cannot
+/// be reached.
 pub struct Links {
     pub own: usize,
     pub mailbox: Arc<Mailbox>,
@@ -128,7 +129,8 @@ pub struct Links {
 }
 
 impl Links {
-    /// Sends each other box its packet. A link that fails is the receiver's loss: it may be a liar that has gone away.
+    /// Sends each other box its packet. A link that fails is the receiver's loss: it may be a liar
+    /// that has gone away.
     pub fn send(&mut self, exchange: usize, packets: &[Vec<u8>]) {
         for (stream, packet) in self.streams.iter_mut().zip(packets) {
             if let Some(stream) = stream {

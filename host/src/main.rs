@@ -1,5 +1,6 @@
-//! An example host: each box is a process of its own, linked with the others by TCP on the loopback. Some boxes may lie, and the host may be
-//! told to break one of its own duties; docs/HOSTING.md has sittings of each kind.
+//! An example host: each box is a process of its own, linked with the others by TCP on the
+//! loopback. Some boxes may lie, and the host may be told to break one of its own duties;
+//! docs/HOSTING.md has sittings of each kind.
 
 mod agreement;
 mod clock;

@@ -1,4 +1,5 @@
-//! The command line. Each box is started with the same words and its own number, so that all know the sitting in the same way.
+//! The command line. Each box is started with the same words and its own number, so that all know
+//! the sitting in the same way.
 
 use std::collections::BTreeMap;
 use std::fs;
@@ -8,7 +9,8 @@ use std::time::Duration;
 use crate::hex;
 use crate::liars::Lie;
 
-pub const USAGE: &str = "usage: host --parties N --faults T --book BOOK [--own-book I=BOOK]... [--lie I=LIE]... [--limit-ms MS] [--seed S] [--break DUTY]
+pub const USAGE: &str = "usage: host --parties N --faults T --book BOOK [--own-book I=BOOK]...
+            [--lie I=LIE]... [--limit-ms MS] [--seed S] [--break DUTY]
   BOOK  hexadecimal bytes, or the name of a file
   LIE   silent, noise, split, other-book, replay or forge
   DUTY  forge, clock, agreement or state";
@@ -18,7 +20,8 @@ pub const USAGE: &str = "usage: host --parties N --faults T --book BOOK [--own-b
 pub enum Duty {
     /// Links: a number is believed without its token.
     Forge,
-    /// The clock: the lowest-numbered good box sends its first packets when the others have stopped listening.
+    /// The clock: the lowest-numbered good box sends its first packets when the others have stopped
+    /// listening.
     Clock,
     /// The agreement: each box gets back what it put in.
     Agreement,

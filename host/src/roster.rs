@@ -1,4 +1,5 @@
-//! What a box is told before a sitting begins: the ports of the others and of the agreement, and the tokens of its own links and no others.
+//! What a box is told before a sitting begins: the ports of the others and of the agreement, and
+//! the tokens of its own links and no others.
 
 use std::fs::File;
 use std::io::{Read, Result};
@@ -52,8 +53,8 @@ impl Peer {
 }
 
 impl Roster {
-    /// The rosters of all boxes, by number from 1. Token n·i + j belongs to the link from box i + 1 to box j + 1; those behind them are the
-    /// agreement's, which demands and says the same one.
+    /// The rosters of all boxes, by number from 1. Token n·i + j belongs to the link from box i + 1
+    /// to box j + 1; those behind them are the agreement's, which demands and says the same one.
     pub fn all(ports: &[u16], agreement: u16, tokens: &[Token]) -> Vec<Roster> {
         let n = ports.len();
         let peer = |i: usize, j: usize| Peer {

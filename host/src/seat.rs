@@ -1,5 +1,5 @@
-//! One box's process. On standard output it tells its port, then that it is ready, then its report; on standard input it is told its roster, then to
-//! go.
+//! One box's process. On standard output it tells its port, then that it is ready, then its report;
+//! on standard input it is told its roster, then to go.
 
 use std::io::{stdin, BufRead, Write};
 use std::net::TcpListener;
@@ -36,7 +36,8 @@ fn tell(line: &str) -> Result<(), String> {
         .map_err(|error| error.to_string())
 }
 
-/// The line that reports how a good box ended: the bytes it sent, and its result as document 01 prints it.
+/// The line that reports how a good box ended: the bytes it sent, and its result as document 01
+/// prints it.
 fn reported(ended: Result<Report, Failure>) -> String {
     match ended {
         Ok(Report { outcome, sent }) => match outcome {

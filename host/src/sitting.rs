@@ -1,4 +1,5 @@
-//! The process that starts the boxes of a sitting, brings them together, and holds the good ones' results against each other.
+//! The process that starts the boxes of a sitting, brings them together, and holds the good ones'
+//! results against each other.
 
 use std::io::{BufRead, BufReader, Write};
 use std::process::{Child, ChildStdin, Command, Stdio};
@@ -96,7 +97,8 @@ fn check_openings(options: &Options) -> Result<(), String> {
     Ok(())
 }
 
-/// Starts all boxes and the agreement, and tells each where the others are. All are ready when this returns, and none has gone ahead.
+/// Starts all boxes and the agreement, and tells each where the others are. All are ready when this
+/// returns, and none has gone ahead.
 fn gather(options: &Options, arguments: &[String]) -> Result<Vec<Seat>, String> {
     let text = |error: std::io::Error| error.to_string();
     let n = options.parties;

@@ -1,5 +1,5 @@
-//! What stands on a connection: first a hello, the sender's number and the link's token; then frames, each of a round (0 or 1) in one byte, a
-//! two-byte length and as many bytes.
+//! What stands on a connection: first a hello, the sender's number and the link's token; then
+//! frames, each of a round (0 or 1) in one byte, a two-byte length and as many bytes.
 
 use std::io::{Error, ErrorKind, Read, Result, Write};
 

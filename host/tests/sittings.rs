@@ -1,4 +1,5 @@
-//! Sittings as real processes: with liars of every kind, with duties broken, and those of docs/HOSTING.md. None may hang.
+//! Sittings as real processes: with liars of every kind, with duties broken, and those of
+//! docs/HOSTING.md. None may hang.
 
 use std::io::Read;
 use std::path::Path;
@@ -174,6 +175,15 @@ fn a_broken_duty_breaks_the_sitting() {
         let results = run.results();
         assert_ne!(results[0], results[1], "{duty}");
     }
+}
+
+/// Where not even t + 1 boxes speak, the agreement has no value; the good box says so and ends.
+#[test]
+fn a_box_left_alone_ends_with_an_error() {
+    let words = "--parties 3 --faults 1 --book 41 --lie 2=silent --lie 3=silent --limit-ms 100";
+    let run = host(words);
+    assert_eq!(run.status, 1);
+    assert_eq!(run.lines[1], "1 error: the agreement gives no value");
 }
 
 #[test]

@@ -1,7 +1,7 @@
 //! The functions of the archive, one for one, on borrowed bytes. All that is `unsafe` stands here.
 //!
-//! Lengths are the caller's to choose: what does not fit is refused with a cause and changes nothing. An accepted call gives the value that
-//! the header `cipangohu.h` names.
+//! Lengths are the caller's to choose: what does not fit is refused with a cause and changes
+//! nothing. An accepted call gives the value that the header `cipangohu.h` names.
 
 use crate::cause::Cause;
 
@@ -137,32 +137,23 @@ pub fn agree_bit(state: &mut [u8], bit: u8, out: &mut [u8]) -> Result<u32, Cause
     })
 }
 
+/// A step that takes an inbox and writes.
+type Take = unsafe extern "C" fn(*mut u8, usize, *const u8, usize, *mut u8, usize) -> u64;
+
+fn take(step: Take, state: &mut [u8], inbox: &[u8], out: &mut [u8]) -> Result<u32, Cause> {
+    let (from, length) = (inbox.as_ptr(), inbox.len());
+    let (to, room) = (out.as_mut_ptr(), out.len());
+    // SAFETY: `step` is the archive's, each pointer comes with its slice's length, and slices that
+    // are written overlap no other.
+    value(unsafe { step(state.as_mut_ptr(), state.len(), from, length, to, room) })
+}
+
 pub fn take_shares(state: &mut [u8], inbox: &[u8], out: &mut [u8]) -> Result<u32, Cause> {
-    // SAFETY: each pointer comes with its slice's length; slices that are written overlap no other.
-    value(unsafe {
-        archive::cipangohu_take_shares(
-            state.as_mut_ptr(),
-            state.len(),
-            inbox.as_ptr(),
-            inbox.len(),
-            out.as_mut_ptr(),
-            out.len(),
-        )
-    })
+    take(archive::cipangohu_take_shares, state, inbox, out)
 }
 
 pub fn take_relays(state: &mut [u8], inbox: &[u8], out: &mut [u8]) -> Result<u32, Cause> {
-    // SAFETY: each pointer comes with its slice's length; slices that are written overlap no other.
-    value(unsafe {
-        archive::cipangohu_take_relays(
-            state.as_mut_ptr(),
-            state.len(),
-            inbox.as_ptr(),
-            inbox.len(),
-            out.as_mut_ptr(),
-            out.len(),
-        )
-    })
+    take(archive::cipangohu_take_relays, state, inbox, out)
 }
 
 pub fn read_packet(n: usize, packet: &[u8]) -> Result<u32, Cause> {
@@ -191,32 +182,23 @@ pub fn check_path(
     })
 }
 
-pub fn shares((n, t): (usize, usize), message: &[u8], out: &mut [u8]) -> Result<u32, Cause> {
-    // SAFETY: each pointer comes with its slice's length; the buffer overlaps no other slice.
-    value(unsafe {
-        archive::cipangohu_shares(
-            n,
-            t,
-            message.as_ptr(),
-            message.len(),
-            out.as_mut_ptr(),
-            out.len(),
-        )
-    })
+/// A function of n and t that reads bytes and writes.
+type Code = unsafe extern "C" fn(usize, usize, *const u8, usize, *mut u8, usize) -> u64;
+
+fn code(by: Code, group: (usize, usize), bytes: &[u8], out: &mut [u8]) -> Result<u32, Cause> {
+    let (n, t) = group;
+    let (to, room) = (out.as_mut_ptr(), out.len());
+    // SAFETY: `by` is the archive's, each pointer comes with its slice's length, and the buffer
+    // overlaps no other slice.
+    value(unsafe { by(n, t, bytes.as_ptr(), bytes.len(), to, room) })
 }
 
-pub fn rebuild((n, t): (usize, usize), entries: &[u8], out: &mut [u8]) -> Result<u32, Cause> {
-    // SAFETY: each pointer comes with its slice's length; the buffer overlaps no other slice.
-    value(unsafe {
-        archive::cipangohu_rebuild(
-            n,
-            t,
-            entries.as_ptr(),
-            entries.len(),
-            out.as_mut_ptr(),
-            out.len(),
-        )
-    })
+pub fn shares(group: (usize, usize), message: &[u8], out: &mut [u8]) -> Result<u32, Cause> {
+    code(archive::cipangohu_shares, group, message, out)
+}
+
+pub fn rebuild(group: (usize, usize), entries: &[u8], out: &mut [u8]) -> Result<u32, Cause> {
+    code(archive::cipangohu_rebuild, group, entries, out)
 }
 
 pub fn hash(message: &[u8], out: &mut [u8]) -> Result<u32, Cause> {

@@ -1,13 +1,16 @@
-//! One box (document 01) for programs in Rust: the proved functions of `libcipangohu.a` behind safe types. A box is a party here, a book a
-//! message.
+//! One box (document 01) for programs in Rust: the proved functions of `libcipangohu.a` behind safe
+//! types. A box is a party here, a book a message.
 //!
-//! A call is accepted, or turned away with a [`Cause`] and nothing changed; none panics. What the host owes is told in docs/HOSTING.md.
+//! A call is accepted, or turned away with a [`Cause`] and nothing changed; none panics. What the
+//! host owes is told in docs/HOSTING.md.
 
 mod cause;
 mod entries;
 mod packet;
 mod party;
 
+// The one module that speaks to the archive.
+#[allow(unsafe_code)]
 pub mod calls;
 
 pub use cause::Cause;
@@ -28,7 +31,8 @@ pub const MAX_PACKET: usize = 4 + MAX_SHARE + 4 * 32;
 /// Room for any outbox: for each party a two-byte length and a packet.
 pub const MAX_OUTBOX: usize = MAX_PARTIES * (2 + MAX_PACKET);
 
-/// Room for all shares of a message: n is less than 2·(n − t), so that they have less than twice the bytes of the longest frame with its zeros.
+/// Room for all shares of a message: n is less than 2·(n − t), so that they have less than twice
+/// the bytes of the longest frame with its zeros.
 const MAX_SHARES: usize = 2 * (MAX_SHARE + MAX_PARTIES);
 
 /// The bytes of a party's state.
@@ -42,7 +46,8 @@ pub fn shares(n: usize, t: usize, message: &[u8]) -> Result<Vec<Vec<u8>>, Cause>
     let mut out = vec![0; MAX_SHARES];
     let length = calls::shares((n, t), message, &mut out)? as usize;
     out.truncate(length);
-    // They are equal in length, and no part of a division may be 0 even if the archive were not the proved one.
+    // They are equal in length, and no part of a division may be 0 even if the archive were not the
+    // proved one.
     let each = (length / n.max(1)).max(1);
     Ok(out.chunks(each).map(<[u8]>::to_vec).collect())
 }

@@ -1,4 +1,5 @@
-//! The packets that parties send one another: what stands in one, and whether a path leads to a root.
+//! The packets that parties send one another: what stands in one, and whether a path leads to a
+//! root.
 
 use crate::calls;
 use crate::cause::Cause;

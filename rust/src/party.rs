@@ -14,7 +14,8 @@ pub enum Outcome {
     Message(Vec<u8>),
 }
 
-/// A party's state. It cannot be cloned: a step done twice from one state would send two different things.
+/// A party's state. It cannot be cloned: a step done twice from one state would send two different
+/// things.
 #[derive(Debug, PartialEq, Eq)]
 pub struct Party {
     state: [u8; STATE],
@@ -39,7 +40,8 @@ impl Party {
         &self.state
     }
 
-    /// Step 2: takes the agreed root. The answer, whether the party is happy, goes to the second agreement.
+    /// Step 2: takes the agreed root. The answer, whether the party is happy, goes to the second
+    /// agreement.
     pub fn agree_root(&mut self, root: &[u8]) -> Result<bool, Cause> {
         Ok(calls::agree_root(&mut self.state, root)? == 1)
     }

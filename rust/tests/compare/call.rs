@@ -1,4 +1,5 @@
-//! One call of the library with its arguments, made on lent buffers by the library and by the foreign implementation.
+//! One call of the library with its arguments, made on lent buffers by the library and by the
+//! foreign implementation.
 
 use std::collections::BTreeMap;
 
@@ -22,7 +23,8 @@ pub enum Call {
 
 pub type Answer = Result<u32, Cause>;
 
-/// What a call may write; a call without a state or a buffer leaves it alone. The root of an opening is its buffer.
+/// What a call may write; a call without a state or a buffer leaves it alone. The root of an
+/// opening is its buffer.
 #[derive(Clone, Debug, PartialEq)]
 pub struct Lent {
     pub state: Vec<u8>,

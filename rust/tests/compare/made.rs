@@ -1,6 +1,7 @@
-//! Random arguments: groups, messages, inboxes with good and bad packets, states with bytes changed.
+//! Random arguments: groups, messages, inboxes with good and bad packets, states with bytes
+//! changed.
 
-use cipangohu::{lay_out, MAX_MESSAGE, STATE};
+use cipangohu::{lay_out, MAX_MESSAGE, MAX_SHARE, STATE};
 use foreign::liars::{Lie, Scene, Sharing, Way};
 use foreign::random::Random;
 
@@ -133,21 +134,14 @@ pub fn spoil(state: &mut Vec<u8>, play: &Play, random: &mut Random) {
         2 => *state = dirt(state.len(), random),
         _ if state.len() < STATE => state.resize(STATE, 0),
         3 => state[random.below(3)] = random.pick(&[0, 1, 2, 3, 16, 17, 255]),
-        4 | 5 => state[3] = random.pick(&[0, 1, 2, 3, 2, 3, 4, 5, 6, 255]),
-        6 => put(
-            state,
-            4,
-            &random
-                .pick(&[0u16, 1, 24, 1023, 1024, 1025, 65_535])
-                .to_be_bytes(),
-        ),
-        7 => put(
-            state,
-            6,
-            &random
-                .pick(&[0u16, 1, 2, 1025, 1026, 1027, 65_535])
-                .to_be_bytes(),
-        ),
+        4 | 5 => {
+            state[3] = random.pick(&[0, 1, 2, 3, 2, 3, 4, 5, 6, 255]);
+            if random.once_in(3) {
+                other_length(state, MESSAGE_LENGTH, random);
+            }
+        }
+        6 => other_length(state, MESSAGE_LENGTH, random),
+        7 => other_length(state, SHARE_LENGTH, random),
         8 => put(state, 8, &play.scene.agreed.root),
         9 => hold(state, play),
         10 => past_lengths(state, random),
@@ -162,6 +156,15 @@ fn put(state: &mut [u8], at: usize, bytes: &[u8]) {
     state[at..at + bytes.len()].copy_from_slice(bytes);
 }
 
+/// Where a length stands in a state, and its limit.
+const MESSAGE_LENGTH: (usize, u16) = (4, MAX_MESSAGE as u16);
+const SHARE_LENGTH: (usize, u16) = (6, MAX_SHARE as u16);
+
+fn other_length(state: &mut [u8], (at, limit): (usize, u16), random: &mut Random) {
+    let lengths = [0, 1, 2, 24, limit - 1, limit, limit + 1, u16::MAX];
+    put(state, at, &random.pick(&lengths).to_be_bytes());
+}
+
 /// Puts the share that the party should have been sent into its state.
 fn hold(state: &mut [u8], play: &Play) {
     let share = &play.scene.agreed.shares[play.group.2 - 1];
@@ -171,12 +174,8 @@ fn hold(state: &mut [u8], play: &Play) {
 
 /// Dirt where a state given back has zeros.
 fn past_lengths(state: &mut [u8], random: &mut Random) {
-    for (at, end) in [(40, 1064), (1064, STATE)] {
+    for end in [1064, STATE] {
         let length = 1 + random.below(200);
-        put(
-            state,
-            end - length.min(end - at),
-            &dirt(length.min(end - at), random),
-        );
+        put(state, end - length, &dirt(length, random));
     }
 }

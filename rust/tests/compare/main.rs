@@ -1,5 +1,6 @@
-//! The library beside the foreign implementation: every call on random arguments, valid and damaged, with exact, short and long
-//! buffers. Answers are compared, and every byte of states and buffers.
+//! The library beside the foreign implementation: every call on random arguments, valid and
+//! damaged, with exact, short and long buffers. Answers are compared, and every byte of states and
+//! buffers.
 //!
 //! COMPARE_ROUNDS multiplies the number of cases (1 if left out).
 
@@ -33,7 +34,8 @@ fn needed(call: &Call, state: &[u8]) -> usize {
     }
 }
 
-/// Makes the call with buffers of several lengths on the same state. The last length is left to chance, and the state that it gives is kept.
+/// Makes the call with buffers of several lengths on the same state. The last length is left to
+/// chance, and the state that it gives is kept.
 fn in_every_room(call: &Call, state: &mut Vec<u8>, random: &mut Random, tally: &mut Tally) {
     let needed = needed(call, state);
     let before = state.clone();

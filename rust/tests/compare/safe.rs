@@ -1,4 +1,5 @@
-//! The safe types beside the foreign implementation: a party's steps with its state, packets, shares, rebuilding.
+//! The safe types beside the foreign implementation: a party's steps with its state, packets,
+//! shares, rebuilding.
 
 use cipangohu::{
     check_path, entries, hash, lay_out, read_packet, rebuild, shares, Cause, Outcome, Party,
