@@ -129,6 +129,18 @@ fn every_lie_at_once() {
     }
 }
 
+#[test]
+fn one_seed_gives_one_sitting() {
+    let words = format!(
+        "--parties 7 --faults 3 --book 4142 --own-book 5=43 --seed 11 {LIMIT} \
+         --lie 1=noise --lie 2=split --lie 6=other-book"
+    );
+    let first = host(&words).lines;
+    for _ in 0..4 {
+        assert_eq!(host(&words).lines, first);
+    }
+}
+
 /// The figures that document 01 gives.
 #[test]
 fn worked_sittings() {

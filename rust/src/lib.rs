@@ -3,6 +3,22 @@
 //!
 //! A call is accepted, or turned away with a [`Cause`] and nothing changed; none panics. What the
 //! host owes is told in docs/HOSTING.md.
+//!
+//! ```
+//! use cipangohu::{lay_out, Outcome, Party, MAX_OUTBOX};
+//!
+//! # fn main() -> Result<(), cipangohu::Cause> {
+//! // A box alone: the agreements give back what it puts in, and nobody sends it anything.
+//! let (mut party, root) = Party::open(1, 0, 1, b"AB")?;
+//! let happy = party.agree_root(&root)?;
+//! let mut out = [0; MAX_OUTBOX];
+//! party.agree_bit(happy.into(), &mut out)?;
+//! let inbox = lay_out(&[b""]);
+//! party.take_shares(&inbox, &mut out)?;
+//! assert_eq!(party.take_relays(&inbox)?, Outcome::Message(b"AB".to_vec()));
+//! # Ok(())
+//! # }
+//! ```
 
 mod cause;
 mod entries;

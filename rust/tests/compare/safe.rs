@@ -3,7 +3,7 @@
 
 use cipangohu::{
     check_path, entries, hash, lay_out, read_packet, rebuild, shares, Cause, Outcome, Party,
-    MAX_OUTBOX, MAX_PACKET,
+    MAX_OUTBOX, MAX_PACKET, STATE,
 };
 use foreign::coder::{self, frame_of, shares_of};
 use foreign::packet::Reading;
@@ -11,9 +11,10 @@ use foreign::party::{Refusal, State};
 use foreign::random::Random;
 use foreign::{inbox, packet, sha256};
 
-use crate::made::{group, message, Play};
-use crate::reference::encoded;
-use crate::times;
+use crate::call::{Call, Lent};
+use crate::made::{group, message, spoil, Play};
+use crate::reference::{self, encoded};
+use crate::{some_step, times};
 
 /// An answer of the foreign implementation in the library's words.
 fn told<T>(answer: Result<T, Refusal>) -> Result<T, Cause> {
@@ -69,6 +70,42 @@ fn parties() {
     }
     println!("parties: {books} ended with a message, {nothing} with nothing or refused");
     assert!(books >= 100 && nothing >= 100);
+}
+
+/// The cause that a step of a party has on any state, which must be the foreign one's.
+fn judged(call: &Call, party: &mut Party) -> Option<Cause> {
+    let mut out = vec![0; MAX_OUTBOX];
+    match call {
+        Call::AgreeRoot(root) => party.agree_root(root).err(),
+        Call::AgreeBit(bit) => party.agree_bit(*bit, &mut out).err(),
+        Call::TakeShares(inbox) => party.take_shares(inbox, &mut out).err(),
+        Call::TakeRelays(inbox) => party.take_relays(inbox).err(),
+        other => panic!("{other:?} is no step"),
+    }
+}
+
+#[test]
+fn any_state_is_judged() {
+    let mut random = Random::new(10);
+    let mut accepted = 0;
+    for _ in 0..times(3_000) {
+        let play = Play::new(&mut random);
+        let (n, t, own) = play.group;
+        let (party, _) = Party::open(n, t, own, &play.message).expect("a lawful opening");
+        let mut state = party.state().to_vec();
+        (0..3).for_each(|_| spoil(&mut state, &play, &mut random));
+        state.resize(STATE, 0);
+        let call = some_step(&play, state[3], &mut random);
+        let mut party = Party::from_state(state.clone().try_into().expect("a whole state"));
+        let out = vec![0; MAX_OUTBOX];
+        let mut lent = Lent { state, out };
+        let expected = reference::answer(&call, &mut lent).err();
+        assert_eq!(judged(&call, &mut party), expected, "{call:?}");
+        assert_eq!(party.state()[..], lent.state);
+        accepted += usize::from(expected.is_none());
+    }
+    println!("any state: {accepted} steps accepted");
+    assert!(accepted >= 100);
 }
 
 /// Reads a packet on both sides and checks its path on the way.
