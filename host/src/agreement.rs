@@ -16,7 +16,7 @@ use crate::wire::{self, Hello, Token, ROUNDS};
 pub struct Terms {
     pub parties: usize,
     pub faults: usize,
-    /// How long the last good box may speak after the first one.
+    /// How much later than another a good box may speak.
     pub limit: Duration,
     /// By number from 1.
     pub tokens: Vec<Token>,
@@ -65,9 +65,9 @@ fn lawful(round: usize, value: &[u8]) -> bool {
     }
 }
 
-/// The value of n − t boxes, as soon as there is one. More good boxes than bad have it, so that it
-/// is the good ones' common value if they have one. Where all have spoken or the time is up, and no
-/// such value came, the lowest-numbered box's is as good as any.
+/// The value of n − t boxes, as soon as there is one. They are more than t, so that a good box is
+/// among them, and it is the good ones' common value if they have one. Where all have spoken or the
+/// time is up, and no such value came, the lowest-numbered box's is as good as any.
 fn settle(
     values: &BTreeMap<usize, Vec<u8>>,
     parties: usize,
