@@ -48,8 +48,38 @@ impl Call {
     }
 }
 
+/// A copy of lent bytes between two margins, which no call may touch.
+struct Margins(Vec<u8>);
+
+const MARGIN: [u8; 64] = [0xC3; 64];
+
+impl Margins {
+    fn around(bytes: &[u8]) -> Margins {
+        Margins([&MARGIN, bytes, &MARGIN].concat())
+    }
+
+    fn within(&mut self) -> &mut [u8] {
+        let end = self.0.len() - MARGIN.len();
+        &mut self.0[MARGIN.len()..end]
+    }
+
+    /// The bytes, if the margins are as they were.
+    fn checked(mut self) -> Vec<u8> {
+        assert!(self.0.starts_with(&MARGIN) && self.0.ends_with(&MARGIN));
+        self.within().to_vec()
+    }
+}
+
+/// The library's answer, with its buffers checked for bytes written beside them.
 fn library(call: &Call, lent: &mut Lent) -> Answer {
-    let Lent { state, out } = lent;
+    let (mut state, mut out) = (Margins::around(&lent.state), Margins::around(&lent.out));
+    let answer = answered(call, state.within(), out.within());
+    lent.state = state.checked();
+    lent.out = out.checked();
+    answer
+}
+
+fn answered(call: &Call, state: &mut [u8], out: &mut [u8]) -> Answer {
     match call {
         Call::Open(group, message) => calls::open(*group, message, state, out),
         Call::AgreeRoot(root) => calls::agree_root(state, root),
