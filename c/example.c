@@ -34,11 +34,11 @@ static const uint8_t *entry(const uint8_t *outbox, size_t j) {
 }
 
 int main(void) {
-    const char *books[N] = {"AB", "AB", "other"};
+    const char *messages[N] = {"AB", "AB", "other"};
     static uint8_t state[N][CIPANGOHU_STATE], root[N][32], out[N][ROOM], inbox[N * ROOM], relays[N * ROOM];
     size_t end = 0;
     for (size_t i = 0; i < N; i++)
-        accepted(cipangohu_open(N, T, i + 1, (const uint8_t *)books[i], strlen(books[i]), state[i], CIPANGOHU_STATE, root[i], 32));
+        accepted(cipangohu_open(N, T, i + 1, (const uint8_t *)messages[i], strlen(messages[i]), state[i], CIPANGOHU_STATE, root[i], 32));
     for (size_t i = 0; i < N; i++) {
         uint32_t happy = accepted(cipangohu_agree_root(state[i], CIPANGOHU_STATE, root[0], 32));
         printf("%zu %s\n", i + 1, happy ? "happy" : "unhappy");

@@ -49,8 +49,8 @@ struct Agreed {
 
 /// Steps 1 to 3.
 fn agree(options: &Options, own: usize, agreement: &mut Agreement) -> Result<Agreed, Failure> {
-    let book = options.book_of(own);
-    let (mut party, root) = Party::open(options.parties, options.faults, own, book)?;
+    let message = options.message_of(own);
+    let (mut party, root) = Party::open(options.parties, options.faults, own, message)?;
     let happy = party.agree_root(&agreement.agree(0, &root)?)?;
     let agreed = agreement.agree(1, &[happy.into()])?;
     let clock = Clock::start(options.limit);

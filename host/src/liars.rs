@@ -22,7 +22,7 @@ pub enum Lie {
     /// Its good share to some, with a bit turned to others.
     Split,
     /// Insists on another book, whatever was agreed.
-    OtherBook,
+    OtherMessage,
     /// Sends on, as its own, what it heard from somebody else in the same exchange.
     Replay,
     /// Speaks first, and silence, under every other number.
@@ -33,7 +33,7 @@ const NAMES: [(&str, Lie); 6] = [
     ("silent", Lie::Silent),
     ("noise", Lie::Noise),
     ("split", Lie::Split),
-    ("other-book", Lie::OtherBook),
+    ("other-book", Lie::OtherMessage),
     ("replay", Lie::Replay),
     ("forge", Lie::Forge),
 ];
@@ -66,8 +66,8 @@ struct Honest {
 }
 
 impl Honest {
-    fn of(parties: usize, faults: usize, own: usize, book: &[u8]) -> Result<Honest, Cause> {
-        let (mut party, root) = Party::open(parties, faults, own, book)?;
+    fn of(parties: usize, faults: usize, own: usize, message: &[u8]) -> Result<Honest, Cause> {
+        let (mut party, root) = Party::open(parties, faults, own, message)?;
         party.agree_root(&root)?;
         let mut out = vec![0; MAX_OUTBOX];
         let length = party.agree_bit(1, &mut out)?;
@@ -100,13 +100,13 @@ pub struct Liar {
 
 impl Liar {
     pub fn new(lie: Lie, own: usize, options: &Options) -> Result<Liar, Cause> {
-        let book = options.book_of(own);
-        let other = hash(book)?;
-        let book = match lie {
-            Lie::OtherBook => &other[..],
-            _ => book,
+        let message = options.message_of(own);
+        let other = hash(message)?;
+        let message = match lie {
+            Lie::OtherMessage => &other[..],
+            _ => message,
         };
-        let honest = Honest::of(options.parties, options.faults, own, book)?;
+        let honest = Honest::of(options.parties, options.faults, own, message)?;
         Ok(Liar {
             lie,
             own,
@@ -167,7 +167,7 @@ impl Liar {
             Lie::Silent | Lie::Forge => Vec::new(),
             Lie::Noise => noise(&chance),
             Lie::Split if chance[0].is_multiple_of(2) => turned(honest),
-            Lie::Split | Lie::OtherBook => honest.to_vec(),
+            Lie::Split | Lie::OtherMessage => honest.to_vec(),
             Lie::Replay => heard
                 .iter()
                 .rev()
@@ -249,7 +249,7 @@ mod tests {
     #[test]
     fn the_others_say_what_they_are_named_for() {
         let honest = Honest::of(5, 2, 5, b"AB").unwrap();
-        let other = liar(Lie::OtherBook, 0);
+        let other = liar(Lie::OtherMessage, 0);
         assert_ne!(other.values()[0], honest.root);
         assert_ne!(other.packet(0, 0, &[]), honest.packets[0]);
         let heard = [vec![], vec![8], vec![9], vec![]];

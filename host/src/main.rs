@@ -9,9 +9,9 @@ mod hex;
 mod liars;
 mod links;
 mod options;
+mod process;
 mod roster;
-mod seat;
-mod sitting;
+mod session;
 mod wire;
 
 use std::process::ExitCode;
@@ -27,10 +27,10 @@ const DIFFER: u8 = 1;
 fn run(arguments: &[String]) -> Result<ExitCode, String> {
     let options = Options::parse(arguments)?;
     if let Some(own) = options.own {
-        seat::take(&options, own)?;
+        process::run(&options, own)?;
         return Ok(ExitCode::SUCCESS);
     }
-    Ok(match sitting::run(&options, arguments)? {
+    Ok(match session::run(&options, arguments)? {
         true => ExitCode::SUCCESS,
         false => ExitCode::from(DIFFER),
     })

@@ -33,8 +33,8 @@ pub enum Duty {
 pub struct Options {
     pub parties: usize,
     pub faults: usize,
-    book: Vec<u8>,
-    own_books: BTreeMap<usize, Vec<u8>>,
+    message: Vec<u8>,
+    own_messages: BTreeMap<usize, Vec<u8>>,
     pub lies: BTreeMap<usize, Lie>,
     pub limit: Duration,
     pub seed: u64,
@@ -63,7 +63,7 @@ fn number<N: FromStr>(text: &str) -> Result<N, String> {
 }
 
 /// Hexadecimal digits, else a file.
-fn book(text: &str) -> Result<Vec<u8>, String> {
+fn message(text: &str) -> Result<Vec<u8>, String> {
     match hex::decode(text) {
         Some(bytes) => Ok(bytes),
         None => fs::read(text).map_err(|error| format!("{text}: {error}")),
@@ -83,8 +83,8 @@ impl Options {
         let mut options = Options {
             parties: 0,
             faults: 0,
-            book: Vec::new(),
-            own_books: BTreeMap::new(),
+            message: Vec::new(),
+            own_messages: BTreeMap::new(),
             lies: BTreeMap::new(),
             limit: Duration::from_millis(500),
             seed: 0,
@@ -112,10 +112,10 @@ impl Options {
         match name {
             "--parties" => self.parties = number(value)?,
             "--faults" => self.faults = number(value)?,
-            "--book" => self.book = book(value)?,
+            "--book" => self.message = message(value)?,
             "--own-book" => {
                 let (own, text) = of_box(value)?;
-                self.own_books.insert(own, book(text)?);
+                self.own_messages.insert(own, message(text)?);
             }
             "--lie" => {
                 let (own, lie) = of_box(value)?;
@@ -133,7 +133,7 @@ impl Options {
     /// Whatever is said of a box must be said of one of the sitting's.
     fn check_numbers(&self) -> Result<(), String> {
         let named = self
-            .own_books
+            .own_messages
             .keys()
             .chain(self.lies.keys())
             .chain(&self.own);
@@ -144,8 +144,8 @@ impl Options {
     }
 
     /// The book that a box opens with.
-    pub fn book_of(&self, own: usize) -> &[u8] {
-        self.own_books.get(&own).unwrap_or(&self.book)
+    pub fn message_of(&self, own: usize) -> &[u8] {
+        self.own_messages.get(&own).unwrap_or(&self.message)
     }
 
     pub fn good(&self) -> impl DoubleEndedIterator<Item = usize> + '_ {
@@ -174,7 +174,7 @@ mod tests {
         let options = parsed(line).unwrap();
         assert_eq!((options.parties, options.faults, options.seed), (5, 2, 9));
         assert_eq!(
-            (options.book_of(1), options.book_of(3)),
+            (options.message_of(1), options.message_of(3)),
             (&b"AB"[..], &b"C"[..])
         );
         assert_eq!(options.good().collect::<Vec<_>>(), [1, 2, 3]);

@@ -12,35 +12,35 @@ use cipangohu::Party;
 use crate::agreement::{serve, Terms};
 use crate::links::PATIENCE;
 use crate::options::{Duty, Options};
+use crate::process::{GO, READY};
 use crate::roster::{tokens, Roster};
-use crate::seat::{GO, READY};
 
 /// A box's process; it is ended with this.
-struct Seat {
+struct Process {
     own: usize,
-    process: Child,
+    child: Child,
     input: ChildStdin,
     lines: Receiver<String>,
 }
 
-impl Drop for Seat {
+impl Drop for Process {
     fn drop(&mut self) {
-        self.process.kill().ok();
-        self.process.wait().ok();
+        self.child.kill().ok();
+        self.child.wait().ok();
     }
 }
 
-impl Seat {
-    fn start(own: usize, arguments: &[String]) -> std::io::Result<Seat> {
-        let mut process = Command::new(std::env::current_exe()?)
+impl Process {
+    fn start(own: usize, arguments: &[String]) -> std::io::Result<Process> {
+        let mut child = Command::new(std::env::current_exe()?)
             .args(arguments)
             .args(["--as", &own.to_string()])
             .stdin(Stdio::piped())
             .stdout(Stdio::piped())
             .spawn()?;
         let broken = || std::io::Error::from(std::io::ErrorKind::BrokenPipe);
-        let input = process.stdin.take().ok_or_else(broken)?;
-        let output = process.stdout.take().ok_or_else(broken)?;
+        let input = child.stdin.take().ok_or_else(broken)?;
+        let output = child.stdout.take().ok_or_else(broken)?;
         let (told, lines) = channel();
         thread::spawn(move || {
             BufReader::new(output)
@@ -48,9 +48,9 @@ impl Seat {
                 .map_while(Result::ok)
                 .try_for_each(|line| told.send(line))
         });
-        Ok(Seat {
+        Ok(Process {
             own,
-            process,
+            child,
             input,
             lines,
         })
@@ -76,13 +76,13 @@ struct Ended {
 }
 
 /// A box that tells nothing that can be read has an error.
-fn ended(seat: &Seat, patience: Duration) -> Ended {
-    let line = seat
+fn ended(process: &Process, patience: Duration) -> Ended {
+    let line = process
         .line(patience)
         .unwrap_or_else(|message| format!("0 error: {message}"));
     let (sent, result) = line.split_once(' ').unwrap_or(("0", "error: no report"));
     Ended {
-        own: seat.own,
+        own: process.own,
         sent: sent.parse().unwrap_or(0),
         result: result.to_string(),
     }
@@ -91,15 +91,20 @@ fn ended(seat: &Seat, patience: Duration) -> Ended {
 /// The limits are the box's: it says whether it would open with this number and book.
 fn check_openings(options: &Options) -> Result<(), String> {
     for own in 1..=options.parties.max(1) {
-        Party::open(options.parties, options.faults, own, options.book_of(own))
-            .map_err(|cause| format!("box {own}: {cause}"))?;
+        Party::open(
+            options.parties,
+            options.faults,
+            own,
+            options.message_of(own),
+        )
+        .map_err(|cause| format!("box {own}: {cause}"))?;
     }
     Ok(())
 }
 
 /// Starts all boxes and the agreement, and tells each where the others are. All are ready when this
 /// returns, and none has gone ahead.
-fn gather(options: &Options, arguments: &[String]) -> Result<Vec<Seat>, String> {
+fn gather(options: &Options, arguments: &[String]) -> Result<Vec<Process>, String> {
     let text = |error: std::io::Error| error.to_string();
     let n = options.parties;
     let tokens = tokens(n * n + n).map_err(text)?;
@@ -111,43 +116,43 @@ fn gather(options: &Options, arguments: &[String]) -> Result<Vec<Seat>, String> 
         echo: options.breaks(Duty::Agreement),
     })
     .map_err(text)?;
-    let seats: std::io::Result<Vec<Seat>> =
-        (1..=n).map(|own| Seat::start(own, arguments)).collect();
-    let mut seats = seats.map_err(text)?;
+    let processes: std::io::Result<Vec<Process>> =
+        (1..=n).map(|own| Process::start(own, arguments)).collect();
+    let mut processes = processes.map_err(text)?;
     let mut ports = Vec::new();
-    for seat in &seats {
-        let port = seat.line(PATIENCE)?;
+    for process in &processes {
+        let port = process.line(PATIENCE)?;
         ports.push(
             port.parse()
-                .map_err(|_| format!("box {} has no port", seat.own))?,
+                .map_err(|_| format!("box {} has no port", process.own))?,
         );
     }
-    for (seat, roster) in seats
+    for (process, roster) in processes
         .iter_mut()
         .zip(Roster::all(&ports, agreement, &tokens))
     {
-        seat.tell(&roster.line())?;
+        process.tell(&roster.line())?;
     }
-    for seat in &seats {
-        if seat.line(PATIENCE)? != READY {
-            return Err(format!("box {} is not ready", seat.own));
+    for process in &processes {
+        if process.line(PATIENCE)? != READY {
+            return Err(format!("box {} is not ready", process.own));
         }
     }
-    Ok(seats)
+    Ok(processes)
 }
 
 /// Runs a sitting and prints it; gives whether all good boxes ended, and ended alike.
 pub fn run(options: &Options, arguments: &[String]) -> Result<bool, String> {
     check_openings(options)?;
-    let mut seats = gather(options, arguments)?;
-    for seat in &mut seats {
-        seat.tell(GO)?;
+    let mut processes = gather(options, arguments)?;
+    for process in &mut processes {
+        process.tell(GO)?;
     }
     let patience = options.limit * 8 + PATIENCE;
-    let good = seats
+    let good = processes
         .iter()
-        .filter(|seat| !options.lies.contains_key(&seat.own));
-    let ended: Vec<Ended> = good.map(|seat| ended(seat, patience)).collect();
+        .filter(|process| !options.lies.contains_key(&process.own));
+    let ended: Vec<Ended> = good.map(|process| ended(process, patience)).collect();
     Ok(print(options, &ended))
 }
 

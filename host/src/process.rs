@@ -42,8 +42,8 @@ fn reported(ended: Result<Report, Failure>) -> String {
     match ended {
         Ok(Report { outcome, sent }) => match outcome {
             Outcome::Nothing => format!("{sent} -"),
-            Outcome::Message(book) if book.is_empty() => format!("{sent} ="),
-            Outcome::Message(book) => format!("{sent} = {}", hex::encode(&book)),
+            Outcome::Message(message) if message.is_empty() => format!("{sent} ="),
+            Outcome::Message(message) => format!("{sent} = {}", hex::encode(&message)),
         },
         Err(Failure::Refused(cause)) => format!("0 error: {cause}"),
         Err(Failure::Link(error)) => format!("0 error: {error}"),
@@ -72,7 +72,7 @@ fn open_links(options: &Options, own: usize, roster: &Roster, listener: TcpListe
 }
 
 /// Takes the box's part in the sitting.
-pub fn take(options: &Options, own: usize) -> Result<(), String> {
+pub fn run(options: &Options, own: usize) -> Result<(), String> {
     let text = |error: std::io::Error| error.to_string();
     let (listener, port) = listen().map_err(text)?;
     tell(&port.to_string())?;
