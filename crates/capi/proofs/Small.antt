@@ -1,0 +1,200 @@
+-- Every value fits the lower half of an answer: what a step writes, a message, the shares of one, and the fields of a packet. By the limits.
+-- Assumes nothing.
+use mathlib.Core.Path.{_≡_, refl, sym, subst, _∙_}
+use mathlib.Core.Bool.{Bool, true, false, cond, not}
+use mathlib.Core.List.{List}
+use Prim.Native.Nat.{ℕ, _-_, _*_, _^_, _<_, _≤_}
+use native.Mathlib.Nat.{mul-le-mul-right, mul-le-mul-left}
+use native.Mathlib.Decide.{ℕ-discrete}
+use native.Mathlib.Omega.{arith}
+use borrow.Author.Tests.{eq-eqb, ne-eqb, ltb-false}
+use lib.Dec.{ltb, eqb}
+use lib.ListN.{length, length-take}
+use Rattle.limits.specs.Limits.{maxParties, maxMessage, maxShare, groupCause}
+use Rattle.limits.proofs.Group.{group-of}
+use Rattle.buffer.specs.Splice.{spliced}
+use Rattle.buffer.specs.Entries.{fills, bodies}
+use Rattle.buffer.specs.Given.{gave, written}
+use Rattle.buffer.specs.declared.Written.the-variants as given
+use Rattle.erasure.specs.Coding.{shareLength, shares, encodeOf}
+use Rattle.erasure.specs.Rebuild.{Recovered, cause, message, present, recovered, answered, rebuildOf}
+use Rattle.erasure.proofs.Frame.{share-most}
+use Rattle.party.specs.State.{Result, nothing, settled, bytesOf, messageIn, atBit, atFirst, atSecond, atEnd, happy}
+use Rattle.party.specs.Steps.{stateCause, bitIn, gives, writes, bitCause, packetFor, outboxOf, agreeBitOf, inboxCause, relayOf, heldOf}
+use Rattle.party.specs.Steps.{Taken, missing, found, takenBy, packetTaken, takeSharesOf, resultOf, givesEnd, ending, takeRelaysOf}
+use Rattle.party.specs.Private.{Fit}
+use Rattle.party.specs.declared.Party.{Party}
+use Rattle.party.specs.declared.Vote.{Vote}
+use Rattle.party.specs.declared.Vote.the-variants as vote
+use Rattle.party.specs.declared.Settled.the-variants as answer
+use Rattle.party.proofs.Causes.{state-fit, state-sound, bit-state, inbox-sound}
+use Rattle.party.proofs.Kept.{take-padded}
+use Rattle.party.proofs.Progress.{result-short}
+use Rattle.party.proofs.Shared.{length-shares}
+use Rattle.party.proofs.Taking.{Short, short-recovered}
+use Rattle.party.proofs.Tree.{Coded}
+use Rattle.session.specs.Session.{maxPacket, maxOutbox}
+use Rattle.session.proofs.Rooms.{outbox-fits, relay-fits}
+use Rattle.capi.specs.Calls.{endValue}
+
+-- what is written, or would be
+writes-value : (x next : Party) (bs out : List ℕ) → writes x next bs out .value ≡ length bs
+writes-value x next bs out = go (ltb (length out) (length bs))
+  where
+    go : (b : Bool)
+        → cond b (gives x (given.Short (length bs)) out) (gives next (given.Done (length bs)) (spliced out 0 bs)) .value ≡ length bs
+    go true = refl
+    go false = refl
+
+written-value : (bs out : List ℕ) → written bs out .value ≡ length bs
+unfolding written
+written-value bs out = go (ltb (length out) (length bs))
+  where
+    go : (b : Bool)
+        → cond b (gave (given.Short (length bs)) out) (gave (given.Done (length bs)) (spliced out 0 bs)) .value ≡ length bs
+    go true = refl
+    go false = refl
+
+ending-value : (x : Party) (r : Result) (out : List ℕ) → length (bytesOf r) ≤ maxMessage → endValue (ending x r out .answer) < 2 ^ 32
+ending-value x nothing out h = omega arith
+ending-value x (settled m) out h = go (ltb (length out) (length m))
+  where
+    go : (b : Bool) → endValue (cond b (givesEnd x (answer.Short (length m)) out)
+        (givesEnd (atEnd (x .n) (x .t) (x .own) (settled m)) (answer.Message (length m)) (spliced out 0 m)) .answer) < 2 ^ 32
+    go true = omega (arith, h)
+    go false = omega (arith, h)
+
+-- what a party writes hangs on its message and not on how it is kept
+coded : (x : Party) → Fit x → Coded (x .n) (x .t) (messageIn x)
+coded x f =
+    record {
+      low = f .low;
+      high = f .high;
+      faults = omega (arith, f .faults);
+      short = omega (arith, length-take (x .len) (x .message), f .short);
+    }
+
+module _ (H : List ℕ → List ℕ) (x : Party) where
+  abbrev Bit : Party
+  Bit = atBit (x .n) (x .t) (x .own) (messageIn x) (x .root)
+
+  abbrev First : Party
+  First = atFirst (x .n) (x .t) (x .own) (messageIn x) (x .root)
+
+  bit-same : (bit : ℕ) → outboxOf H Bit bit ≡ outboxOf H x bit
+  unfolding outboxOf packetFor happy atBit
+  bit-same bit = rw (take-padded maxMessage (messageIn x))
+
+  taken-same : (t : Taken) → packetTaken First t ≡ packetTaken x t
+  unfolding atFirst
+  taken-same missing = refl
+  taken-same (found y p) = refl
+
+  first-same : (inbox : List ℕ) → relayOf H First inbox ≡ relayOf H x inbox
+  unfolding relayOf packetFor happy atFirst
+  first-same inbox = rw (take-padded maxMessage (messageIn x), taken-same (takenBy H x inbox))
+
+module _ (H : List ℕ → List ℕ) (wide : (s : List ℕ) → length (H s) ≡ 32) (x : Party) where
+  -- step 3
+  outbox-small : Fit x → (bit : ℕ) → length (outboxOf H x bit) ≤ maxOutbox
+  outbox-small f bit =
+      subst (λ (l : List ℕ). length l ≤ maxOutbox) (bit-same H x bit)
+      (outbox-fits H wide (x .n) (x .t) (x .own) (messageIn x) (x .root) (coded x f) bit)
+
+  bit-fit : (bit : ℕ) → bitCause x bit ≡ 0 → Fit x
+  bit-fit bit e = elim (ℕ-discrete (stateCause 3 x) 0) [
+    | yes q ↦ state-fit 3 x q
+    | no q ↦ absurd (q (sym (bit-state x bit q) ∙ e))
+  ]
+
+  pub bit-small : (bit : ℕ) (out : List ℕ) → agreeBitOf H x bit out .value < 2 ^ 32
+  unfolding agreeBitOf
+  bit-small bit out = elim (ℕ-discrete (bitCause x bit) 0) [
+    | yes e ↦ let next : Party = cond (eqb bit 0) (atEnd (x .n) (x .t) (x .own) nothing)
+        (atFirst (x .n) (x .t) (x .own) (messageIn x) (x .root)) in
+        rw (eq-eqb (bitCause x bit) 0 e)
+        (omega (arith, writes-value x next (outboxOf H x bit) out, outbox-small (bit-fit bit e) bit))
+    | no e ↦ rw (ne-eqb (bitCause x bit) 0 e) (omega arith)
+  ]
+
+  -- step 4
+  relay-small : Fit x → (inbox : List ℕ) → length (relayOf H x inbox) ≤ maxPacket
+  relay-small f inbox =
+      subst (λ (l : List ℕ). length l ≤ maxPacket) (first-same H x inbox)
+      (relay-fits H wide (x .n) (x .t) (x .own) (messageIn x) (x .root) (coded x f) (f .first) (f .last) inbox)
+
+  pub shares-small : (inbox out : List ℕ) → takeSharesOf H x inbox out .value < 2 ^ 32
+  unfolding takeSharesOf
+  shares-small inbox out = elim (ℕ-discrete (inboxCause 4 x inbox) 0) [
+    | yes e ↦ let next : Party = atSecond (x .n) (x .t) (x .own) (messageIn x) (x .root) (heldOf H x inbox) in
+        rw (eq-eqb (inboxCause 4 x inbox) 0 e)
+        (omega (
+          arith,
+          writes-value x next (relayOf H x inbox) out,
+          relay-small (state-fit 4 x (inbox-sound 4 x inbox e .0)) inbox,
+        ))
+    | no e ↦ rw (ne-eqb (inboxCause 4 x inbox) 0 e) (omega arith)
+  ]
+
+  -- step 5
+  pub relays-small : (inbox out : List ℕ) → endValue (takeRelaysOf H x inbox out .answer) < 2 ^ 32
+  unfolding takeRelaysOf
+  relays-small inbox out = elim (ℕ-discrete (inboxCause 5 x inbox) 0) [
+    | yes e ↦ rw (eq-eqb (inboxCause 5 x inbox) 0 e)
+        (ending-value x (resultOf H x inbox) out
+        (result-short H x (state-sound 5 x (inbox-sound 5 x inbox e .0) .0) inbox))
+    | no e ↦ rw (ne-eqb (inboxCause 5 x inbox) 0 e) (omega arith)
+  ]
+
+-- step 2: a bit
+pub vote-small : (r : Vote) → bitIn r < 2 ^ 32
+vote-small (vote.Refused k) = omega arith
+vote-small (vote.Happy true) = omega arith
+vote-small (vote.Happy false) = omega arith
+
+-- the shares of a message
+pub encode-small : (n t : ℕ) (m out : List ℕ) → encodeOf n t m out .value < 2 ^ 32
+unfolding encodeOf
+encode-small n t m out = elim (ℕ-discrete (groupCause n t) 0) [
+  | yes e ↦ rw (eq-eqb (groupCause n t) 0 e) (go e (ltb maxMessage (length m)) refl)
+  | no e ↦ rw (ne-eqb (groupCause n t) 0 e) (omega arith)
+]
+  where
+    fits : groupCause n t ≡ 0 → length m ≤ maxMessage → length (shares n (n - t) m) ≤ maxParties * maxShare
+    fits e h =
+        let g = group-of n t e in
+        let b = share-most (n - t) (length m) (omega (arith, g)) in
+        omega (
+          arith,
+          length-shares n (n - t) m,
+          mul-le-mul-right (shareLength (n - t) (length m)) (g .high),
+          mul-le-mul-left maxParties b,
+          h,
+        )
+
+    go : groupCause n t ≡ 0 → (b : Bool) → ltb maxMessage (length m) ≡ b
+        → cond b (gave (given.Refused 4) out) (written (shares n (n - t) m) out) .value < 2 ^ 32
+    go e true q = omega arith
+    go e false q =
+        omega (arith, written-value (shares n (n - t) m) out, fits e (ltb-false maxMessage (length m) q))
+
+-- a message rebuilt
+answered-small : (r : Recovered) (out : List ℕ) → Short r → answered r out .value < 2 ^ 32
+answered-small (cause k) out h = omega arith
+answered-small (message m) out h = omega (arith, written-value m out, h)
+
+pub rebuild-small : (n t : ℕ) (es out : List ℕ) → rebuildOf n t es out .value < 2 ^ 32
+unfolding rebuildOf
+rebuild-small n t es out = elim (ℕ-discrete (groupCause n t) 0) [
+  | yes e ↦ rw (eq-eqb (groupCause n t) 0 e) (go (fills n es))
+  | no e ↦ rw (ne-eqb (groupCause n t) 0 e) (omega arith)
+]
+  where
+    go : (b : Bool) → cond (not b) (gave (given.Refused 8) out) (answered (recovered (n - t) (present 1 (bodies n es))) out) .value < 2 ^ 32
+    go false = omega arith
+    go true =
+        answered-small (recovered (n - t) (present 1 (bodies n es))) out (short-recovered (n - t) (present 1 (bodies n es)))
+
+-- a digest
+pub digest-small : (d out : List ℕ) → length d ≡ 32 → written d out .value < 2 ^ 32
+digest-small d out e = omega (arith, written-value d out, e)
