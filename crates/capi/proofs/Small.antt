@@ -3,7 +3,7 @@
 use mathlib.Core.Path.{_≡_, refl, sym, subst, _∙_}
 use mathlib.Core.Bool.{Bool, true, false, cond, not}
 use mathlib.Core.List.{List}
-use Prim.Native.Nat.{ℕ, _-_, _*_, _^_, _<_, _≤_}
+use Prim.Native.Nat.{ℕ, _-_, _*_, _/_, _%_, _^_, _<_, _≤_}
 use native.Mathlib.Nat.{mul-le-mul-right, mul-le-mul-left}
 use native.Mathlib.Decide.{ℕ-discrete}
 use native.Mathlib.Omega.{arith}
@@ -22,6 +22,7 @@ use Rattle.erasure.proofs.Frame.{share-most}
 use Rattle.party.specs.State.{Result, nothing, settled, bytesOf, messageIn, atBit, atFirst, atSecond, atEnd, happy}
 use Rattle.party.specs.Steps.{stateCause, bitIn, gives, writes, bitCause, packetFor, outboxOf, agreeBitOf, inboxCause, relayOf, heldOf}
 use Rattle.party.specs.Steps.{Taken, missing, found, takenBy, packetTaken, takeSharesOf, resultOf, givesEnd, ending, takeRelaysOf}
+use Rattle.party.specs.Rooms.{maxPacket, maxOutbox}
 use Rattle.party.specs.Private.{Fit}
 use Rattle.party.specs.declared.Party.{Party}
 use Rattle.party.specs.declared.Vote.{Vote}
@@ -30,12 +31,11 @@ use Rattle.party.specs.declared.Settled.the-variants as answer
 use Rattle.party.proofs.Causes.{state-fit, state-sound, bit-state, inbox-sound}
 use Rattle.party.proofs.Kept.{take-padded}
 use Rattle.party.proofs.Progress.{result-short}
+use Rattle.party.proofs.Rooms.{outbox-fits, relay-fits}
 use Rattle.party.proofs.Shared.{length-shares}
 use Rattle.party.proofs.Taking.{Short, short-recovered}
 use Rattle.party.proofs.Tree.{Coded}
-use Rattle.session.specs.Session.{maxPacket, maxOutbox}
-use Rattle.session.proofs.Rooms.{outbox-fits, relay-fits}
-use Rattle.capi.specs.Calls.{endValue}
+use Rattle.capi.specs.Calls.{packed, endValue}
 
 -- what is written, or would be
 writes-value : (x next : Party) (bs out : List ℕ) → writes x next bs out .value ≡ length bs
@@ -198,3 +198,12 @@ rebuild-small n t es out = elim (ℕ-discrete (groupCause n t) 0) [
 -- a digest
 pub digest-small : (d out : List ℕ) → length d ≡ 32 → written d out .value < 2 ^ 32
 digest-small d out e = omega (arith, written-value d out, e)
+
+-- so both halves are there: what the header's two helpers give
+pub cause-back : (k v : ℕ) → v < 2 ^ 32 → packed k v / 2 ^ 32 ≡ k
+unfolding packed
+cause-back k v h = omega arith
+
+pub value-back : (k v : ℕ) → v < 2 ^ 32 → packed k v % 2 ^ 32 ≡ v
+unfolding packed
+value-back k v h = omega arith

@@ -1,6 +1,6 @@
-// What C and Rust hosts link: the steps of a party on a state of bytes that the host keeps, and the tools beside them. A `&[u8]` passes as a pointer and a
-// length. Every function answers one number, the cause in its upper 32 bits (0: accepted) and the value in its lower; a refused call leaves
-// every lent byte.
+// What C and Rust hosts link: the steps of a party on a state of bytes that the host keeps, and the tools beside them. A `&[u8]` passes as a
+// pointer and a length. Every function answers one number, the cause in its upper 32 bits (0: accepted) and the value in its lower; a
+// refused call leaves every lent byte.
 ghost use mathlib.Core.Path.{_≡_};
 ghost use mathlib.Core.Bool.{cond};
 ghost use lib.Dec.{eqb};
@@ -228,6 +228,7 @@ fn read_state(bytes: &[u8]) -> Party
     read_fields(bytes)
 }
 
+// A refused opening gives it.
 fn blank() -> Party
     ensures { λ r. ⌜ r ≡ blankState ⌝ }
 {
@@ -309,7 +310,7 @@ fn length_of(number: usize, len: usize) -> usize
     len
 }
 
-// The next state over the old one, unless the call was refused.
+// The next state over the old one, unless the call was refused: an accepted one had a state, so there is room.
 fn keep(cause: u8, x: Party, state: &mut [u8])
     requires { ⌜ (cause ≡ 0 → stateLength ≤ length (now state)) ⌝ }
     ensures { λ _. ⌜ now (state .exit) ≡ kept cause x (now (state .entry)) ⌝ }

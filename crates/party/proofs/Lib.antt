@@ -18,4 +18,5 @@ pub mod Cases
 pub mod Tree
 pub mod Lists
 pub mod Agreement
+pub mod Rooms
 pub mod Instances

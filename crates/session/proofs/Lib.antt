@@ -1,5 +1,4 @@
 pub mod Parties
-pub mod Rooms
 pub mod Played
 pub mod Rule
 pub mod ExchangeSlots

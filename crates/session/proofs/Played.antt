@@ -52,7 +52,7 @@ use Rattle.session.specs.Session.{maxPacket, maxOutbox, wroteIn, orNothi
 use Rattle.session.specs.Session.{sameRoots, sameBits, unlawful, sessionCause, step3, firstFrom, firstInbox, step4, secondFrom, secondInbox, step5}
 use Rattle.session.specs.Session.{endsWith, sentOf, sentFrom, callsOf, goodParty, goodParties}
 use Rattle.session.proofs.Parties.{named, party-in, apart, bad-count, sum-of}
-use Rattle.session.proofs.Rooms.{outbox-fits, relay-fits}
+use Rattle.party.proofs.Rooms.{outbox-fits, relay-fits}
 
 -- a plan without a cause: the plan itself has none, and nothing is against the rule
 no-cause : (k : ℕ) (b : Bool) → cond (not (eqb k 0)) k (cond b 14 0) ≡ 0 → (k ≡ 0) × (b ≡ false)

@@ -6,7 +6,7 @@ use mathlib.Core.Option.{Option, none, some}
 use Prim.Native.Nat.{ℕ, zero, suc, _+_, _-_, _*_}
 use lib.Dec.{ltb, eqb}
 use lib.ListN.{length, take, replicate}
-use Rattle.limits.specs.Limits.{maxParties, maxMessage, maxShare, maxPath}
+use Rattle.limits.specs.Limits.{maxMessage}
 use Rattle.buffer.specs.Splice.{tabulate}
 use Rattle.buffer.specs.Entries.{bodies}
 use Rattle.buffer.specs.Given.{Given, gave, written}
@@ -15,19 +15,13 @@ use Rattle.merkle.specs.Shares.{same}
 use Rattle.packet.specs.Inbox.{inboxOf}
 use Rattle.party.specs.State.{Result, nothing}
 use Rattle.party.specs.Steps.{openOf, Ballot, agreeRootOf, Stepped, agreeBitOf, takeSharesOf, Ending, takeRelaysOf}
+pub use Rattle.party.specs.Rooms.{maxPacket, maxOutbox}
 use Rattle.party.specs.Calls.{Call, agreeRoot, agreeBit, takeShares, takeRelays, entry, lengths}
 use Rattle.party.specs.Agreement.{Good}
 use Rattle.party.specs.declared.Opened.{Opened}
 use Rattle.plan.specs.Layout.{names, under, packetFrom, unnamed, lowest, nIn, tIn, hasRoot, hasBit, rootIn, bitIn, goodIn, booksIn, firstIn, secondIn}
 use Rattle.plan.specs.Plan.{planCause}
 use Rattle.report.specs.Output.{line, sentLine, refusedLine}
-
--- room for any packet, and for any outbox
-abbrev pub maxPacket : ℕ
-maxPacket = 4 + maxShare + 32 * maxPath
-
-abbrev pub maxOutbox : ℕ
-maxOutbox = maxParties * (2 + maxPacket)
 
 -- what a step that writes wrote; nothing where it was turned away, which no step of a plan without a cause is (`Played`)
 abbrev pub wroteIn : Stepped → List ℕ

@@ -1,4 +1,4 @@
--- The buffers of a rehearsal are long enough: no packet is over maxPacket, no outbox over maxOutbox. By the lengths of shares and paths.
+-- How long what a party writes can be: no packet is over maxPacket, no outbox over maxOutbox. By the lengths of shares and paths.
 -- Assumes nothing.
 use mathlib.Core.Path.{_≡_, refl, sym, subst}
 use mathlib.Core.Bool.{Bool, true, false, cond, _&&_}
@@ -19,12 +19,12 @@ use Rattle.packet.specs.Format.{packetOf, entryOf}
 use Rattle.packet.specs.Inbox.{inboxOf}
 use Rattle.packet.proofs.Parts.{entry-length, packet-length}
 use Rattle.packet.proofs.Reading.{fields-of, read-wide}
 use Rattle.party.specs.State.{atBit, atFirst, happy}
 use Rattle.party.specs.Steps.{packetFor, outboxOf, Taken, missing, found, takenBy, packetTaken, ownRelay, relayOf}
 use Rattle.party.proofs.Tree.{Coded, share-fits, pathTo, path-count, path-each}
 use Rattle.party.proofs.Agreement.{packet-bit, packet-first}
 use Rattle.party.proofs.Checks.{took, passing}
-use Rattle.session.specs.Session.{maxPacket, maxOutbox}
+use Rattle.party.specs.Rooms.{maxPacket, maxOutbox}
 
 -- entries of at most K bytes each
 inbox-below : (K : ℕ) (ps : List (List ℕ)) → ((k : ℕ) → k < length ps → length (getD ps k []) ≤ K) → length (inboxOf ps) ≤ length ps * (2 + K)
