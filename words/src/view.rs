@@ -2,8 +2,6 @@
 //! and its worth to the receiver, and what each good box did. All of it is worked out by the
 //! foreign implementation; here it is put into words.
 
-use foreign::coder::{rebuild, Answer, LONGEST_MESSAGE};
-use foreign::inbox::lay_out;
 use foreign::liars::Way;
 use foreign::packet::{classify, read, Reading, Standing};
 use foreign::rehearsal::{play, Fault, Session, Takings};
@@ -188,20 +186,12 @@ impl View {
         };
         let present = (1..).zip(gathered).filter(|(_, share)| !share.is_empty());
         let present: Vec<usize> = present.map(|(number, _)| number).collect();
-        let plan = &self.session.plan;
-        let mut room = [0; LONGEST_MESSAGE];
-        let outcome = match rebuild(plan.n, plan.t, &lay_out(gathered), &mut room) {
-            Answer::Done(_) => {
-                let used = &present[..plan.n - plan.t];
-                format!("rebuilds the book from {}", numbers(used))
-            }
-            Answer::Refused(11) => "has too few to rebuild a book".to_string(),
+        let least = self.session.plan.n - self.session.plan.t;
+        let outcome = match (&self.session.results[place], present.get(..least)) {
+            (Some(_), Some(used)) => format!("rebuilds the book from {}", numbers(used)),
             _ => "finds no book in them".to_string(),
         };
-        match &present[..] {
-            [] => "gathers no share".to_string(),
-            present => format!("gathers shares {} and {outcome}", numbers(present)),
-        }
+        format!("gathers shares {} and {outcome}", numbers(&present))
     }
 
     /// How a good box ended.
