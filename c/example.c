@@ -1,62 +1,47 @@
-/* A sitting of three boxes in one process: two have the book "AB", the third has another one and rebuilds theirs. The short agreements settle on the
- * first box's root and bit. Prints each box's result.
- *
+/* A sitting in one process: boxes 1 and 2 have the book "AB", box 3 has another one and rebuilds theirs. Prints each box's result.
  *     library/build && gcc -Idist c/example.c dist/libcipangohu.a -o example && ./example */
 #include <stdio.h>
 #include <stdlib.h>
 #include <string.h>
-
 #include "cipangohu.h"
-
-enum { N = 3, T = 1, ROOM = 2000 };
+enum { N = 3, T = 1, ROOM = 2000, STATE = CIPANGOHU_STATE };
+static uint8_t state[N][STATE], root[N][32], out[N][ROOM], inbox[N * ROOM], relays[N * ROOM], relay[ROOM];
 
 /* The value of an accepted call; a refused one ends the program. */
-static uint32_t accepted(uint64_t answer) {
-    if (cipangohu_cause(answer) != 0) {
-        fprintf(stderr, "refused: cause %u\n", (unsigned)cipangohu_cause(answer));
-        exit(1);
-    }
+static uint32_t value(uint64_t answer) {
+    if (cipangohu_cause(answer) != 0) exit(1);
     return cipangohu_value(answer);
 }
 
 /* Puts a two-byte length and the packet at the end of an inbox; gives the new end. */
-static size_t append(uint8_t *inbox, size_t end, const uint8_t *packet, size_t length) {
-    inbox[end] = (uint8_t)(length >> 8);
-    inbox[end + 1] = (uint8_t)length;
-    memcpy(inbox + end + 2, packet, length);
-    return end + 2 + length;
-}
-
-/* Entry j of an outbox, counted from 0: a two-byte length, then the packet. */
-static const uint8_t *entry(const uint8_t *outbox, size_t j) {
-    for (; j > 0; j--) outbox += 2 + outbox[0] * 256 + outbox[1];
-    return outbox;
+static size_t append(uint8_t *box, size_t end, const uint8_t *packet, size_t len) {
+    box[end] = (uint8_t)(len >> 8);
+    box[end + 1] = (uint8_t)len;
+    memcpy(box + end + 2, packet, len);
+    return end + 2 + len;
 }
 
 int main(void) {
-    const char *messages[N] = {"AB", "AB", "other"};
-    static uint8_t state[N][CIPANGOHU_STATE], root[N][32], out[N][ROOM], inbox[N * ROOM], relays[N * ROOM];
-    size_t end = 0;
+    const char *books[N] = {"AB", "AB", "other"};
+    size_t read[N] = {0}, end = 0;
     for (size_t i = 0; i < N; i++)
-        accepted(cipangohu_open(N, T, i + 1, (const uint8_t *)messages[i], strlen(messages[i]), state[i], CIPANGOHU_STATE, root[i], 32));
-    for (size_t i = 0; i < N; i++) {
-        uint32_t happy = accepted(cipangohu_agree_root(state[i], CIPANGOHU_STATE, root[0], 32));
-        printf("%zu %s\n", i + 1, happy ? "happy" : "unhappy");
-        accepted(cipangohu_agree_bit(state[i], CIPANGOHU_STATE, 1, out[i], ROOM));
+        value(cipangohu_open(N, T, i + 1, (const uint8_t *)books[i], strlen(books[i]), state[i], STATE, root[i], 32));
+    for (size_t i = 0; i < N; i++) { /* the short agreements settle on box 1's root and bit */
+        printf("%zu %s\n", i + 1, value(cipangohu_agree_root(state[i], STATE, root[0], 32)) ? "happy" : "unhappy");
+        value(cipangohu_agree_bit(state[i], STATE, 1, out[i], ROOM));
     }
-    for (size_t j = 0; j < N; j++) {
-        uint8_t relay[ROOM];
+    for (size_t j = 0; j < N; j++) { /* the inbox has the next entry of each outbox */
         size_t size = 0;
         for (size_t i = 0; i < N; i++) {
-            const uint8_t *sent = entry(out[i], j);
-            size = append(inbox, size, sent + 2, sent[0] * 256u + sent[1]);
+            size_t len = out[i][read[i]] * 256u + out[i][read[i] + 1];
+            size = append(inbox, size, out[i] + read[i] + 2, len);
+            read[i] += 2 + len;
         }
-        end = append(relays, end, relay, accepted(cipangohu_take_shares(state[j], CIPANGOHU_STATE, inbox, size, relay, ROOM)));
+        end = append(relays, end, relay, value(cipangohu_take_shares(state[j], STATE, inbox, size, relay, ROOM)));
     }
     for (size_t i = 0; i < N; i++) {
-        uint32_t length = accepted(cipangohu_take_relays(state[i], CIPANGOHU_STATE, relays, end, out[i], ROOM));
-        if (length == CIPANGOHU_NOTHING) printf("%zu -\n", i + 1);
-        else printf("%zu = %.*s\n", i + 1, (int)length, (const char *)out[i]);
+        uint32_t len = value(cipangohu_take_relays(state[i], STATE, relays, end, out[i], ROOM));
+        if (len == CIPANGOHU_NOTHING) printf("%zu -\n", i + 1);
+        else printf("%zu = %.*s\n", i + 1, (int)len, (const char *)out[i]);
     }
-    return 0;
 }
