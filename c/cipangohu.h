@@ -1,23 +1,33 @@
-/* The interface of libcapi.a, which `rt staticlib capi` writes: one party of a session, step by step, and the tools beside it.
+/* The interface of libcipangohu.a, which library/build makes: one party of a session, step by step, and the tools beside it.
  *
- * The host keeps a party's state, CIPANGOHU_STATE bytes, and hands it to every step. Any bytes may stand in it: what is no
- * state is refused with cause 5. Of a longer buffer the first CIPANGOHU_STATE bytes are the state, and the rest is left alone.
+ * The host keeps a party's state, CIPANGOHU_STATE bytes, and hands it to every step. Layout, numbers big-endian here and in all entries:
+ * byte 0 n, byte 1 t, byte 2 own number, byte 3 stage (0 waits for the root, 1 for the bit, 2 for the first inbox, 3 for the second,
+ * 4 ended with nothing, 5 ended with a message), bytes 4-5 the length of the message (at stage 5 of the result), bytes 6-7 the length of
+ * the share that an unhappy party relayed (a happy one holds none), bytes 8-39 the agreed root, then CIPANGOHU_MESSAGE bytes for the
+ * message (at stage 5 the result), then CIPANGOHU_SHARE bytes for that share. An accepted call writes all of it anew, with zeros for what
+ * the stage does not have.
  *
- * Layout of a state, numbers big-endian: byte 0 n, byte 1 t, byte 2 own number, byte 3 stage (0 waits for the root, 1 for the
- * bit, 2 for the first inbox, 3 for the second, 4 ended with nothing, 5 ended with a message), bytes 4-5 the length of the
- * message (at stage 5 of the result), bytes 6-7 the length of the relayed share, bytes 8-39 the agreed root, then
- * CIPANGOHU_MESSAGE bytes for the message (at stage 5 the result), then CIPANGOHU_SHARE bytes for the relayed share.
+ * Any bytes may stand in a state. Cause 5 is: fewer than CIPANGOHU_STATE bytes, a stage over 5, n, t or own number out of range, or a length
+ * over its limit at any stage. All else is taken for the state that it says; this is no seal against forgers. Bytes past a length are
+ * ignored. Of a longer buffer the first CIPANGOHU_STATE bytes are the state.
  *
- * Every function answers one number: the cause in the upper 32 bits, 0 if the call was accepted, and the value in the lower.
- * With cause 9 the value is the length that the buffer needs; with every other cause it is 0. An accepted call writes the new
- * state over the old one. A refused call leaves every lent byte as it was.
+ * Every function answers one number: the cause in the upper 32 bits, 0 if the call was accepted, and the value in the lower. With cause 9
+ * the value is the length that the buffer needs; of all other refusals it is 0. A refused call leaves every lent byte as it was, and no call
+ * writes past the length that it gives. Where several causes apply, the one that stands first behind "Causes" below is given.
  *
- * Causes: 1 n out of range, 2 t too great, 3 a number that is not 1 to n, 4 too long a message, 5 not a state, 6 not the step
- * that is due, 7 a root or a bit that is none, 8 bytes not laid out as said, 9 a buffer too short, 10 an unreadable packet,
- * 11 too few shares, 12 shares of no message.
+ *  1 n is not 1 to CIPANGOHU_PARTIES          7 a root that is not 32 bytes, or a bit that is not 0 or 1
+ *  2 2 * t is n or more                       8 entries that run short or leave bytes over
+ *  3 a number that is not 1 to n              9 an out buffer too short
+ *  4 too long a message, string or share     10 a packet that is neither silence nor readable
+ *  5 not a state                             11 fewer than n - t shares
+ *  6 not the step that is due                12 shares of no message
  *
- * Buffers of one call must not overlap. A pointer with length 0 is not read. Nothing is global: calls on different buffers may
- * run at once. In a trial of all functions a call took up to 107,152 bytes of stack. */
+ * An entry is a two-byte length and as many bytes; n of them, in number order, make an inbox, an outbox, or what is rebuilt from. In an inbox
+ * entry k is what party k sent, length 0 if it sent nothing. A packet in it that cannot be read or fails the check is passed over, and
+ * so is the own entry.
+ *
+ * Buffers of one call must not overlap. Through a pointer with length 0 nothing is read or written. Nothing is global: calls on different
+ * buffers may run at once. In a trial of all functions a call took up to 107,152 bytes of stack. */
 #ifndef CIPANGOHU_H
 #define CIPANGOHU_H
 
@@ -49,32 +59,33 @@ uint64_t cipangohu_open(size_t n, size_t t, size_t own, const uint8_t *message, 
 /* Step 2, the agreed root. Value: the party's bit, 0 or 1, for the second short agreement. Causes 5, 6, 7. */
 uint64_t cipangohu_agree_root(uint8_t *state, size_t state_len, const uint8_t *root, size_t root_len);
 
-/* Step 3, the agreed bit: writes n entries to out, each a two-byte length and the packet for that party. Value: the bytes
- * written. Causes 5, 6, 7, 9. */
+/* Step 3, the agreed bit: writes n entries to out, each the packet for that party, all of length 0 where nothing is to be sent. On bit 0
+ * the party has ended with nothing. Value: the bytes written. Causes 5, 6, 7, 9. */
 uint64_t cipangohu_agree_bit(uint8_t *state, size_t state_len, uint8_t bit, uint8_t *out, size_t out_len);
 
-/* Step 4, the first inbox, n entries: writes the packet to relay to all others. Value: the bytes written. Causes 5, 6, 8, 9. */
+/* Step 4, the first inbox: writes the packet to relay to all others. Value: the bytes written, 0 if there is none. Causes 5, 6, 8, 9. */
 uint64_t cipangohu_take_shares(uint8_t *state, size_t state_len, const uint8_t *inbox, size_t inbox_len,
                                uint8_t *out, size_t out_len);
 
-/* Step 5, the second inbox, n entries: writes the message. Value: its length, or CIPANGOHU_NOTHING. Causes 5, 6, 8, 9. */
+/* Step 5, the second inbox: writes the message. Value: its length, or CIPANGOHU_NOTHING, which writes nothing. Causes 5, 6, 8, and 9 where a
+ * message was found. */
 uint64_t cipangohu_take_relays(uint8_t *state, size_t state_len, const uint8_t *inbox, size_t inbox_len,
                                uint8_t *out, size_t out_len);
 
-/* Reads a packet among n parties. Value: 0 for silence, else count * 2^24 + number * 2^16 + the share's length; the share
+/* Reads a packet among n parties. Value: 0 for silence (no bytes, or one zero byte), else count * 2^24 + number * 2^16 + the share's length; the share
  * begins at byte 4, and its path of `count` hashes follows it. Causes 1, 10. */
 uint64_t cipangohu_read_packet(size_t n, const uint8_t *packet, size_t packet_len);
 
 /* Whether a path of hashes leads from share j of n to the root. Value: 1 yes, 0 no; a path that is not as many whole hashes as
- * n and j give is a no. Causes 1, 3, 4, 7. */
+ * n and j give is a no. Causes 1, 3, 4 (a share over 65,533 bytes), 7. */
 uint64_t cipangohu_check_path(size_t n, size_t j, const uint8_t *share, size_t share_len,
                               const uint8_t *path, size_t path_len, const uint8_t *root, size_t root_len);
 
 /* Writes the n shares of a message, of equal length, one behind the other. Value: the bytes written. Causes 1, 2, 4, 9. */
 uint64_t cipangohu_shares(size_t n, size_t t, const uint8_t *message, size_t message_len, uint8_t *out, size_t out_len);
 
-/* Rebuilds the message from n entries, each a two-byte length and a share; length 0 is a missing share. Value: the bytes
- * written. Causes 1, 2, 8, 11, 12, 9. */
+/* Rebuilds the message from n entries, each a share, of length 0 if it is missing; of those present the n - t lowest-numbered are used. Value:
+ * the bytes written. Causes 1, 2, 8, 11, 12, and 9 where a message was found. */
 uint64_t cipangohu_rebuild(size_t n, size_t t, const uint8_t *entries, size_t entries_len, uint8_t *out, size_t out_len);
 
 /* SHA-256 of up to 65535 bytes. Value: 32. Causes 4, 9. */
