@@ -1,0 +1,227 @@
+//! The proved code against others at the same work: how many times as long it takes.
+
+use std::hint::black_box;
+
+use cipangohu::{calls, lay_out, MAX_HASHED, MAX_MESSAGE};
+use foreign::{coder, random::Random, sha256};
+
+use crate::clock::Race;
+use crate::library::{Encoder, Isal, Openssl, Zfec};
+use crate::party::{Foreign, Proved};
+use crate::session::{moments, play, Setting, GREATEST};
+use crate::steps::{work, Step};
+
+/// The columns of the tables.
+pub const FOREIGN: &str = "foreign";
+pub const PORTABLE: &str = "ISA-L, portable";
+pub const PORTABLE_WHOLE: &str = "ISA-L, portable, tables made in the call";
+pub const NATIVE: &str = "ISA-L, for this processor";
+pub const ZFEC: &str = "zfec";
+pub const OPENSSL_PLAIN: &str = "OpenSSL, any x86-64";
+pub const OPENSSL: &str = "OpenSSL, for this processor";
+
+/// Time of the proved code as a multiple of the time of each other.
+pub struct Ratios {
+    pub work: &'static str,
+    pub to: Vec<(&'static str, f64)>,
+}
+
+/// The libraries that are there.
+pub struct Others {
+    pub isal: Option<Isal>,
+    pub zfec: Option<Zfec>,
+    pub openssl: Option<Openssl>,
+    pub openssl_plain: Option<Openssl>,
+}
+
+/// The shape of the greatest session's code.
+const N: usize = GREATEST.n;
+const B: usize = GREATEST.n - GREATEST.t;
+const S: usize = (MAX_MESSAGE + 2).div_ceil(B);
+
+struct Contest<'a> {
+    work: &'static str,
+    names: Vec<&'static str>,
+    race: Race<'a>,
+}
+
+impl<'a> Contest<'a> {
+    fn of(work: &'static str, proved: impl FnMut() + 'a) -> Self {
+        let mut race = Race::default();
+        race.add(proved);
+        Contest {
+            work,
+            names: Vec::new(),
+            race,
+        }
+    }
+
+    fn against(&mut self, name: &'static str, other: impl FnMut() + 'a) {
+        self.names.push(name);
+        self.race.add(other);
+    }
+
+    fn run(self, rounds: u32) -> Ratios {
+        let times = self.race.run(rounds);
+        let ratios = times[1..].iter().map(|time| times[0] / time);
+        Ratios {
+            work: self.work,
+            to: self.names.into_iter().zip(ratios).collect(),
+        }
+    }
+}
+
+/// The steps of one party in the greatest session.
+pub fn steps(rounds: u32) -> Vec<Ratios> {
+    let (proved, foreign) = (moments::<Proved>(GREATEST), moments::<Foreign>(GREATEST));
+    let ratios = Step::ALL.iter().map(|&step| {
+        let mut contest = Contest::of(step.name(), work(step, GREATEST, &proved));
+        contest.against(FOREIGN, work(step, GREATEST, &foreign));
+        contest.run(rounds)
+    });
+    ratios.collect()
+}
+
+/// Whole sessions: all parties happy, and as many unhappy as there may be bad.
+pub fn sessions(rounds: u32) -> Vec<Ratios> {
+    let named = [("a sitting, one book", 0), ("a sitting, seven rebuild", 7)];
+    let ratios = named.map(|(name, unhappy)| {
+        let setting = Setting {
+            unhappy,
+            ..GREATEST
+        };
+        let messages: Vec<_> = (1..=N).map(|own| setting.message(own)).collect();
+        let found = play::<Proved>(setting, &messages);
+        assert_eq!(found, play::<Foreign>(setting, &messages));
+        let mut contest = Contest::of(name, || {
+            black_box(play::<Proved>(setting, &messages));
+        });
+        contest.against(FOREIGN, || {
+            black_box(play::<Foreign>(setting, &messages));
+        });
+        contest.run(rounds)
+    });
+    ratios.into()
+}
+
+/// All shares of the longest message.
+pub fn encoding(others: &Others, rounds: u32) -> Ratios {
+    let message = GREATEST.message(1);
+    let mut frame = coder::frame_of(B, &message);
+    let mut zfec_frame = frame.clone();
+    let (mut ours, mut theirs) = ([0; N * S], [0; N * S]);
+    let mut contest = Contest::of("all shares of a book", || {
+        calls::shares((N, GREATEST.t), black_box(&message), &mut ours).expect("lawful");
+    });
+    contest.against(FOREIGN, || {
+        coder::encode(N, GREATEST.t, black_box(&message), &mut theirs);
+    });
+    let mut out = [0; N * S];
+    if let Some(isal) = others.isal {
+        let numbers: Vec<u8> = (1..=N as u8).collect();
+        let mut matrix = isal.powers(&numbers, B);
+        let mut made = isal.tables(&mut matrix, B);
+        let mut encode = move |by, tables: &mut [u8]| {
+            isal.encode(by, tables, black_box(&mut frame), S, &mut out);
+        };
+        let (mut native, mut whole) = (encode.clone(), encode.clone());
+        let mut same = made.clone();
+        contest.against(PORTABLE, move || encode(Encoder::Portable, &mut made));
+        contest.against(NATIVE, move || native(Encoder::Native, &mut same));
+        contest.against(PORTABLE_WHOLE, move || {
+            whole(Encoder::Portable, &mut isal.tables(&mut matrix, B))
+        });
+    }
+    if let Some(zfec) = others.zfec {
+        contest.against(ZFEC, move || {
+            zfec.encode(black_box(&mut zfec_frame), S, &mut out)
+        });
+    }
+    contest.run(rounds)
+}
+
+/// The longest message from the shares of the last b parties.
+pub fn rebuilding(others: &Others, rounds: u32) -> Ratios {
+    let message = GREATEST.message(1);
+    let mut frame = coder::frame_of(B, &message);
+    let mut shares = coder::shares_of(N, B, &frame);
+    shares[..GREATEST.t].fill(Vec::new());
+    let entries = lay_out(&shares);
+    let (mut ours, mut theirs) = ([0; MAX_MESSAGE], [0; MAX_MESSAGE]);
+    let mut contest = Contest::of("a book from nine shares", || {
+        calls::rebuild((N, GREATEST.t), black_box(&entries), &mut ours).expect("lawful");
+    });
+    contest.against(FOREIGN, || {
+        coder::rebuild(N, GREATEST.t, black_box(&entries), &mut theirs);
+    });
+    if let Some(isal) = others.isal {
+        for (column, by) in [(PORTABLE, Encoder::Portable), (NATIVE, Encoder::Native)] {
+            contest.against(column, isal_rebuild(isal, by, &mut frame));
+        }
+    }
+    if let Some(zfec) = others.zfec {
+        let mut coded = [0; N * S];
+        zfec.encode(&mut frame, S, &mut coded);
+        let mut out = [0; B * S];
+        zfec.decode(&mut coded[..B * S], S, &mut out);
+        assert_eq!(out[..], frame[..]);
+        contest.against(ZFEC, move || {
+            zfec.decode(black_box(&mut coded[..B * S]), S, &mut out)
+        });
+    }
+    contest.run(rounds)
+}
+
+/// ISA-L's way from the last b shares to the frame: the inverse of their matrix, its tables, and the
+/// product, all in the call.
+fn isal_rebuild(isal: Isal, by: Encoder, frame: &mut [u8]) -> impl FnMut() {
+    let numbers: Vec<u8> = (1..=N as u8).skip(GREATEST.t).collect();
+    let matrix = isal.powers(&numbers, B);
+    let mut shares = [0; B * S];
+    isal.encode(
+        by,
+        &mut isal.tables(&mut matrix.clone(), B),
+        frame,
+        S,
+        &mut shares,
+    );
+    let mut rebuild = move |out: &mut [u8]| {
+        let mut inverse = isal.inverse(&mut black_box(matrix.clone()), B);
+        let mut tables = isal.tables(&mut inverse, B);
+        isal.encode(by, &mut tables, black_box(&mut shares), S, out);
+    };
+    let mut out = [0; B * S];
+    rebuild(&mut out);
+    assert_eq!(out[..], frame[..]);
+    move || rebuild(&mut out)
+}
+
+/// The hash of the longest string, and of a leaf string of the greatest session.
+pub fn hashing(others: &Others, rounds: u32) -> Vec<Ratios> {
+    let named = [
+        ("hash of 65,535 bytes", MAX_HASHED),
+        ("hash of a leaf string", 2 + S),
+    ];
+    let ratios = named.map(|(name, length)| {
+        let message = Random::new(3).bytes(length);
+        let mut digest = [0; 32];
+        let mut contest = Contest::of(name, || {
+            calls::hash(black_box(&message), &mut digest).expect("lawful");
+        });
+        contest.against(FOREIGN, || {
+            black_box(sha256::hash(black_box(&message)));
+        });
+        for (column, openssl) in [
+            (OPENSSL_PLAIN, &others.openssl_plain),
+            (OPENSSL, &others.openssl),
+        ] {
+            let Some(openssl) = openssl else { continue };
+            assert_eq!(openssl.hash(&message), sha256::hash(&message));
+            contest.against(column, || {
+                black_box(openssl.hash(black_box(&message)));
+            });
+        }
+        contest.run(rounds)
+    });
+    ratios.into()
+}

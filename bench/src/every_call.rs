@@ -1,0 +1,141 @@
+//! Every function of the archive along each of its ways, for whoever wants to run them all.
+
+use cipangohu::{calls, entries, lay_out, read_packet, MAX_HASHED, MAX_MESSAGE, MAX_OUTBOX, STATE};
+
+use crate::party::{Party, Proved};
+use crate::session::{moments, most_faults, Moments, Setting, GREATEST};
+
+/// What is done with a call: its name is given, then the call itself.
+pub type Visit<'a> = &'a mut dyn FnMut(&'static str, &mut dyn FnMut());
+
+/// All calls, with the least and the greatest numbers of parties, faults and bytes and those between.
+pub fn every_call(visit: Visit) {
+    for n in 1..=GREATEST.n {
+        for t in [0, most_faults(n)] {
+            for length in [0, 1, 100, MAX_MESSAGE] {
+                let unhappy = usize::from(n > 1);
+                let setting = Setting {
+                    n,
+                    t,
+                    length,
+                    unhappy,
+                };
+                steps(setting, visit);
+                tools(setting, visit);
+            }
+        }
+    }
+    strings(visit);
+}
+
+fn steps(setting: Setting, visit: Visit) {
+    let at = moments::<Proved>(setting);
+    let message = setting.message(1);
+    visit("open", &mut || {
+        Proved::open((setting.n, setting.t), 1, &message);
+    });
+    happy_steps(&at, visit);
+    if setting.unhappy > 0 {
+        unhappy_steps(setting.n, &at, visit);
+    }
+    visit("a step on no state", &mut || {
+        let refused = calls::agree_root(&mut [0xFF; STATE], &at.root);
+        assert!(refused.is_err());
+    });
+}
+
+/// Makes a call on a copy of a state.
+fn on(state: &Proved, name: &'static str, visit: Visit, mut step: impl FnMut(&mut Proved)) {
+    let mut party = state.clone();
+    visit(name, &mut || step(&mut party));
+}
+
+fn happy_steps(at: &Moments<Proved>, visit: Visit) {
+    let mut out = vec![0; MAX_OUTBOX];
+    on(&at.opened[0], "agree_root, happy", visit, |party| {
+        assert!(party.agree_root(&at.root));
+    });
+    on(&at.voted[0], "agree_bit, 0", visit, |party| {
+        party.agree_bit(0, &mut out);
+    });
+    on(&at.voted[0], "agree_bit, happy", visit, |party| {
+        party.agree_bit(1, &mut out);
+    });
+    on(&at.sent[0], "take_shares, happy", visit, |party| {
+        party.take_shares(&at.first[0], &mut out);
+    });
+    on(&at.relayed[0], "take_relays, happy", visit, |party| {
+        assert!(party.take_relays(&at.second, &mut out).is_some());
+    });
+}
+
+fn unhappy_steps(n: usize, at: &Moments<Proved>, visit: Visit) {
+    let mut out = vec![0; MAX_OUTBOX];
+    let silence = lay_out(&vec![[]; n]);
+    let last = n - 1;
+    on(&at.opened[last], "agree_root, unhappy", visit, |party| {
+        assert!(!party.agree_root(&at.root));
+    });
+    on(&at.voted[last], "agree_bit, unhappy", visit, |party| {
+        party.agree_bit(1, &mut out);
+    });
+    on(
+        &at.sent[last],
+        "take_shares, a share sent",
+        visit,
+        |party| {
+            assert!(party.take_shares(&at.first[last], &mut out) > 0);
+        },
+    );
+    on(&at.sent[last], "take_shares, silence", visit, |party| {
+        assert_eq!(party.take_shares(&silence, &mut out), 0);
+    });
+    on(&at.relayed[last], "take_relays, rebuilt", visit, |party| {
+        assert!(party.take_relays(&at.second, &mut out).is_some());
+    });
+    on(&at.relayed[last], "take_relays, nothing", visit, |party| {
+        let found = party.take_relays(&silence, &mut out);
+        assert!(found.is_none() || n == 2);
+    });
+}
+
+/// The functions beside the steps.
+fn tools(setting: Setting, visit: Visit) {
+    let (n, group) = (setting.n, (setting.n, setting.t));
+    let message = setting.message(1);
+    let mut out = vec![0; MAX_OUTBOX];
+    visit("shares", &mut || {
+        calls::shares(group, &message, &mut out).expect("shares");
+    });
+    let shares = lay_out(&cipangohu::shares(n, setting.t, &message).expect("shares"));
+    visit("rebuild", &mut || {
+        calls::rebuild(group, &shares, &mut out).expect("a message");
+    });
+    let at = moments::<Proved>(setting);
+    let relays = entries(&at.second).expect("entries");
+    visit("read_packet", &mut || {
+        calls::read_packet(n, relays[0]).expect("a packet");
+    });
+    let Ok(Some(packet)) = read_packet(n, relays[0]) else {
+        return;
+    };
+    visit("check_path, a share", &mut || {
+        let passes = calls::check_path((n, 1), packet.share, packet.path, &at.root);
+        assert_eq!(passes, Ok(1));
+    });
+}
+
+/// The functions that take long strings.
+fn strings(visit: Visit) {
+    let string = vec![7; MAX_HASHED];
+    let mut digest = [0; 32];
+    visit("hash", &mut || {
+        calls::hash(&string, &mut digest).expect("a digest");
+    });
+    let path = [0; 4 * 32];
+    visit("check_path, the longest string", &mut || {
+        let share = &string[..MAX_HASHED - 2];
+        let passes = calls::check_path((GREATEST.n, 1), share, &path, &digest);
+        assert_eq!(passes, Ok(0));
+    });
+}

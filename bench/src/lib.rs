@@ -1,0 +1,20 @@
+//! Measures the proved library: its time against other implementations and as sizes grow, the bytes
+//! that a session sends, and the stack that each call takes. Times are given as ratios only.
+
+mod clock;
+pub mod contest;
+pub mod every_call;
+pub mod growth;
+pub mod markdown;
+pub mod party;
+pub mod plot;
+pub mod report;
+pub mod session;
+pub mod steps;
+pub mod traffic;
+
+// The modules that speak to the system and to other libraries.
+#[allow(unsafe_code)]
+pub mod library;
+#[allow(unsafe_code)]
+pub mod stack;

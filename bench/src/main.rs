@@ -1,0 +1,173 @@
+//! Measures everything, prints the ratios, and writes docs/FIGURES.md with its plots.
+//!
+//!     figures DOCS [ROUNDS]    # DOCS is the folder; more rounds take longer and trouble less
+
+use std::error::Error;
+use std::path::Path;
+use std::{env, fs};
+
+use figures::contest::{self, Others, Ratios};
+use figures::every_call::every_call;
+use figures::growth::{growth, Point, Sweep};
+use figures::library::{Isal, Openssl, Zfec};
+use figures::session::GREATEST;
+use figures::stack::taken;
+use figures::traffic::{traffic, Traffic, LENGTHS};
+use figures::{markdown, report};
+
+const ROUNDS: u32 = 400;
+
+/// Whole sessions take longer, and need fewer rounds.
+const SESSION_ROUNDS: u32 = 10;
+
+struct Measured {
+    steps: Vec<Ratios>,
+    coder: Vec<Ratios>,
+    hash: Vec<Ratios>,
+    growth: Vec<(Sweep, Vec<Point>)>,
+    traffic: Vec<(usize, Vec<Traffic>)>,
+    stack: Vec<(&'static str, usize)>,
+}
+
+/// Loads the libraries and says which are absent.
+fn others() -> Others {
+    let openssl = Openssl::native();
+    let file = env::var("ZFEC").unwrap_or_default();
+    let others = Others {
+        isal: Isal::load(),
+        zfec: Zfec::load(&file, GREATEST.n - GREATEST.t, GREATEST.n),
+        openssl_plain: openssl.and_then(|_| Openssl::plain()),
+        openssl,
+    };
+    for (absent, package) in [
+        (others.isal.is_none(), "libisal2"),
+        (others.zfec.is_none(), "python3-zfec"),
+        (others.openssl.is_none(), "libssl3"),
+    ] {
+        if absent {
+            println!("left out, since the Debian package {package} is absent\n");
+        }
+    }
+    others
+}
+
+/// The greatest stack of each call over all numbers and lengths.
+fn stacks() -> Vec<(&'static str, usize)> {
+    let mut greatest: Vec<(&'static str, usize)> = Vec::new();
+    every_call(&mut |name, call| {
+        let bytes = taken(call);
+        match greatest.iter_mut().find(|(known, _)| *known == name) {
+            Some((_, most)) => *most = bytes.max(*most),
+            None => greatest.push((name, bytes)),
+        }
+    });
+    greatest
+}
+
+fn measure(others: &Others, rounds: u32) -> Measured {
+    let mut steps = contest::steps(rounds);
+    steps.extend(contest::sessions(rounds.div_ceil(SESSION_ROUNDS)));
+    Measured {
+        steps,
+        coder: vec![
+            contest::encoding(others, rounds),
+            contest::rebuilding(others, rounds),
+        ],
+        hash: contest::hashing(others, rounds),
+        growth: growth(rounds.div_ceil(2)),
+        traffic: LENGTHS
+            .iter()
+            .map(|&length| (length, traffic(length)))
+            .collect(),
+        stack: stacks(),
+    }
+}
+
+/// The most of what ISA-L's coder looks for that this processor has.
+fn isal_uses() -> &'static str {
+    if is_x86_feature_detected!("avx512bw") {
+        return "AVX-512";
+    }
+    if is_x86_feature_detected!("avx2") {
+        return "AVX2";
+    }
+    "at most AVX"
+}
+
+fn openssl_uses() -> &'static str {
+    match is_x86_feature_detected!("sha") {
+        true => "the SHA instructions",
+        false => "no SHA instructions, at most AVX2",
+    }
+}
+
+/// Writes a plot and gives the line that shows it.
+fn picture(docs: &Path, file: &str, plot: &figures::plot::Plot) -> Result<String, Box<dyn Error>> {
+    fs::write(docs.join("figures").join(file), plot.svg())?;
+    Ok(format!("![{}](figures/{file})\n", plot.title))
+}
+
+fn growth_section(docs: &Path, measured: &Measured) -> Result<String, Box<dyn Error>> {
+    let mut section = String::new();
+    for (sweep, points) in &measured.growth {
+        section += &picture(docs, sweep.file(), &report::growth_plot(*sweep, points))?;
+        section += &format!("\n{}\n", report::growth_table(*sweep, points));
+    }
+    Ok(section)
+}
+
+fn traffic_section(docs: &Path, measured: &Measured) -> Result<String, Box<dyn Error>> {
+    let mut section = String::new();
+    for (length, traffic) in measured.traffic.iter().filter(|(length, _)| *length > 0) {
+        let file = report::traffic_file(*length);
+        section += &picture(docs, &file, &report::traffic_plot(*length, traffic))?;
+        section += "\n";
+    }
+    Ok(section + &report::traffic_table(&measured.traffic) + "\n")
+}
+
+fn write(docs: &Path, measured: &Measured) -> Result<(), Box<dyn Error>> {
+    fs::create_dir_all(docs.join("figures"))?;
+    let most = measured
+        .stack
+        .iter()
+        .map(|(_, bytes)| *bytes)
+        .max()
+        .unwrap_or(0);
+    let fewer = measured
+        .traffic
+        .iter()
+        .map(|(length, of)| report::fewer_from(*length, of));
+    let page = [
+        ("{steps}", report::ratios(&measured.steps)),
+        ("{coder}", report::ratios(&measured.coder)),
+        ("{hash}", report::ratios(&measured.hash)),
+        ("{isal}", isal_uses().into()),
+        ("{openssl}", openssl_uses().into()),
+        ("{growth}", growth_section(docs, measured)?),
+        ("{fewer}", fewer.collect::<Vec<_>>().join(" ")),
+        ("{traffic}", traffic_section(docs, measured)?),
+        ("{stack}", report::stack_table(&measured.stack)),
+        ("{most}", markdown::grouped(most)),
+        ("{part}", format!("{:.0} %", most as f64 / 2621.44)),
+    ]
+    .iter()
+    .fold(
+        include_str!("figures.md").to_string(),
+        |page, (name, text)| page.replace(name, text),
+    );
+    fs::write(docs.join("FIGURES.md"), page)?;
+    Ok(())
+}
+
+fn main() -> Result<(), Box<dyn Error>> {
+    let mut words = env::args().skip(1);
+    let docs = words.next().ok_or("which folder is docs?")?;
+    let rounds = words.next().map_or(Ok(ROUNDS), |rounds| rounds.parse())?;
+    let measured = measure(&others(), rounds);
+    for rows in [&measured.steps, &measured.coder, &measured.hash] {
+        println!("{}", report::ratios(rows));
+    }
+    println!("{}", report::stack_table(&measured.stack));
+    write(Path::new(&docs), &measured)
+}

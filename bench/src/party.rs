@@ -1,0 +1,81 @@
+//! One party of either implementation, behind one trait, so that both play the same sessions.
+
+use cipangohu::{calls, Hash, STATE};
+use foreign::party::{Given, State};
+
+/// Each step changes the state that the caller keeps. The calls made here are lawful: a refusal ends
+/// the program.
+pub trait Party: Clone {
+    fn open(group: (usize, usize), own: usize, message: &[u8]) -> (Self, Hash);
+    fn agree_root(&mut self, root: &Hash) -> bool;
+    fn agree_bit(&mut self, bit: u8, out: &mut [u8]) -> usize;
+    fn take_shares(&mut self, inbox: &[u8], out: &mut [u8]) -> usize;
+    fn take_relays(&mut self, inbox: &[u8], out: &mut [u8]) -> Option<usize>;
+}
+
+/// The archive's functions on a state of bytes.
+#[derive(Clone)]
+pub struct Proved([u8; STATE]);
+
+/// The foreign implementation on its struct. A step takes that by value, so it is copied once.
+#[derive(Clone)]
+pub struct Foreign(State);
+
+const LAWFUL: &str = "the call is lawful";
+
+impl Party for Proved {
+    fn open((n, t): (usize, usize), own: usize, message: &[u8]) -> (Self, Hash) {
+        let mut party = Proved([0; STATE]);
+        let mut root = [0; 32];
+        calls::open((n, t, own), message, &mut party.0, &mut root).expect(LAWFUL);
+        (party, root)
+    }
+
+    fn agree_root(&mut self, root: &Hash) -> bool {
+        calls::agree_root(&mut self.0, root).expect(LAWFUL) == 1
+    }
+
+    fn agree_bit(&mut self, bit: u8, out: &mut [u8]) -> usize {
+        calls::agree_bit(&mut self.0, bit, out).expect(LAWFUL) as usize
+    }
+
+    fn take_shares(&mut self, inbox: &[u8], out: &mut [u8]) -> usize {
+        calls::take_shares(&mut self.0, inbox, out).expect(LAWFUL) as usize
+    }
+
+    fn take_relays(&mut self, inbox: &[u8], out: &mut [u8]) -> Option<usize> {
+        let length = calls::take_relays(&mut self.0, inbox, out).expect(LAWFUL);
+        (length != u32::MAX).then_some(length as usize)
+    }
+}
+
+impl Foreign {
+    fn step<T>(&mut self, step: impl FnOnce(State) -> Given<T>) -> T {
+        let (next, answer) = step(self.0.clone());
+        self.0 = next;
+        answer.unwrap_or_else(|_| panic!("{LAWFUL}"))
+    }
+}
+
+impl Party for Foreign {
+    fn open((n, t): (usize, usize), own: usize, message: &[u8]) -> (Self, Hash) {
+        let (state, root) = State::open(n as u64, t as u64, own as u64, message);
+        (Foreign(state), root.expect(LAWFUL))
+    }
+
+    fn agree_root(&mut self, root: &Hash) -> bool {
+        self.step(|state| state.agree_root(root))
+    }
+
+    fn agree_bit(&mut self, bit: u8, out: &mut [u8]) -> usize {
+        self.step(|state| state.agree_bit(bit, out))
+    }
+
+    fn take_shares(&mut self, inbox: &[u8], out: &mut [u8]) -> usize {
+        self.step(|state| state.take_shares(inbox, out))
+    }
+
+    fn take_relays(&mut self, inbox: &[u8], out: &mut [u8]) -> Option<usize> {
+        self.step(|state| state.take_relays(inbox, out))
+    }
+}

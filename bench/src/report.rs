@@ -1,0 +1,151 @@
+//! The text of docs/FIGURES.md and its plots, from what was measured.
+
+use crate::contest::Ratios;
+use crate::growth::{Point, Sweep, STEPS};
+use crate::markdown::{grouped, ratio, table};
+use crate::plot::{Line, Plot};
+use crate::traffic::Traffic;
+
+/// A table of ratios whose columns are the rivals in the order in which they are first named.
+pub fn ratios(rows: &[Ratios]) -> String {
+    let mut columns: Vec<&str> = Vec::new();
+    for (name, _) in rows.iter().flat_map(|row| &row.to) {
+        if !columns.contains(name) {
+            columns.push(name);
+        }
+    }
+    let cell = |row: &Ratios, column: &str| {
+        let found = row.to.iter().find(|(name, _)| *name == column);
+        found.map_or("–".into(), |(_, value)| ratio(*value))
+    };
+    let line = |row: &Ratios| {
+        let cells = columns.iter().map(|column| cell(row, column));
+        std::iter::once(row.work.to_string()).chain(cells).collect()
+    };
+    let head = std::iter::once("proved to").chain(columns.iter().copied());
+    let rows: Vec<Vec<String>> = rows.iter().map(line).collect();
+    table(&head.map(str::to_string).collect::<Vec<_>>(), &rows)
+}
+
+impl Sweep {
+    pub fn file(self) -> &'static str {
+        match self {
+            Sweep::Length => "time-by-length.svg",
+            Sweep::Parties => "time-by-parties.svg",
+            Sweep::Faults => "time-by-faults.svg",
+        }
+    }
+
+    fn name(self) -> &'static str {
+        match self {
+            Sweep::Length => "L, bytes of the book",
+            Sweep::Parties => "n, boxes",
+            Sweep::Faults => "t, fault limit",
+        }
+    }
+
+    pub fn title(self) -> &'static str {
+        match self {
+            Sweep::Length => "Time by the length of the book (n 16, t 7)",
+            Sweep::Parties => "Time by the number of boxes (L 1,024, the greatest t)",
+            Sweep::Faults => "Time by the fault limit (n 16, L 1,024)",
+        }
+    }
+}
+
+pub fn growth_table(sweep: Sweep, points: &[Point]) -> String {
+    let steps = STEPS.iter().map(|step| step.name());
+    let head: Vec<String> = std::iter::once(sweep.name())
+        .chain(steps)
+        .map(str::to_string)
+        .collect();
+    let row = |point: &Point| {
+        let times = point.times.iter().map(|&time| ratio(time));
+        std::iter::once(grouped(point.x)).chain(times).collect()
+    };
+    table(&head, &points.iter().map(row).collect::<Vec<_>>())
+}
+
+pub fn growth_plot(sweep: Sweep, points: &[Point]) -> Plot {
+    let line = |place: usize| Line {
+        name: STEPS[place].name().into(),
+        points: points
+            .iter()
+            .map(|point| (point.x as f64, point.times[place]))
+            .collect(),
+    };
+    Plot {
+        title: sweep.title().into(),
+        x_name: sweep.name().into(),
+        y_name: "opening at L 1,024, n 16, t 7 = 1".into(),
+        x_ticks: points.iter().map(|point| point.x as f64).collect(),
+        lines: (0..STEPS.len()).map(line).collect(),
+    }
+}
+
+pub fn traffic_file(length: usize) -> String {
+    format!("bytes-{length}.svg")
+}
+
+/// One row for each n, and three columns for each length.
+pub fn traffic_table(by_length: &[(usize, Vec<Traffic>)]) -> String {
+    let mut head = vec!["n, t".to_string()];
+    for (length, _) in by_length {
+        let length = grouped(*length);
+        head.extend(["sent", "bound", "all to all"].map(|name| format!("L {length}: {name}")));
+    }
+    let row = |place: usize| {
+        let first = &by_length[0].1[place];
+        let counts = by_length.iter().flat_map(|(_, all)| {
+            [all[place].sent, all[place].bound, all[place].plain].map(grouped)
+        });
+        std::iter::once(format!("{}, {}", first.n, first.t))
+            .chain(counts)
+            .collect()
+    };
+    let rows: Vec<Vec<String>> = (0..by_length[0].1.len()).map(row).collect();
+    table(&head, &rows)
+}
+
+pub fn traffic_plot(length: usize, traffic: &[Traffic]) -> Plot {
+    let line = |name: &str, count: fn(&Traffic) -> usize| Line {
+        name: name.into(),
+        points: traffic
+            .iter()
+            .map(|of| (of.n as f64, count(of) as f64))
+            .collect(),
+    };
+    Plot {
+        title: format!(
+            "Bytes that a sitting sends (L {}, the greatest t)",
+            grouped(length)
+        ),
+        x_name: "n, boxes".into(),
+        y_name: "bytes".into(),
+        x_ticks: traffic.iter().map(|of| of.n as f64).collect(),
+        lines: vec![
+            line("sent", |of| of.sent),
+            line("bound", |of| of.bound),
+            line("every book to all", |of| of.plain),
+        ],
+    }
+}
+
+/// From which n on a sitting sends fewer bytes than all books to all.
+pub fn fewer_from(length: usize, traffic: &[Traffic]) -> String {
+    let length = grouped(length);
+    let more = traffic
+        .iter()
+        .rposition(|of| of.sent >= of.plain)
+        .map_or(0, |place| place + 1);
+    match traffic.get(more) {
+        Some(of) => format!("At L {length} it sends fewer from n {} on.", of.n),
+        None => format!("At L {length} it sends more for every n."),
+    }
+}
+
+pub fn stack_table(calls: &[(&'static str, usize)]) -> String {
+    let head = ["call", "bytes of stack"].map(str::to_string);
+    let row = |(name, bytes): &(&str, usize)| vec![name.to_string(), grouped(*bytes)];
+    table(&head, &calls.iter().map(row).collect::<Vec<_>>())
+}

@@ -1,0 +1,85 @@
+//! The steps of one party as pieces of work to be timed. Each begins from a copy of the state that the
+//! session had come to.
+
+use std::hint::black_box;
+
+use cipangohu::MAX_OUTBOX;
+
+use crate::party::Party;
+use crate::session::{Moments, Setting};
+
+#[derive(Clone, Copy, PartialEq, Eq)]
+pub enum Step {
+    Open,
+    Root,
+    Bit,
+    OwnShare,
+    ShareSent,
+    OwnMessage,
+    Rebuild,
+}
+
+impl Step {
+    pub const ALL: [Step; 7] = [
+        Step::Open,
+        Step::Root,
+        Step::Bit,
+        Step::OwnShare,
+        Step::ShareSent,
+        Step::OwnMessage,
+        Step::Rebuild,
+    ];
+
+    pub fn name(self) -> &'static str {
+        match self {
+            Step::Open => "opening",
+            Step::Root => "step 2",
+            Step::Bit => "step 3",
+            Step::OwnShare => "step 4, own share",
+            Step::ShareSent => "step 4, a share sent",
+            Step::OwnMessage => "step 5, own book",
+            Step::Rebuild => "step 5, by rebuild",
+        }
+    }
+}
+
+type Work<'a> = Box<dyn FnMut() + 'a>;
+
+/// The step as the first party does it, or as the last does, which is unhappy.
+pub fn work<'a, P: Party>(step: Step, setting: Setting, at: &'a Moments<P>) -> Work<'a> {
+    let mut out = vec![0; MAX_OUTBOX];
+    let last = setting.n - 1;
+    match step {
+        Step::Open => {
+            let message = setting.message(1);
+            let group = (setting.n, setting.t);
+            Box::new(move || {
+                black_box(P::open(group, 1, black_box(&message)));
+            })
+        }
+        Step::Root => again(&at.opened[0], |party| {
+            usize::from(party.agree_root(&at.root))
+        }),
+        Step::Bit => again(&at.voted[0], move |party| party.agree_bit(1, &mut out)),
+        Step::OwnShare => again(&at.sent[0], move |party| {
+            party.take_shares(&at.first[0], &mut out)
+        }),
+        Step::ShareSent => again(&at.sent[last], move |party| {
+            party.take_shares(&at.first[last], &mut out)
+        }),
+        Step::OwnMessage => again(&at.relayed[0], move |party| {
+            party.take_relays(&at.second, &mut out).expect("a message")
+        }),
+        Step::Rebuild => again(&at.relayed[last], move |party| {
+            party.take_relays(&at.second, &mut out).expect("a message")
+        }),
+    }
+}
+
+fn again<'a, P: Party>(state: &'a P, mut step: impl FnMut(&mut P) -> usize + 'a) -> Work<'a> {
+    Box::new(move || {
+        let mut party = state.clone();
+        black_box(step(black_box(&mut party)));
+        black_box(&party);
+    })
+}

@@ -1,0 +1,43 @@
+//! Every call of the archive fits a small stack: it runs on a thread that has no more, where one that
+//! takes more ends the test with a fault.
+
+use std::thread;
+
+use figures::every_call::every_call;
+use figures::stack::taken;
+
+const STACK: usize = 256 * 1024;
+
+/// Runs work on a thread of that stack.
+fn on_small_stack(work: impl FnOnce() + Send) {
+    thread::scope(|scope| {
+        let thread = thread::Builder::new()
+            .stack_size(STACK)
+            .spawn_scoped(scope, work);
+        thread.expect("a thread").join().expect("it ends well");
+    });
+}
+
+#[test]
+fn every_call_fits() {
+    on_small_stack(|| every_call(&mut |_, call| call()));
+}
+
+#[test]
+fn no_call_comes_near() {
+    every_call(&mut |name, call| {
+        let bytes = taken(call);
+        assert!(bytes < STACK, "{name} takes {bytes}");
+    });
+}
+
+/// The measure sees a frame of known size.
+#[test]
+fn a_known_frame_is_seen() {
+    let frame = || {
+        let mut bytes = [0u8; 50_000];
+        std::hint::black_box(&mut bytes);
+    };
+    let bytes = taken(&mut || frame());
+    assert!((50_000..52_000).contains(&bytes), "{bytes}");
+}
