@@ -108,7 +108,6 @@ pub fn sessions(rounds: u32) -> Vec<Ratios> {
 pub fn encoding(others: &Others, rounds: u32) -> Ratios {
     let message = GREATEST.message(1);
     let mut frame = coder::frame_of(B, &message);
-    let mut zfec_frame = frame.clone();
     let (mut ours, mut theirs) = ([0; N * S], [0; N * S]);
     let mut contest = Contest::of("all shares of a book", || {
         calls::shares((N, GREATEST.t), black_box(&message), &mut ours).expect("lawful");
@@ -116,28 +115,36 @@ pub fn encoding(others: &Others, rounds: u32) -> Ratios {
     contest.against(FOREIGN, || {
         coder::encode(N, GREATEST.t, black_box(&message), &mut theirs);
     });
-    let mut out = [0; N * S];
     if let Some(isal) = others.isal {
-        let numbers: Vec<u8> = (1..=N as u8).collect();
-        let mut matrix = isal.powers(&numbers, B);
-        let mut made = isal.tables(&mut matrix, B);
-        let mut encode = move |by, tables: &mut [u8]| {
-            isal.encode(by, tables, black_box(&mut frame), S, &mut out);
-        };
-        let (mut native, mut whole) = (encode.clone(), encode.clone());
-        let mut same = made.clone();
-        contest.against(PORTABLE, move || encode(Encoder::Portable, &mut made));
-        contest.against(NATIVE, move || native(Encoder::Native, &mut same));
-        contest.against(PORTABLE_WHOLE, move || {
-            whole(Encoder::Portable, &mut isal.tables(&mut matrix, B))
-        });
+        for (column, by, ready) in [
+            (PORTABLE, Encoder::Portable, true),
+            (PORTABLE_WHOLE, Encoder::Portable, false),
+            (NATIVE, Encoder::Native, true),
+        ] {
+            contest.against(column, isal_encode(isal, by, ready, frame.clone()));
+        }
     }
     if let Some(zfec) = others.zfec {
+        let mut out = [0; N * S];
         contest.against(ZFEC, move || {
-            zfec.encode(black_box(&mut zfec_frame), S, &mut out)
+            zfec.encode(black_box(&mut frame), S, &mut out)
         });
     }
     contest.run(rounds)
+}
+
+/// ISA-L's way from the frame to the shares. Its tables are ready, or made in the call.
+fn isal_encode(isal: Isal, by: Encoder, ready: bool, mut frame: Vec<u8>) -> impl FnMut() {
+    let numbers: Vec<u8> = (1..=N as u8).collect();
+    let mut matrix = isal.powers(&numbers, B);
+    let mut tables = isal.tables(&mut matrix, B);
+    let mut out = [0; N * S];
+    move || {
+        if !ready {
+            tables = isal.tables(&mut matrix, B);
+        }
+        isal.encode(by, &mut tables, black_box(&mut frame), S, &mut out);
+    }
 }
 
 /// The longest message from the shares of the last b parties.

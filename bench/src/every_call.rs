@@ -20,15 +20,15 @@ pub fn every_call(visit: Visit) {
                     length,
                     unhappy,
                 };
-                steps(setting, visit);
-                tools(setting, visit);
+                session(setting, visit);
             }
         }
     }
     strings(visit);
 }
 
-fn steps(setting: Setting, visit: Visit) {
+/// The calls of one session, and the tools on what is sent in it.
+fn session(setting: Setting, visit: Visit) {
     let at = moments::<Proved>(setting);
     let message = setting.message(1);
     visit("open", &mut || {
@@ -38,10 +38,12 @@ fn steps(setting: Setting, visit: Visit) {
     if setting.unhappy > 0 {
         unhappy_steps(setting.n, &at, visit);
     }
-    visit("a step on no state", &mut || {
-        let refused = calls::agree_root(&mut [0xFF; STATE], &at.root);
-        assert!(refused.is_err());
+    let mut none = [0xFF; STATE];
+    visit("any step, no state", &mut || {
+        calls::agree_root(&mut none, &at.root).expect_err("cause 5");
     });
+    code(setting, visit);
+    read(setting.n, &at, visit);
 }
 
 /// Makes a call on a copy of a state.
@@ -94,27 +96,30 @@ fn unhappy_steps(n: usize, at: &Moments<Proved>, visit: Visit) {
         assert!(party.take_relays(&at.second, &mut out).is_some());
     });
     on(&at.relayed[last], "take_relays, nothing", visit, |party| {
-        let found = party.take_relays(&silence, &mut out);
-        assert!(found.is_none() || n == 2);
+        assert!(party.take_relays(&silence, &mut out).is_none());
     });
 }
 
-/// The functions beside the steps.
-fn tools(setting: Setting, visit: Visit) {
-    let (n, group) = (setting.n, (setting.n, setting.t));
+/// The coder.
+fn code(setting: Setting, visit: Visit) {
+    let group = (setting.n, setting.t);
     let message = setting.message(1);
     let mut out = vec![0; MAX_OUTBOX];
     visit("shares", &mut || {
         calls::shares(group, &message, &mut out).expect("shares");
     });
-    let shares = lay_out(&cipangohu::shares(n, setting.t, &message).expect("shares"));
+    let shares = cipangohu::shares(setting.n, setting.t, &message).expect("shares");
+    let shares = lay_out(&shares);
     visit("rebuild", &mut || {
         calls::rebuild(group, &shares, &mut out).expect("a message");
     });
-    let at = moments::<Proved>(setting);
+}
+
+/// What is done with a packet.
+fn read(n: usize, at: &Moments<Proved>, visit: Visit) {
     let relays = entries(&at.second).expect("entries");
     visit("read_packet", &mut || {
-        calls::read_packet(n, relays[0]).expect("a packet");
+        calls::read_packet(n, relays[0]).expect("a packet or silence");
     });
     let Ok(Some(packet)) = read_packet(n, relays[0]) else {
         return;

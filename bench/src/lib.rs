@@ -12,6 +12,7 @@ pub mod report;
 pub mod session;
 pub mod steps;
 pub mod traffic;
+pub mod verdict;
 
 // The modules that speak to the system and to other libraries.
 #[allow(unsafe_code)]

@@ -11,9 +11,9 @@ use figures::every_call::every_call;
 use figures::growth::{growth, Point, Sweep};
 use figures::library::{Isal, Openssl, Zfec};
 use figures::session::GREATEST;
-use figures::stack::taken;
+use figures::stack::{taken, ROOM};
 use figures::traffic::{traffic, Traffic, LENGTHS};
-use figures::{markdown, report};
+use figures::{markdown, report, verdict};
 
 const ROUNDS: u32 = 400;
 
@@ -27,6 +27,12 @@ struct Measured {
     growth: Vec<(Sweep, Vec<Point>)>,
     traffic: Vec<(usize, Vec<Traffic>)>,
     stack: Vec<(&'static str, usize)>,
+}
+
+impl Measured {
+    fn rows(&self) -> impl Iterator<Item = &Ratios> {
+        self.steps.iter().chain(&self.coder).chain(&self.hash)
+    }
 }
 
 /// Loads the libraries and says which are absent.
@@ -128,6 +134,7 @@ fn traffic_section(docs: &Path, measured: &Measured) -> Result<String, Box<dyn E
 
 fn write(docs: &Path, measured: &Measured) -> Result<(), Box<dyn Error>> {
     fs::create_dir_all(docs.join("figures"))?;
+    let rows: Vec<&Ratios> = measured.rows().collect();
     let most = measured
         .stack
         .iter()
@@ -144,12 +151,17 @@ fn write(docs: &Path, measured: &Measured) -> Result<(), Box<dyn Error>> {
         ("{hash}", report::ratios(&measured.hash)),
         ("{isal}", isal_uses().into()),
         ("{openssl}", openssl_uses().into()),
+        ("{targets}", verdict::targets(&rows)),
+        ("{reasons}", verdict::reasons(&rows)),
         ("{growth}", growth_section(docs, measured)?),
         ("{fewer}", fewer.collect::<Vec<_>>().join(" ")),
         ("{traffic}", traffic_section(docs, measured)?),
         ("{stack}", report::stack_table(&measured.stack)),
         ("{most}", markdown::grouped(most)),
-        ("{part}", format!("{:.0} %", most as f64 / 2621.44)),
+        (
+            "{part}",
+            format!("{:.0} %", 100.0 * most as f64 / ROOM as f64),
+        ),
     ]
     .iter()
     .fold(

@@ -55,3 +55,24 @@ pub fn table(head: &[String], rows: &[Vec<String>]) -> String {
     let body: String = rows.iter().map(|row| line(row)).collect();
     format!("{}{rule}{body}", line(head))
 }
+
+#[cfg(test)]
+mod tests {
+    use super::*;
+
+    #[test]
+    fn numbers_are_written_in_groups() {
+        assert_eq!(grouped(0), "0");
+        assert_eq!(grouped(999), "999");
+        assert_eq!(grouped(1_024), "1,024");
+        assert_eq!(grouped(1_234_567), "1,234,567");
+    }
+
+    #[test]
+    fn columns_are_as_wide_as_their_cells() {
+        let head = ["L", "n"].map(str::to_string);
+        let rows = vec![vec!["a".into(), "12".into()], vec!["bc".into(), "3".into()]];
+        let want = "| L  |  n |\n|----|---:|\n| a  | 12 |\n| bc |  3 |\n";
+        assert_eq!(table(&head, &rows), want);
+    }
+}

@@ -4,8 +4,11 @@
 use std::ffi::{c_int, c_ulong, c_void};
 use std::ptr;
 
+/// What every call has to fit in.
+pub const ROOM: usize = 256 * 1024;
+
 /// More than any call takes, so that nothing is written outside it.
-const SIZE: usize = 512 * 1024;
+const SIZE: usize = 2 * ROOM;
 const PAINT: u8 = 0xA5;
 
 /// More than the 56 bytes of a pthread_attr_t.

@@ -4,15 +4,13 @@
 use std::thread;
 
 use figures::every_call::every_call;
-use figures::stack::taken;
-
-const STACK: usize = 256 * 1024;
+use figures::stack::{taken, ROOM};
 
 /// Runs work on a thread of that stack.
 fn on_small_stack(work: impl FnOnce() + Send) {
     thread::scope(|scope| {
         let thread = thread::Builder::new()
-            .stack_size(STACK)
+            .stack_size(ROOM)
             .spawn_scoped(scope, work);
         thread.expect("a thread").join().expect("it ends well");
     });
@@ -21,14 +19,6 @@ fn on_small_stack(work: impl FnOnce() + Send) {
 #[test]
 fn every_call_fits() {
     on_small_stack(|| every_call(&mut |_, call| call()));
-}
-
-#[test]
-fn no_call_comes_near() {
-    every_call(&mut |name, call| {
-        let bytes = taken(call);
-        assert!(bytes < STACK, "{name} takes {bytes}");
-    });
 }
 
 /// The measure sees a frame of known size.
