@@ -20,10 +20,55 @@ pub const ZFEC: &str = "zfec";
 pub const OPENSSL_PLAIN: &str = "OpenSSL, any x86-64";
 pub const OPENSSL: &str = "OpenSSL, for this processor";
 
-/// Time of the proved code as a multiple of the time of each other.
-pub struct Ratios {
+/// The least times at one work: the proved code's, and each other's.
+pub struct Times {
     pub work: &'static str,
-    pub to: Vec<(&'static str, f64)>,
+    proved: f64,
+    others: Vec<(&'static str, f64)>,
+}
+
+impl Times {
+    /// Time of the proved code as a multiple of the time of each other.
+    pub fn ratios(&self) -> impl Iterator<Item = (&'static str, f64)> + '_ {
+        let ratio = |&(name, time): &(&'static str, f64)| (name, self.proved / time);
+        self.others.iter().map(ratio)
+    }
+
+    /// Takes the less of these times and those of the same contest again.
+    fn lessen(&mut self, again: Times) {
+        self.proved = self.proved.min(again.proved);
+        for ((_, time), (_, new)) in self.others.iter_mut().zip(again.others) {
+            *time = time.min(new);
+        }
+    }
+}
+
+/// The contests by their tables: steps and sessions, the coder, the hash.
+pub type Tables = [Vec<Times>; 3];
+
+/// How often all contests are gone through, so that each meets quiet and busy times of the machine.
+const PASSES: u32 = 8;
+
+/// Whole sessions take longer: of so many rounds they get one.
+const SESSIONS: u32 = 5;
+
+/// All contests, with so many rounds each.
+pub fn all(others: &Others, rounds: u32) -> Tables {
+    let rounds = rounds.div_ceil(PASSES);
+    let mut tables = pass(others, rounds);
+    for _ in 1..PASSES {
+        let again = pass(others, rounds).into_iter().flatten();
+        let rows = tables.iter_mut().flatten();
+        rows.zip(again).for_each(|(row, again)| row.lessen(again));
+    }
+    tables
+}
+
+fn pass(others: &Others, rounds: u32) -> Tables {
+    let mut played = steps(rounds);
+    played.extend(sessions(rounds.div_ceil(SESSIONS)));
+    let coder = vec![encoding(others, rounds), rebuilding(others, rounds)];
+    [played, coder, hashing(others, rounds)]
 }
 
 /// The libraries that are there.
@@ -61,31 +106,35 @@ impl<'a> Contest<'a> {
         self.race.add(other);
     }
 
-    fn run(self, rounds: u32) -> Ratios {
+    fn run(self, rounds: u32) -> Times {
         let times = self.race.run(rounds);
-        let ratios = times[1..].iter().map(|time| times[0] / time);
-        Ratios {
+        Times {
             work: self.work,
-            to: self.names.into_iter().zip(ratios).collect(),
+            proved: times[0],
+            others: self
+                .names
+                .into_iter()
+                .zip(times[1..].iter().copied())
+                .collect(),
         }
     }
 }
 
 /// The steps of one party in the greatest session.
-pub fn steps(rounds: u32) -> Vec<Ratios> {
+fn steps(rounds: u32) -> Vec<Times> {
     let (proved, foreign) = (moments::<Proved>(GREATEST), moments::<Foreign>(GREATEST));
-    let ratios = Step::ALL.iter().map(|&step| {
+    let times = Step::ALL.iter().map(|&step| {
         let mut contest = Contest::of(step.name(), work(step, GREATEST, &proved));
         contest.against(FOREIGN, work(step, GREATEST, &foreign));
         contest.run(rounds)
     });
-    ratios.collect()
+    times.collect()
 }
 
 /// Whole sessions: all parties happy, and as many unhappy as there may be bad.
-pub fn sessions(rounds: u32) -> Vec<Ratios> {
+fn sessions(rounds: u32) -> Vec<Times> {
     let named = [("a sitting, one book", 0), ("a sitting, seven rebuild", 7)];
-    let ratios = named.map(|(name, unhappy)| {
+    let times = named.map(|(name, unhappy)| {
         let setting = Setting {
             unhappy,
             ..GREATEST
@@ -101,11 +150,11 @@ pub fn sessions(rounds: u32) -> Vec<Ratios> {
         });
         contest.run(rounds)
     });
-    ratios.into()
+    times.into()
 }
 
 /// All shares of the longest message.
-pub fn encoding(others: &Others, rounds: u32) -> Ratios {
+fn encoding(others: &Others, rounds: u32) -> Times {
     let message = GREATEST.message(1);
     let mut frame = coder::frame_of(B, &message);
     let (mut ours, mut theirs) = ([0; N * S], [0; N * S]);
@@ -148,7 +197,7 @@ fn isal_encode(isal: Isal, by: Encoder, ready: bool, mut frame: Vec<u8>) -> impl
 }
 
 /// The longest message from the shares of the last b parties.
-pub fn rebuilding(others: &Others, rounds: u32) -> Ratios {
+fn rebuilding(others: &Others, rounds: u32) -> Times {
     let message = GREATEST.message(1);
     let mut frame = coder::frame_of(B, &message);
     let mut shares = coder::shares_of(N, B, &frame);
@@ -204,12 +253,12 @@ fn isal_rebuild(isal: Isal, by: Encoder, frame: &mut [u8]) -> impl FnMut() {
 }
 
 /// The hash of the longest string, and of a leaf string of the greatest session.
-pub fn hashing(others: &Others, rounds: u32) -> Vec<Ratios> {
+fn hashing(others: &Others, rounds: u32) -> Vec<Times> {
     let named = [
         ("hash of 65,535 bytes", MAX_HASHED),
         ("hash of a leaf string", 2 + S),
     ];
-    let ratios = named.map(|(name, length)| {
+    let times = named.map(|(name, length)| {
         let message = Random::new(3).bytes(length);
         let mut digest = [0; 32];
         let mut contest = Contest::of(name, || {
@@ -230,5 +279,5 @@ pub fn hashing(others: &Others, rounds: u32) -> Vec<Ratios> {
         }
         contest.run(rounds)
     });
-    ratios.into()
+    times.into()
 }

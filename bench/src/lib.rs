@@ -1,7 +1,6 @@
 //! Measures the proved library: its time against other implementations and as sizes grow, the bytes
 //! that a session sends, and the stack that each call takes. Times are given as ratios only.
 
-mod clock;
 pub mod contest;
 pub mod every_call;
 pub mod growth;
@@ -15,6 +14,8 @@ pub mod traffic;
 pub mod verdict;
 
 // The modules that speak to the system and to other libraries.
+#[allow(unsafe_code)]
+mod clock;
 #[allow(unsafe_code)]
 pub mod library;
 #[allow(unsafe_code)]

@@ -6,7 +6,7 @@ use std::error::Error;
 use std::path::Path;
 use std::{env, fs};
 
-use figures::contest::{self, Others, Ratios};
+use figures::contest::{self, Others, Tables};
 use figures::every_call::every_call;
 use figures::growth::{growth, Point, Sweep};
 use figures::library::{Isal, Openssl, Zfec};
@@ -17,22 +17,11 @@ use figures::{markdown, report, verdict};
 
 const ROUNDS: u32 = 400;
 
-/// Whole sessions take longer, and need fewer rounds.
-const SESSION_ROUNDS: u32 = 10;
-
 struct Measured {
-    steps: Vec<Ratios>,
-    coder: Vec<Ratios>,
-    hash: Vec<Ratios>,
+    contests: Tables,
     growth: Vec<(Sweep, Vec<Point>)>,
     traffic: Vec<(usize, Vec<Traffic>)>,
     stack: Vec<(&'static str, usize)>,
-}
-
-impl Measured {
-    fn rows(&self) -> impl Iterator<Item = &Ratios> {
-        self.steps.iter().chain(&self.coder).chain(&self.hash)
-    }
 }
 
 /// Loads the libraries and says which are absent.
@@ -71,15 +60,8 @@ fn stacks() -> Vec<(&'static str, usize)> {
 }
 
 fn measure(others: &Others, rounds: u32) -> Measured {
-    let mut steps = contest::steps(rounds);
-    steps.extend(contest::sessions(rounds.div_ceil(SESSION_ROUNDS)));
     Measured {
-        steps,
-        coder: vec![
-            contest::encoding(others, rounds),
-            contest::rebuilding(others, rounds),
-        ],
-        hash: contest::hashing(others, rounds),
+        contests: contest::all(others, rounds),
         growth: growth(rounds.div_ceil(2)),
         traffic: LENGTHS
             .iter()
@@ -134,7 +116,7 @@ fn traffic_section(docs: &Path, measured: &Measured) -> Result<String, Box<dyn E
 
 fn write(docs: &Path, measured: &Measured) -> Result<(), Box<dyn Error>> {
     fs::create_dir_all(docs.join("figures"))?;
-    let rows: Vec<&Ratios> = measured.rows().collect();
+    let [steps, coder, hash] = &measured.contests;
     let most = measured
         .stack
         .iter()
@@ -146,13 +128,13 @@ fn write(docs: &Path, measured: &Measured) -> Result<(), Box<dyn Error>> {
         .iter()
         .map(|(length, of)| report::fewer_from(*length, of));
     let page = [
-        ("{steps}", report::ratios(&measured.steps)),
-        ("{coder}", report::ratios(&measured.coder)),
-        ("{hash}", report::ratios(&measured.hash)),
+        ("{steps}", report::ratios(steps)),
+        ("{coder}", report::ratios(coder)),
+        ("{hash}", report::ratios(hash)),
         ("{isal}", isal_uses().into()),
         ("{openssl}", openssl_uses().into()),
-        ("{targets}", verdict::targets(&rows)),
-        ("{reasons}", verdict::reasons(&rows)),
+        ("{targets}", verdict::targets(&measured.contests)),
+        ("{reasons}", verdict::reasons(&measured.contests)),
         ("{growth}", growth_section(docs, measured)?),
         ("{fewer}", fewer.collect::<Vec<_>>().join(" ")),
         ("{traffic}", traffic_section(docs, measured)?),
@@ -177,7 +159,7 @@ fn main() -> Result<(), Box<dyn Error>> {
     let docs = words.next().ok_or("which folder is docs?")?;
     let rounds = words.next().map_or(Ok(ROUNDS), |rounds| rounds.parse())?;
     let measured = measure(&others(), rounds);
-    for rows in [&measured.steps, &measured.coder, &measured.hash] {
+    for rows in &measured.contests {
         println!("{}", report::ratios(rows));
     }
     println!("{}", report::stack_table(&measured.stack));

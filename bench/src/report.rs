@@ -1,24 +1,24 @@
 //! The text of docs/FIGURES.md and its plots, from what was measured.
 
-use crate::contest::Ratios;
+use crate::contest::Times;
 use crate::growth::{Point, Sweep, STEPS};
 use crate::markdown::{grouped, ratio, table};
 use crate::plot::{Line, Plot};
 use crate::traffic::Traffic;
 
 /// A table of ratios whose columns are the rivals in the order in which they are first named.
-pub fn ratios(rows: &[Ratios]) -> String {
+pub fn ratios(rows: &[Times]) -> String {
     let mut columns: Vec<&str> = Vec::new();
-    for (name, _) in rows.iter().flat_map(|row| &row.to) {
-        if !columns.contains(name) {
+    for (name, _) in rows.iter().flat_map(Times::ratios) {
+        if !columns.contains(&name) {
             columns.push(name);
         }
     }
-    let cell = |row: &Ratios, column: &str| {
-        let found = row.to.iter().find(|(name, _)| *name == column);
-        found.map_or("–".into(), |(_, value)| ratio(*value))
+    let cell = |row: &Times, column: &str| {
+        let found = row.ratios().find(|(name, _)| *name == column);
+        found.map_or("–".into(), |(_, value)| ratio(value))
     };
-    let line = |row: &Ratios| {
+    let line = |row: &Times| {
         let cells = columns.iter().map(|column| cell(row, column));
         std::iter::once(row.work.to_string()).chain(cells).collect()
     };

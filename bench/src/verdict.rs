@@ -1,7 +1,7 @@
 //! What the ratios come to: where the proved library is behind, and why.
 
 use crate::contest::{
-    Ratios, FOREIGN, NATIVE, OPENSSL, OPENSSL_PLAIN, PORTABLE, PORTABLE_WHOLE, ZFEC,
+    Tables, FOREIGN, NATIVE, OPENSSL, OPENSSL_PLAIN, PORTABLE, PORTABLE_WHOLE, ZFEC,
 };
 use crate::markdown::ratio;
 
@@ -37,36 +37,35 @@ const REASONS: [(&str, &str); 6] = [
 ];
 
 /// The works at which the proved library takes longer than another.
-fn behind(rows: &[&Ratios], other: &str) -> Vec<String> {
+fn behind(tables: &Tables, other: &str) -> Vec<String> {
     let mut found = Vec::new();
-    for row in rows {
+    for row in tables.iter().flatten() {
         let slower = row
-            .to
-            .iter()
+            .ratios()
             .filter(|(name, r)| *name == other && *r > 1.0 + NOISE);
-        found.extend(slower.map(|(_, r)| format!("{} ({})", row.work, ratio(*r))));
+        found.extend(slower.map(|(_, r)| format!("{} ({})", row.work, ratio(r))));
     }
     found
 }
 
 /// A line on one target.
-fn target(rows: &[&Ratios], other: &str) -> String {
-    match behind(rows, other) {
+fn target(tables: &Tables, other: &str) -> String {
+    match behind(tables, other) {
         none if none.is_empty() => format!("- No slower than {other} at anything measured.\n"),
         some => format!("- Slower than {other}: {}.\n", some.join(", ")),
     }
 }
 
 /// Whether the targets are met.
-pub fn targets(rows: &[&Ratios]) -> String {
+pub fn targets(tables: &Tables) -> String {
     [FOREIGN, PORTABLE]
-        .map(|other| target(rows, other))
+        .map(|other| target(tables, other))
         .concat()
 }
 
 /// For each library that is quicker, at what, by how much, and why.
-pub fn reasons(rows: &[&Ratios]) -> String {
-    let line = |(other, reason): &(&str, &str)| match behind(rows, other) {
+pub fn reasons(tables: &Tables) -> String {
+    let line = |(other, reason): &(&str, &str)| match behind(tables, other) {
         none if none.is_empty() => String::new(),
         some => format!("- {other}: {}; {reason}.\n", some.join(", ")),
     };
