@@ -27,7 +27,7 @@
  * so is the own entry.
  *
  * Buffers of one call must not overlap. Through a pointer with length 0 nothing is read or written. Nothing is global: calls on different
- * buffers may run at once. In a trial of all functions a call took up to 107,152 bytes of stack. */
+ * buffers may run at once. In trials every call fits a stack of 256 KiB; docs/FIGURES.md tells what each takes. */
 #ifndef CIPANGOHU_H
 #define CIPANGOHU_H
 

@@ -34,37 +34,21 @@ impl Times {
         self.others.iter().map(ratio)
     }
 
-    /// Takes the less of these times and those of the same contest again.
-    fn lessen(&mut self, again: Times) {
-        self.proved = self.proved.min(again.proved);
-        for ((_, time), (_, new)) in self.others.iter_mut().zip(again.others) {
-            *time = time.min(new);
-        }
+    /// The proved code's time, then the others'.
+    pub fn each(&mut self) -> impl Iterator<Item = &mut f64> {
+        let others = self.others.iter_mut().map(|(_, time)| time);
+        std::iter::once(&mut self.proved).chain(others)
     }
 }
 
 /// The contests by their tables: steps and sessions, the coder, the hash.
 pub type Tables = [Vec<Times>; 3];
 
-/// How often all contests are gone through, so that each meets quiet and busy times of the machine.
-const PASSES: u32 = 8;
-
 /// Whole sessions take longer: of so many rounds they get one.
 const SESSIONS: u32 = 5;
 
 /// All contests, with so many rounds each.
-pub fn all(others: &Others, rounds: u32) -> Tables {
-    let rounds = rounds.div_ceil(PASSES);
-    let mut tables = pass(others, rounds);
-    for _ in 1..PASSES {
-        let again = pass(others, rounds).into_iter().flatten();
-        let rows = tables.iter_mut().flatten();
-        rows.zip(again).for_each(|(row, again)| row.lessen(again));
-    }
-    tables
-}
-
-fn pass(others: &Others, rounds: u32) -> Tables {
+pub fn contests(others: &Others, rounds: u32) -> Tables {
     let mut played = steps(rounds);
     played.extend(sessions(rounds.div_ceil(SESSIONS)));
     let coder = vec![encoding(others, rounds), rebuilding(others, rounds)];

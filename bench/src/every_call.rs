@@ -10,7 +10,7 @@ pub type Visit<'a> = &'a mut dyn FnMut(&'static str, &mut dyn FnMut());
 
 /// All calls, with the least and the greatest numbers of parties, faults and bytes and those between.
 pub fn every_call(visit: Visit) {
-    for n in 1..=GREATEST.n {
+    for n in (1..=GREATEST.n).rev() {
         for t in [0, most_faults(n)] {
             for length in [0, 1, 100, MAX_MESSAGE] {
                 let unhappy = usize::from(n > 1);

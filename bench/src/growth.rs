@@ -16,9 +16,34 @@ pub enum Sweep {
     Faults,
 }
 
+#[derive(Clone)]
 pub struct Point {
     pub x: usize,
     pub times: [f64; STEPS.len()],
+}
+
+pub type Sweeps = Vec<(Sweep, Vec<Point>)>;
+
+/// The times of all points, and that of the opening in the greatest session.
+pub struct Growth {
+    opening: f64,
+    sweeps: Sweeps,
+}
+
+impl Growth {
+    pub fn each(&mut self) -> impl Iterator<Item = &mut f64> {
+        let points = self.sweeps.iter_mut().flat_map(|(_, points)| points);
+        std::iter::once(&mut self.opening).chain(points.flat_map(|point| &mut point.times))
+    }
+
+    /// The times as multiples of that opening's.
+    pub fn relative(&self) -> Sweeps {
+        let mut sweeps = self.sweeps.clone();
+        for point in sweeps.iter_mut().flat_map(|(_, points)| points) {
+            point.times = point.times.map(|time| time / self.opening);
+        }
+        sweeps
+    }
 }
 
 impl Sweep {
@@ -50,7 +75,7 @@ impl Sweep {
 }
 
 /// The points of each sweep, all measured in turns.
-pub fn growth(rounds: u32) -> Vec<(Sweep, Vec<Point>)> {
+pub fn growth(rounds: u32) -> Growth {
     let settings: Vec<_> = Sweep::ALL.iter().map(|sweep| sweep.settings()).collect();
     let all = settings.iter().flatten();
     let states: Vec<_> = all
@@ -70,11 +95,14 @@ pub fn growth(rounds: u32) -> Vec<(Sweep, Vec<Point>)> {
         let own = measured.next().expect("times for each setting");
         Point {
             x,
-            times: std::array::from_fn(|step| own[step] / times[0]),
+            times: std::array::from_fn(|step| own[step]),
         }
     };
     let swept = settings
         .iter()
         .map(|of| of.iter().map(&mut point).collect());
-    Sweep::ALL.into_iter().zip(swept).collect()
+    Growth {
+        opening: times[0],
+        sweeps: Sweep::ALL.into_iter().zip(swept).collect(),
+    }
 }

@@ -6,6 +6,7 @@ pub mod every_call;
 pub mod growth;
 pub mod markdown;
 pub mod party;
+pub mod passes;
 pub mod plot;
 pub mod report;
 pub mod session;

@@ -1,39 +1,44 @@
 //! Measures everything, prints the ratios, and writes docs/FIGURES.md with its plots.
 //!
 //!     figures DOCS [ROUNDS]    # DOCS is the folder; more rounds take longer and trouble less
+//!     figures pass ROUNDS      # one pass, as the first runs several of
 
 use std::error::Error;
 use std::path::Path;
 use std::{env, fs};
 
-use figures::contest::{self, Others, Tables};
+use figures::contest::{Others, Tables};
 use figures::every_call::every_call;
-use figures::growth::{growth, Point, Sweep};
+use figures::growth::Sweeps;
 use figures::library::{Isal, Openssl, Zfec};
 use figures::session::GREATEST;
 use figures::stack::{taken, ROOM};
 use figures::traffic::{traffic, Traffic, LENGTHS};
-use figures::{markdown, report, verdict};
+use figures::{markdown, passes, report, verdict};
 
 const ROUNDS: u32 = 400;
 
 struct Measured {
     contests: Tables,
-    growth: Vec<(Sweep, Vec<Point>)>,
+    growth: Sweeps,
     traffic: Vec<(usize, Vec<Traffic>)>,
     stack: Vec<(&'static str, usize)>,
 }
 
-/// Loads the libraries and says which are absent.
-fn others() -> Others {
+/// Loads the libraries.
+fn load() -> Others {
     let openssl = Openssl::native();
     let file = env::var("ZFEC").unwrap_or_default();
-    let others = Others {
+    Others {
         isal: Isal::load(),
         zfec: Zfec::load(&file, GREATEST.n - GREATEST.t, GREATEST.n),
         openssl_plain: openssl.and_then(|_| Openssl::plain()),
         openssl,
-    };
+    }
+}
+
+/// Says which libraries are absent.
+fn tell_absent(others: &Others) {
     for (absent, package) in [
         (others.isal.is_none(), "libisal2"),
         (others.zfec.is_none(), "python3-zfec"),
@@ -43,7 +48,6 @@ fn others() -> Others {
             println!("left out, since the Debian package {package} is absent\n");
         }
     }
-    others
 }
 
 /// The greatest stack of each call over all numbers and lengths.
@@ -59,16 +63,17 @@ fn stacks() -> Vec<(&'static str, usize)> {
     greatest
 }
 
-fn measure(others: &Others, rounds: u32) -> Measured {
-    Measured {
-        contests: contest::all(others, rounds),
-        growth: growth(rounds.div_ceil(2)),
+fn measure(others: &Others, rounds: u32) -> Result<Measured, Box<dyn Error>> {
+    let timed = passes::all(others, rounds)?;
+    Ok(Measured {
+        growth: timed.growth.relative(),
+        contests: timed.contests,
         traffic: LENGTHS
             .iter()
             .map(|&length| (length, traffic(length)))
             .collect(),
         stack: stacks(),
-    }
+    })
 }
 
 /// The most of what ISA-L's coder looks for that this processor has.
@@ -96,22 +101,23 @@ fn picture(docs: &Path, file: &str, plot: &figures::plot::Plot) -> Result<String
 }
 
 fn growth_section(docs: &Path, measured: &Measured) -> Result<String, Box<dyn Error>> {
-    let mut section = String::new();
+    let mut parts = Vec::new();
     for (sweep, points) in &measured.growth {
-        section += &picture(docs, sweep.file(), &report::growth_plot(*sweep, points))?;
-        section += &format!("\n{}\n", report::growth_table(*sweep, points));
+        let plot = report::growth_plot(*sweep, points);
+        parts.push(picture(docs, sweep.file(), &plot)?);
+        parts.push(report::growth_table(*sweep, points));
     }
-    Ok(section)
+    Ok(parts.join("\n"))
 }
 
 fn traffic_section(docs: &Path, measured: &Measured) -> Result<String, Box<dyn Error>> {
-    let mut section = String::new();
+    let mut parts = Vec::new();
     for (length, traffic) in measured.traffic.iter().filter(|(length, _)| *length > 0) {
-        let file = report::traffic_file(*length);
-        section += &picture(docs, &file, &report::traffic_plot(*length, traffic))?;
-        section += "\n";
+        let plot = report::traffic_plot(*length, traffic);
+        parts.push(picture(docs, &report::traffic_file(*length), &plot)?);
     }
-    Ok(section + &report::traffic_table(&measured.traffic) + "\n")
+    parts.push(report::traffic_table(&measured.traffic));
+    Ok(parts.join("\n"))
 }
 
 fn write(docs: &Path, measured: &Measured) -> Result<(), Box<dyn Error>> {
@@ -156,12 +162,18 @@ fn write(docs: &Path, measured: &Measured) -> Result<(), Box<dyn Error>> {
 
 fn main() -> Result<(), Box<dyn Error>> {
     let mut words = env::args().skip(1);
-    let docs = words.next().ok_or("which folder is docs?")?;
+    let first = words.next().ok_or("which folder is docs?")?;
     let rounds = words.next().map_or(Ok(ROUNDS), |rounds| rounds.parse())?;
-    let measured = measure(&others(), rounds);
+    let others = load();
+    if first == passes::WORD {
+        passes::print(&others, rounds);
+        return Ok(());
+    }
+    tell_absent(&others);
+    let measured = measure(&others, rounds)?;
     for rows in &measured.contests {
         println!("{}", report::ratios(rows));
     }
     println!("{}", report::stack_table(&measured.stack));
-    write(Path::new(&docs), &measured)
+    write(Path::new(&first), &measured)
 }

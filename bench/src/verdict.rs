@@ -32,7 +32,7 @@ const REASONS: [(&str, &str); 6] = [
     ),
     (
         OPENSSL,
-        "it uses what this processor has for hashing, and no compiler for any x86-64 may do so",
+        "it uses what this processor has for hashing, which code for any x86-64 must not",
     ),
 ];
 
