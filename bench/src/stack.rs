@@ -61,20 +61,18 @@ pub fn taken(call: &mut dyn FnMut()) -> usize {
     };
     let mut attributes: Attributes = [0; 16];
     let mut thread = 0;
-    // SAFETY: the attributes have room, the stack outlives the thread, which is joined here, and the
+    let argument = ptr::from_mut(&mut measured).cast();
+    // SAFETY: the attributes have room, the stack outlives the thread, which is joined below, and the
     // argument is what `measure` expects.
     let failures = unsafe {
         pthread_attr_init(&mut attributes)
             | pthread_attr_setstack(&mut attributes, lowest.cast(), SIZE)
-            | pthread_create(
-                &mut thread,
-                &attributes,
-                measure,
-                ptr::from_mut(&mut measured).cast(),
-            )
-            | pthread_join(thread, ptr::null_mut())
-            | pthread_attr_destroy(&mut attributes)
+            | pthread_create(&mut thread, &attributes, measure, argument)
     };
     assert_eq!(failures, 0, "a thread on a stack of its own");
+    // SAFETY: the thread was made, and the attributes are not used again.
+    let failures =
+        unsafe { pthread_join(thread, ptr::null_mut()) | pthread_attr_destroy(&mut attributes) };
+    assert_eq!(failures, 0, "the thread ends");
     measured.taken
 }
