@@ -1,13 +1,11 @@
 //! One call of the library with its arguments, made on lent buffers by the library and by the
 //! foreign implementation.
 
-use std::collections::BTreeMap;
-
 use cipangohu::{calls, Cause};
 
 use crate::reference;
 
-#[derive(Clone, Debug)]
+#[derive(Clone, Debug, PartialEq)]
 pub enum Call {
     Open((usize, usize, usize), Vec<u8>),
     AgreeRoot(Vec<u8>),
@@ -32,7 +30,7 @@ pub struct Lent {
 }
 
 impl Call {
-    fn name(&self) -> &'static str {
+    pub fn name(&self) -> &'static str {
         match self {
             Call::Open(..) => "open",
             Call::AgreeRoot(_) => "agree_root",
@@ -48,38 +46,8 @@ impl Call {
     }
 }
 
-/// A copy of lent bytes between two margins, which no call may touch.
-struct Margins(Vec<u8>);
-
-const MARGIN: [u8; 64] = [0xC3; 64];
-
-impl Margins {
-    fn around(bytes: &[u8]) -> Margins {
-        Margins([&MARGIN, bytes, &MARGIN].concat())
-    }
-
-    fn within(&mut self) -> &mut [u8] {
-        let end = self.0.len() - MARGIN.len();
-        &mut self.0[MARGIN.len()..end]
-    }
-
-    /// The bytes, if the margins are as they were.
-    fn checked(mut self) -> Vec<u8> {
-        assert!(self.0.starts_with(&MARGIN) && self.0.ends_with(&MARGIN));
-        self.within().to_vec()
-    }
-}
-
-/// The library's answer, with its buffers checked for bytes written beside them.
-fn library(call: &Call, lent: &mut Lent) -> Answer {
-    let (mut state, mut out) = (Margins::around(&lent.state), Margins::around(&lent.out));
-    let answer = answered(call, state.within(), out.within());
-    lent.state = state.checked();
-    lent.out = out.checked();
-    answer
-}
-
-fn answered(call: &Call, state: &mut [u8], out: &mut [u8]) -> Answer {
+/// The library's answer.
+pub fn answered(call: &Call, state: &mut [u8], out: &mut [u8]) -> Answer {
     match call {
         Call::Open(group, message) => calls::open(*group, message, state, out),
         Call::AgreeRoot(root) => calls::agree_root(state, root),
@@ -94,29 +62,13 @@ fn answered(call: &Call, state: &mut [u8], out: &mut [u8]) -> Answer {
     }
 }
 
-/// How often each call had each cause, 0 for accepted.
-#[derive(Default)]
-pub struct Tally(BTreeMap<(&'static str, u32), usize>);
-
-impl Tally {
-    fn count(&mut self, call: &Call, answer: Answer) {
-        let cause = answer.err().map_or(0, |cause| cause.number);
-        *self.0.entry((call.name(), cause)).or_default() += 1;
-    }
-
-    /// Prints the counts; the call must have had each of its causes, and no other.
-    pub fn expect(&self, name: &str, causes: &[u32]) {
-        let counts = self.0.iter().filter(|((call, _), _)| *call == name);
-        let found: Vec<(u32, usize)> = counts.map(|((_, cause), times)| (*cause, *times)).collect();
-        println!("{name}: (cause, times) {found:?}");
-        let had: Vec<u32> = found.iter().map(|(cause, _)| *cause).collect();
-        assert_eq!(had, causes, "{name}");
-        assert!(found.iter().all(|(_, times)| *times >= 5), "{name}");
-    }
-}
-
-/// Makes the call on both sides and compares the answers and every lent byte.
-pub fn compare(call: &Call, lent: &mut Lent, tally: &mut Tally) -> Answer {
+/// Makes the call on both sides and compares the answers and every lent byte. `library` is how the
+/// library's buffers are lent.
+pub fn beside(
+    call: &Call,
+    lent: &mut Lent,
+    library: impl FnOnce(&Call, &mut Lent) -> Answer,
+) -> Answer {
     let before = lent.clone();
     let mut expected = lent.clone();
     let told = reference::answer(call, &mut expected);
@@ -130,6 +82,5 @@ pub fn compare(call: &Call, lent: &mut Lent, tally: &mut Tally) -> Answer {
         answer.is_ok() || *lent == before,
         "{call:?} refused with bytes changed"
     );
-    tally.count(call, answer);
     answer
 }

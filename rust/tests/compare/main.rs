@@ -8,13 +8,15 @@ mod call;
 mod made;
 mod reference;
 mod safe;
+mod tally;
 
 use cipangohu::{lay_out, MAX_HASHED, MAX_MESSAGE, MAX_OUTBOX, STATE};
 use foreign::liars::{flip, Lie, Scene, Sharing, Way};
 use foreign::random::Random;
 
-use call::{compare, Call, Lent, Tally};
+use call::{Call, Lent};
 use made::{dirt, group, message, odd_group, room, spoil, Play, ODD};
+use tally::{compare, Tally};
 
 /// How many cases a test runs.
 fn times(usual: usize) -> usize {
