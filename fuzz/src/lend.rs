@@ -1,0 +1,61 @@
+//! Calls as the fuzzer makes them: on buffers that are allocations of just their length, so that an
+//! access beside one is seen, and held to the header and to the foreign implementation.
+
+use std::sync::atomic::{AtomicU64, Ordering::Relaxed};
+
+use crate::call::{answered, beside, Answer, Call, Lent};
+
+/// Each function with the causes that the header lists for it, 0 for accepted.
+const LISTED: [(&str, &[u32]); 10] = [
+    ("open", &[0, 1, 2, 3, 4, 9]),
+    ("agree_root", &[0, 5, 6, 7]),
+    ("agree_bit", &[0, 5, 6, 7, 9]),
+    ("take_shares", &[0, 5, 6, 8, 9]),
+    ("take_relays", &[0, 5, 6, 8, 9]),
+    ("read_packet", &[0, 1, 10]),
+    ("check_path", &[0, 1, 3, 4, 7]),
+    ("shares", &[0, 1, 2, 4, 9]),
+    ("rebuild", &[0, 1, 2, 8, 9, 11, 12]),
+    ("hash", &[0, 4, 9]),
+];
+
+/// How often each function had each cause.
+static TIMES: [[AtomicU64; 13]; 10] = [const { [const { AtomicU64::new(0) }; 13] }; 10];
+
+/// The library's answer. A clone's allocations have no room to spare, and an empty one has none.
+fn library(call: &Call, lent: &mut Lent) -> Answer {
+    let given = call.clone();
+    let mut exact = lent.clone();
+    let answer = answered(&given, &mut exact.state, &mut exact.out);
+    assert!(given == *call, "{call:?} changed what it was to read");
+    *lent = exact;
+    answer
+}
+
+/// Makes a call, held to all that is known of it.
+pub fn checked(call: &Call, lent: &mut Lent) -> Answer {
+    let answer = beside(call, lent, library);
+    let (cause, needed) = answer
+        .err()
+        .map_or((0, 0), |cause| (cause.number, cause.needed));
+    let place = LISTED.iter().position(|(name, _)| *name == call.name());
+    let place = place.expect("a listed function");
+    assert!(LISTED[place].1.contains(&cause), "{call:?}: cause {cause}");
+    assert!(cause == 9 || needed == 0, "{call:?}: value {needed}");
+    TIMES[place][cause as usize].fetch_add(1, Relaxed);
+    answer
+}
+
+/// Prints for each function how often it was accepted and how often it had each cause.
+pub extern "C" fn print_times() {
+    for ((name, causes), times) in LISTED.iter().zip(&TIMES) {
+        let told = causes.iter().map(|cause| {
+            let times = times[*cause as usize].load(Relaxed);
+            match cause {
+                0 => format!("accepted {times}"),
+                _ => format!("cause {cause} {times}"),
+            }
+        });
+        eprintln!("calls: {name}: {}", told.collect::<Vec<_>>().join(", "));
+    }
+}

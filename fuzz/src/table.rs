@@ -1,0 +1,333 @@
+//! The table that the fuzzer plays at: four seats with the state of a party each, and what the
+//! library wrote for them, from which later calls are made. Each turn is one call, or a change that
+//! a host should not make.
+
+use std::mem::take;
+
+use cipangohu::{entries, lay_out, Cause, STATE};
+use foreign::liars::Sharing;
+
+use crate::call::{Call, Lent};
+use crate::input::Input;
+use crate::lend::checked;
+
+const SEATS: usize = 4;
+
+/// Turns of a list, so that one list does not take long.
+const TURNS: usize = 48;
+
+/// The longest string that is hashed, with a little less than a seat's worth beyond it.
+const LONG: usize = 65_528;
+
+#[derive(Clone, Default)]
+struct Seat {
+    state: Vec<u8>,
+    root: Vec<u8>,
+    /// The packet that bears each number, if one was written.
+    packets: [Vec<u8>; 17],
+}
+
+struct Table<'a> {
+    input: Input<'a>,
+    group: (usize, usize),
+    message: Vec<u8>,
+    seats: [Seat; SEATS],
+    /// Shares as the library wrote them last.
+    shares: Vec<Vec<u8>>,
+}
+
+/// Plays the list of calls that the bytes say.
+pub fn play(bytes: &[u8]) {
+    let mut input = Input::new(bytes);
+    let n = 1 + input.below(16);
+    let mut table = Table {
+        group: (n, input.below(n.div_ceil(2))),
+        message: input.bytes(),
+        input,
+        seats: Default::default(),
+        shares: Vec::new(),
+    };
+    for _ in 0..TURNS {
+        if table.input.is_empty() {
+            break;
+        }
+        table.turn();
+    }
+}
+
+/// Bytes for a buffer, none of them a zero that nobody would miss.
+fn dirt(length: usize) -> Vec<u8> {
+    (0..length).map(|place| (37 * place) as u8 | 1).collect()
+}
+
+/// The share and the path in a packet, wherever it ends.
+fn parts(packet: &[u8]) -> (Vec<u8>, Vec<u8>) {
+    let (head, rest) = packet.split_at(packet.len().min(4));
+    let length = head
+        .get(2..4)
+        .map_or(0, |two| usize::from(two[0]) * 256 + usize::from(two[1]));
+    let (share, path) = rest.split_at(rest.len().min(length));
+    (share.to_vec(), path.to_vec())
+}
+
+/// Writes bytes over others at a place, if they reach so far.
+fn put(bytes: &mut [u8], at: usize, new: &[u8]) {
+    if let Some(old) = bytes.get_mut(at..at + new.len()) {
+        old.copy_from_slice(new);
+    }
+}
+
+impl Table<'_> {
+    /// The numbers of the turns are those of fuzz/seeds.
+    fn turn(&mut self) {
+        let (kind, seat) = (self.input.below(13), self.input.below(SEATS));
+        match kind {
+            0 => self.open(seat),
+            1 => self.agree_root(seat),
+            2 => self.agree_bit(seat),
+            3 => self.take_shares(seat),
+            4 => self.take_relays(seat),
+            5 => self.read_packet(),
+            6 => self.check_path(),
+            7 => self.make_shares(),
+            8 => self.rebuild(),
+            9 => self.hash(),
+            10 => self.spoil(seat),
+            11 => self.seats[seat] = self.seats[self.input.below(SEATS)].clone(),
+            _ => self.forge(seat),
+        }
+    }
+
+    /// Makes a call on a seat's state and, where it lacks room, again with as much as the input
+    /// says. Gives what it wrote.
+    fn made(&mut self, seat: usize, call: &Call) -> Option<Vec<u8>> {
+        let state = take(&mut self.seats[seat].state);
+        let out = dirt(self.input.room(0));
+        let mut lent = Lent { state, out };
+        let mut answer = checked(call, &mut lent);
+        if let Err(Cause { number: 9, needed }) = answer {
+            lent.out = dirt(self.input.room(needed));
+            answer = checked(call, &mut lent);
+        }
+        self.seats[seat].state = lent.state;
+        lent.out.truncate(answer.ok()? as usize);
+        Some(lent.out)
+    }
+
+    fn message(&mut self) -> Vec<u8> {
+        match self.input.below(6) {
+            0 => self.message.clone(),
+            1 => self.input.bytes(),
+            2 => dirt(self.input.wide(1_030)),
+            3 => vec![self.input.byte(); 1_022 + self.input.below(5)],
+            4 => Vec::new(),
+            _ => {
+                let mut message = self.message.clone();
+                self.input.bend(&mut message);
+                message
+            }
+        }
+    }
+
+    /// The root of a seat, now and then changed.
+    fn root(&mut self) -> Vec<u8> {
+        let choice = self.input.byte();
+        let mut root = self.seats[usize::from(choice) % SEATS].root.clone();
+        if choice >= 128 {
+            self.input.bend(&mut root);
+        }
+        root
+    }
+
+    /// The packet that a seat wrote with a number, or else another seat.
+    fn written(&self, seat: usize, number: usize) -> Vec<u8> {
+        let seats = (seat..seat + SEATS).map(|place| &self.seats[place % SEATS]);
+        let mut packets = seats.filter_map(|seat| seat.packets.get(number));
+        let found = packets.find(|packet| !packet.is_empty());
+        found.cloned().unwrap_or_default()
+    }
+
+    /// What a good or a bad party puts where this number is demanded.
+    fn packet(&mut self, number: usize) -> Vec<u8> {
+        let choice = self.input.byte();
+        let seat = usize::from(choice / 8) % SEATS;
+        match choice % 8 {
+            0 | 1 => self.written(seat, number),
+            2 => Vec::new(),
+            3 => self.input.bytes(),
+            4 => {
+                let other = self.input.below(17);
+                self.written(seat, other)
+            }
+            5 => vec![0],
+            6 => {
+                let share = self.input.bytes();
+                [&[7, number as u8, 0, self.input.byte()], &share[..]].concat()
+            }
+            _ => {
+                let mut packet = self.written(seat, number);
+                self.input.bend(&mut packet);
+                packet
+            }
+        }
+    }
+
+    /// The inbox of exchange 0 or 1: as good parties fill it, entry by entry as the input says, that
+    /// with its layout changed, or any bytes.
+    fn inbox(&mut self, seat: usize, exchange: usize) -> Vec<u8> {
+        let state = &self.seats[seat].state;
+        let at = |place| state.get(place).map_or(0, |&byte: &u8| usize::from(byte));
+        let (n, own) = (at(0).min(17), at(2));
+        let way = self.input.below(4);
+        let number = |sender| [own, sender][exchange];
+        let packets: Vec<Vec<u8>> = match way {
+            0 => (1..=n)
+                .map(|sender| self.written(0, number(sender)))
+                .collect(),
+            3 => return self.input.bytes(),
+            _ => (1..=n).map(|sender| self.packet(number(sender))).collect(),
+        };
+        let mut inbox = lay_out(&packets);
+        if way == 2 {
+            self.input.bend(&mut inbox);
+        }
+        inbox
+    }
+
+    fn open(&mut self, seat: usize) {
+        let n = self.input.number(self.group.0);
+        let t = self.input.number(self.group.1);
+        let own = self.input.number(seat + 1);
+        let call = Call::Open((n, t, own), self.message());
+        let mut lent = Lent {
+            state: dirt(self.input.room(STATE)),
+            out: dirt(self.input.room(32)),
+        };
+        if checked(&call, &mut lent).is_ok() {
+            self.seats[seat].root = lent.out[..32].to_vec();
+        }
+        self.seats[seat].state = lent.state;
+    }
+
+    fn agree_root(&mut self, seat: usize) {
+        let root = self.root();
+        self.made(seat, &Call::AgreeRoot(root));
+    }
+
+    /// A zero in the input stands for bit 1, on which the session goes on.
+    fn agree_bit(&mut self, seat: usize) {
+        let bit = self.input.byte() ^ 1;
+        let outbox = self.made(seat, &Call::AgreeBit(bit)).unwrap_or_default();
+        let packets = entries(&outbox).expect("an outbox of entries");
+        for (number, packet) in (1..).zip(packets) {
+            self.keep(seat, number, packet);
+        }
+    }
+
+    fn keep(&mut self, seat: usize, number: usize, packet: &[u8]) {
+        if !packet.is_empty() {
+            self.seats[seat].packets[number] = packet.to_vec();
+        }
+    }
+
+    fn take_shares(&mut self, seat: usize) {
+        let call = Call::TakeShares(self.inbox(seat, 0));
+        let relay = self.made(seat, &call).unwrap_or_default();
+        let number = relay.get(1).map_or(0, |&number| usize::from(number));
+        self.keep(seat, number, &relay);
+    }
+
+    fn take_relays(&mut self, seat: usize) {
+        let call = Call::TakeRelays(self.inbox(seat, 1));
+        self.made(seat, &call);
+    }
+
+    fn read_packet(&mut self) {
+        let n = self.input.number(self.group.0);
+        let number = self.input.number(1);
+        let call = Call::ReadPacket(n, self.packet(number));
+        self.made(0, &call);
+    }
+
+    fn check_path(&mut self) {
+        let n = self.input.number(self.group.0);
+        let number = self.input.number(1);
+        let (mut share, mut path) = parts(&self.packet(number));
+        match self.input.below(5) {
+            0 | 1 => {}
+            2 => self.input.bend(&mut share),
+            3 => self.input.bend(&mut path),
+            _ => share.resize(LONG + self.input.below(16), 3),
+        }
+        let call = Call::CheckPath((n, number), share, path, self.root());
+        self.made(0, &call);
+    }
+
+    fn make_shares(&mut self) {
+        let n = self.input.number(self.group.0);
+        let t = self.input.number(self.group.1);
+        let call = Call::Shares((n, t), self.message());
+        if let Some(bytes) = self.made(0, &call) {
+            self.shares = bytes.chunks(bytes.len() / n).map(<[u8]>::to_vec).collect();
+        }
+    }
+
+    fn rebuild(&mut self) {
+        let n = self.input.number(self.group.0);
+        let t = self.input.number(self.group.1);
+        let mut shares = self.shares.clone();
+        for share in &mut shares {
+            match self.input.below(8) {
+                1 => share.clear(),
+                2 => self.input.bend(share),
+                3 => *share = self.input.bytes(),
+                _ => {}
+            }
+        }
+        let mut entries = lay_out(&shares);
+        if self.input.byte() > 191 {
+            self.input.bend(&mut entries);
+        }
+        self.made(0, &Call::Rebuild((n, t), entries));
+    }
+
+    fn hash(&mut self) {
+        let message = match self.input.below(16) {
+            15 => dirt(LONG + self.input.below(16)),
+            _ => self.message(),
+        };
+        self.made(0, &Call::Hash(message));
+    }
+
+    /// Changes a seat's state as no host should.
+    fn spoil(&mut self, seat: usize) {
+        let mut state = take(&mut self.seats[seat].state);
+        match self.input.below(7) {
+            0 => self.input.bend(&mut state),
+            1 => put(&mut state, 3, &[self.input.byte() % 8]),
+            2 => put(&mut state, self.input.below(8), &[self.input.byte()]),
+            3 => state.resize(STATE, 0),
+            4 => put(&mut state, 8, &self.root()),
+            5 => {
+                let number = self.input.number(seat + 1);
+                let (share, _) = parts(&self.packet(number));
+                put(&mut state, 6, &(share.len() as u16).to_be_bytes());
+                put(&mut state, 1_064, &share);
+            }
+            _ => state = dirt(self.input.room(STATE)),
+        }
+        self.seats[seat].state = state;
+    }
+
+    /// Gives a seat the root and the packets of a frame that need not hold a message, as bad
+    /// parties may make them.
+    fn forge(&mut self, seat: usize) {
+        let (n, t) = self.group;
+        let mut frame = self.input.bytes();
+        let blocks = frame.len().div_ceil(n - t).max(1);
+        frame.resize(blocks * (n - t), 0);
+        let sharing = Sharing::of_frame(n, t, &frame);
+        self.seats[seat].root = sharing.root.to_vec();
+        (1..=n).for_each(|number| self.keep(seat, number, &sharing.packet(number)));
+    }
+}
