@@ -3,7 +3,7 @@
 
 mod input;
 mod lend;
-mod table;
+mod session;
 
 #[path = "../../rust/tests/compare/call.rs"]
 mod call;
@@ -15,7 +15,7 @@ use std::ffi::c_int;
 // What libFuzzer calls, by its names.
 #[allow(unsafe_code, non_snake_case)]
 mod fuzzer {
-    use super::{c_int, lend, table};
+    use super::{c_int, lend, session};
 
     extern "C" {
         fn atexit(call: extern "C" fn()) -> c_int;
@@ -37,7 +37,7 @@ mod fuzzer {
             0 => &[],
             _ => unsafe { std::slice::from_raw_parts(data, size) },
         };
-        table::play(bytes);
+        session::play(bytes);
         0
     }
 }

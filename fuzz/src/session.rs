@@ -1,6 +1,5 @@
-//! The table that the fuzzer plays at: four seats with the state of a party each, and what the
-//! library wrote for them, from which later calls are made. Each turn is one call, or a change that
-//! a host should not make.
+//! A session as the fuzzer plays it: the states of four parties and what the library wrote for them,
+//! from which later calls are made. Each turn is one call, or a change that a host should not make.
 
 use std::mem::take;
 
@@ -11,27 +10,30 @@ use crate::call::{Call, Lent};
 use crate::input::Input;
 use crate::lend::checked;
 
-const SEATS: usize = 4;
+const PARTIES: usize = 4;
 
-/// Turns of a list, so that one list does not take long.
+/// Turns of one input, so that none takes long.
 const TURNS: usize = 48;
 
-/// The longest string that is hashed, with a little less than a seat's worth beyond it.
+/// A little less than the longest string that is hashed.
 const LONG: usize = 65_528;
 
+/// Numbers at the edges of what a state may hold.
+const EDGES: [u8; 8] = [0, 1, 2, 7, 8, 16, 17, 255];
+
 #[derive(Clone, Default)]
-struct Seat {
+struct Party {
     state: Vec<u8>,
     root: Vec<u8>,
     /// The packet that bears each number, if one was written.
     packets: [Vec<u8>; 17],
 }
 
-struct Table<'a> {
+struct Session<'a> {
     input: Input<'a>,
     group: (usize, usize),
     message: Vec<u8>,
-    seats: [Seat; SEATS],
+    parties: [Party; PARTIES],
     /// Shares as the library wrote them last.
     shares: Vec<Vec<u8>>,
 }
@@ -40,18 +42,18 @@ struct Table<'a> {
 pub fn play(bytes: &[u8]) {
     let mut input = Input::new(bytes);
     let n = 1 + input.below(16);
-    let mut table = Table {
+    let mut session = Session {
         group: (n, input.below(n.div_ceil(2))),
         message: input.bytes(),
         input,
-        seats: Default::default(),
+        parties: Default::default(),
         shares: Vec::new(),
     };
     for _ in 0..TURNS {
-        if table.input.is_empty() {
+        if session.input.is_empty() {
             break;
         }
-        table.turn();
+        session.turn();
     }
 }
 
@@ -77,31 +79,31 @@ fn put(bytes: &mut [u8], at: usize, new: &[u8]) {
     }
 }
 
-impl Table<'_> {
+impl Session<'_> {
     /// The numbers of the turns are those of fuzz/seeds.
     fn turn(&mut self) {
-        let (kind, seat) = (self.input.below(13), self.input.below(SEATS));
+        let (kind, party) = (self.input.below(13), self.input.below(PARTIES));
         match kind {
-            0 => self.open(seat),
-            1 => self.agree_root(seat),
-            2 => self.agree_bit(seat),
-            3 => self.take_shares(seat),
-            4 => self.take_relays(seat),
+            0 => self.open(party),
+            1 => self.agree_root(party),
+            2 => self.agree_bit(party),
+            3 => self.take_shares(party),
+            4 => self.take_relays(party),
             5 => self.read_packet(),
             6 => self.check_path(),
             7 => self.make_shares(),
             8 => self.rebuild(),
             9 => self.hash(),
-            10 => self.spoil(seat),
-            11 => self.seats[seat] = self.seats[self.input.below(SEATS)].clone(),
-            _ => self.forge(seat),
+            10 => self.spoil(party),
+            11 => self.parties[party] = self.parties[self.input.below(PARTIES)].clone(),
+            _ => self.forge(party),
         }
     }
 
-    /// Makes a call on a seat's state and, where it lacks room, again with as much as the input
+    /// Makes a call on a party's state and, where it lacks room, again with as much as the input
     /// says. Gives what it wrote.
-    fn made(&mut self, seat: usize, call: &Call) -> Option<Vec<u8>> {
-        let state = take(&mut self.seats[seat].state);
+    fn made(&mut self, party: usize, call: &Call) -> Option<Vec<u8>> {
+        let state = take(&mut self.parties[party].state);
         let out = dirt(self.input.room(0));
         let mut lent = Lent { state, out };
         let mut answer = checked(call, &mut lent);
@@ -109,7 +111,7 @@ impl Table<'_> {
             lent.out = dirt(self.input.room(needed));
             answer = checked(call, &mut lent);
         }
-        self.seats[seat].state = lent.state;
+        self.parties[party].state = lent.state;
         lent.out.truncate(answer.ok()? as usize);
         Some(lent.out)
     }
@@ -129,20 +131,20 @@ impl Table<'_> {
         }
     }
 
-    /// The root of a seat, now and then changed.
+    /// The root of a party, now and then changed.
     fn root(&mut self) -> Vec<u8> {
         let choice = self.input.byte();
-        let mut root = self.seats[usize::from(choice) % SEATS].root.clone();
+        let mut root = self.parties[usize::from(choice) % PARTIES].root.clone();
         if choice >= 128 {
             self.input.bend(&mut root);
         }
         root
     }
 
-    /// The packet that a seat wrote with a number, or else another seat.
-    fn written(&self, seat: usize, number: usize) -> Vec<u8> {
-        let seats = (seat..seat + SEATS).map(|place| &self.seats[place % SEATS]);
-        let mut packets = seats.filter_map(|seat| seat.packets.get(number));
+    /// The packet with a number that a party wrote, or else the next party that wrote one.
+    fn written(&self, party: usize, number: usize) -> Vec<u8> {
+        let parties = (party..party + PARTIES).map(|place| &self.parties[place % PARTIES]);
+        let mut packets = parties.filter_map(|party| party.packets.get(number));
         let found = packets.find(|packet| !packet.is_empty());
         found.cloned().unwrap_or_default()
     }
@@ -150,14 +152,14 @@ impl Table<'_> {
     /// What a good or a bad party puts where this number is demanded.
     fn packet(&mut self, number: usize) -> Vec<u8> {
         let choice = self.input.byte();
-        let seat = usize::from(choice / 8) % SEATS;
+        let party = usize::from(choice / 8) % PARTIES;
         match choice % 8 {
-            0 | 1 => self.written(seat, number),
+            0 | 1 => self.written(party, number),
             2 => Vec::new(),
             3 => self.input.bytes(),
             4 => {
                 let other = self.input.below(17);
-                self.written(seat, other)
+                self.written(party, other)
             }
             5 => vec![0],
             6 => {
@@ -165,7 +167,7 @@ impl Table<'_> {
                 [&[7, number as u8, 0, self.input.byte()], &share[..]].concat()
             }
             _ => {
-                let mut packet = self.written(seat, number);
+                let mut packet = self.written(party, number);
                 self.input.bend(&mut packet);
                 packet
             }
@@ -174,8 +176,8 @@ impl Table<'_> {
 
     /// The inbox of exchange 0 or 1: as good parties fill it, entry by entry as the input says, that
     /// with its layout changed, or any bytes.
-    fn inbox(&mut self, seat: usize, exchange: usize) -> Vec<u8> {
-        let state = &self.seats[seat].state;
+    fn inbox(&mut self, party: usize, exchange: usize) -> Vec<u8> {
+        let state = &self.parties[party].state;
         let at = |place| state.get(place).map_or(0, |&byte: &u8| usize::from(byte));
         let (n, own) = (at(0).min(17), at(2));
         let way = self.input.below(4);
@@ -194,52 +196,52 @@ impl Table<'_> {
         inbox
     }
 
-    fn open(&mut self, seat: usize) {
+    fn open(&mut self, party: usize) {
         let n = self.input.number(self.group.0);
         let t = self.input.number(self.group.1);
-        let own = self.input.number(seat + 1);
+        let own = self.input.number(party + 1);
         let call = Call::Open((n, t, own), self.message());
         let mut lent = Lent {
             state: dirt(self.input.room(STATE)),
             out: dirt(self.input.room(32)),
         };
         if checked(&call, &mut lent).is_ok() {
-            self.seats[seat].root = lent.out[..32].to_vec();
+            self.parties[party].root = lent.out[..32].to_vec();
         }
-        self.seats[seat].state = lent.state;
+        self.parties[party].state = lent.state;
     }
 
-    fn agree_root(&mut self, seat: usize) {
+    fn agree_root(&mut self, party: usize) {
         let root = self.root();
-        self.made(seat, &Call::AgreeRoot(root));
+        self.made(party, &Call::AgreeRoot(root));
     }
 
     /// A zero in the input stands for bit 1, on which the session goes on.
-    fn agree_bit(&mut self, seat: usize) {
+    fn agree_bit(&mut self, party: usize) {
         let bit = self.input.byte() ^ 1;
-        let outbox = self.made(seat, &Call::AgreeBit(bit)).unwrap_or_default();
+        let outbox = self.made(party, &Call::AgreeBit(bit)).unwrap_or_default();
         let packets = entries(&outbox).expect("an outbox of entries");
         for (number, packet) in (1..).zip(packets) {
-            self.keep(seat, number, packet);
+            self.keep(party, number, packet);
         }
     }
 
-    fn keep(&mut self, seat: usize, number: usize, packet: &[u8]) {
+    fn keep(&mut self, party: usize, number: usize, packet: &[u8]) {
         if !packet.is_empty() {
-            self.seats[seat].packets[number] = packet.to_vec();
+            self.parties[party].packets[number] = packet.to_vec();
         }
     }
 
-    fn take_shares(&mut self, seat: usize) {
-        let call = Call::TakeShares(self.inbox(seat, 0));
-        let relay = self.made(seat, &call).unwrap_or_default();
+    fn take_shares(&mut self, party: usize) {
+        let call = Call::TakeShares(self.inbox(party, 0));
+        let relay = self.made(party, &call).unwrap_or_default();
         let number = relay.get(1).map_or(0, |&number| usize::from(number));
-        self.keep(seat, number, &relay);
+        self.keep(party, number, &relay);
     }
 
-    fn take_relays(&mut self, seat: usize) {
-        let call = Call::TakeRelays(self.inbox(seat, 1));
-        self.made(seat, &call);
+    fn take_relays(&mut self, party: usize) {
+        let call = Call::TakeRelays(self.inbox(party, 1));
+        self.made(party, &call);
     }
 
     fn read_packet(&mut self) {
@@ -253,11 +255,12 @@ impl Table<'_> {
         let n = self.input.number(self.group.0);
         let number = self.input.number(1);
         let (mut share, mut path) = parts(&self.packet(number));
-        match self.input.below(5) {
+        match self.input.below(6) {
             0 | 1 => {}
             2 => self.input.bend(&mut share),
             3 => self.input.bend(&mut path),
-            _ => share.resize(LONG + self.input.below(16), 3),
+            4 => share.resize(LONG + self.input.below(16), 3),
+            _ => share.resize(self.input.wide(LONG), 3),
         }
         let call = Call::CheckPath((n, number), share, path, self.root());
         self.made(0, &call);
@@ -293,41 +296,50 @@ impl Table<'_> {
 
     fn hash(&mut self) {
         let message = match self.input.below(16) {
+            14 => dirt(self.input.wide(LONG)),
             15 => dirt(LONG + self.input.below(16)),
             _ => self.message(),
         };
         self.made(0, &Call::Hash(message));
     }
 
-    /// Changes a seat's state as no host should.
-    fn spoil(&mut self, seat: usize) {
-        let mut state = take(&mut self.seats[seat].state);
-        match self.input.below(7) {
+    /// Changes a party's state as no host should: bytes anywhere, the stage, a number, a length near
+    /// its limit, its own length, the root, the share held, or all of it.
+    fn spoil(&mut self, party: usize) {
+        let mut state = take(&mut self.parties[party].state);
+        match self.input.below(8) {
             0 => self.input.bend(&mut state),
             1 => put(&mut state, 3, &[self.input.byte() % 8]),
-            2 => put(&mut state, self.input.below(8), &[self.input.byte()]),
-            3 => state.resize(STATE, 0),
-            4 => put(&mut state, 8, &self.root()),
-            5 => {
-                let number = self.input.number(seat + 1);
+            2 => {
+                let place = self.input.below(3);
+                put(&mut state, place, &[EDGES[self.input.below(EDGES.len())]]);
+            }
+            3 => {
+                let place = 4 + 2 * self.input.below(2);
+                put(&mut state, place, &[4, self.input.byte() % 5]);
+            }
+            4 => state.resize(STATE, 0),
+            5 => put(&mut state, 8, &self.root()),
+            6 => {
+                let number = self.input.number(party + 1);
                 let (share, _) = parts(&self.packet(number));
                 put(&mut state, 6, &(share.len() as u16).to_be_bytes());
                 put(&mut state, 1_064, &share);
             }
             _ => state = dirt(self.input.room(STATE)),
         }
-        self.seats[seat].state = state;
+        self.parties[party].state = state;
     }
 
-    /// Gives a seat the root and the packets of a frame that need not hold a message, as bad
+    /// Gives a party the root and the packets of a frame that need not hold a message, as bad
     /// parties may make them.
-    fn forge(&mut self, seat: usize) {
+    fn forge(&mut self, party: usize) {
         let (n, t) = self.group;
         let mut frame = self.input.bytes();
         let blocks = frame.len().div_ceil(n - t).max(1);
         frame.resize(blocks * (n - t), 0);
         let sharing = Sharing::of_frame(n, t, &frame);
-        self.seats[seat].root = sharing.root.to_vec();
-        (1..=n).for_each(|number| self.keep(seat, number, &sharing.packet(number)));
+        self.parties[party].root = sharing.root.to_vec();
+        (1..=n).for_each(|number| self.keep(party, number, &sharing.packet(number)));
     }
 }
