@@ -8,10 +8,10 @@ use native.Mathlib.Omega.{arith}
 use lib.Arith.{digits-lt}
 use lib.Bits.{bitXor}
 use lib.ListN.{length, getD, take, drop, set, replicate, length-replicate, length-append, length-drop}
-use lib.Seq.{getD-drop, take-suc, length-take-le}
-use Rattle.buffer.specs.Splice.{spliced, putOf}
+use lib.Seq.{ext-getD, getD-drop, getD-take, take-suc, length-take-le}
+use Rattle.buffer.specs.Splice.{spliced, putOf, tabulate}
 use Rattle.buffer.proofs.Splice.{put-fits, spliced-set, spliced-more}
-use Rattle.buffer.proofs.Tabulate.{length-tabulate, tabulate-cong}
+use Rattle.buffer.proofs.Tabulate.{length-tabulate, getD-tabulate, tabulate-cong}
 use Rattle.limits.specs.Limits.{maxParties}
 use Rattle.gf256.specs.Field.{product}
 use Rattle.polynomial.specs.Polynomial.{value, sum}
@@ -40,7 +40,7 @@ zeros-past [] z h i = h i
 zeros-past (x ∷ m) z h zero = refl
 zeros-past (x ∷ m) z h (suc i) = zeros-past m z h i
 
-all-zero : (n j : ℕ) → _≡_ {A = ℕ} (getD (replicate n 0) j 0) 0
+pub all-zero : (n j : ℕ) → _≡_ {A = ℕ} (getD (replicate n 0) j 0) 0
 all-zero zero j = refl
 all-zero (suc n) zero = refl
 all-zero (suc n) (suc j) = all-zero n j
@@ -59,6 +59,13 @@ frame-array n hi lo m h i =
     (put-fits (hi ∷ lo ∷ replicate n 0) 2 m (omega (arith, length-replicate {A = ℕ} n 0))
     ∙ ap (λ l. hi ∷ lo ∷ (m ++ l)) (two-more hi lo (replicate n 0) (length m)))
     ∙ zeros-past (hi ∷ lo ∷ m) (drop (length m) (replicate n 0)) (λ j. getD-drop (length m) (replicate n 0) j 0 ∙ all-zero n (length m + j)) i
+
+-- the first n elements of a list, where each is known
+pub take-table : (l : List ℕ) (n : ℕ) (f : ℕ → ℕ) → n ≤ length l → ((i : ℕ) → i < n → getD l i 0 ≡ f i) → take n l ≡ tabulate n f
+take-table l n f h e =
+    let long : length (take n l) ≡ n = length-take-le n l h in
+    ext-getD 0 (take n l) (tabulate n f) (long ∙ sym (length-tabulate n f))
+    (λ i k. let b : i < n = subst (λ (m : ℕ). i < m) long k in getD-take n l i 0 b ∙ e i b ∙ sym (getD-tabulate n f i 0 b))
 
 -- the bytes of b blocks are few enough to be counted
 pub blocks-small : (b s : ℕ) → b ≤ maxParties → s < 65536 → b * s ≤ maxParties * 65536

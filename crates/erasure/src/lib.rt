@@ -3,6 +3,7 @@ ghost use mathlib.Core.Path.{_≡_};
 ghost use mathlib.Core.Bool.{true};
 ghost use mathlib.Core.List.{map};
 ghost use Prim.Native.Nat.{ℕ, _+_, _-_, _*_, _≤_, _<_};
+ghost use lib.Bits.{bitXor};
 ghost use lib.ListN.{length, getD, take, drop};
 ghost use Rattle.limits.specs.Limits.{maxParties, maxMessage, maxShare};
 ghost use Rattle.buffer.specs.Splice.{spliced, tabulate};
@@ -69,35 +70,36 @@ fn frame_of(message: &[u8]) -> [u8; MAX_FRAME]
     frame
 }
 
-// Byte c of share j, by Horner's rule from the last block down.
-fn share_byte(frame: &[u8; MAX_FRAME], b: usize, s: usize, j: u8, c: usize) -> u8
-    requires { ⌜ (c < s) × (b * s ≤ maxShare + maxParties) × Bytes (now frame) ⌝ }
-    ensures { λ r. ⌜ r ≡ shareByte b s (now (frame .entry)) j c ⌝ }
+// Horner's rule on the first s bytes of a row: j times each, and a byte of the frame from place `from` on.
+fn add_block(row: &mut [u8], frame: &[u8; MAX_FRAME], from: usize, s: usize, j: u8)
+    requires { ⌜ (s ≤ length (now row)) × (from + s ≤ maxShare + maxParties) ⌝ }
+    ensures { λ _. ⌜ ((c : ℕ) → c < s → getD (now (row .exit)) c 0
+        ≡ bitXor (getD (now (frame .entry)) (from + c) 0) (product j (getD (now (row .entry)) c 0))) ⌝ }
 {
-    let mut total = 0u8;
-    let mut k = b;
-    while 0 < k {
-        k -= 1;
-        total = frame[k * s + c] ^ gf256::mul(j, total);
-    }
-    total
-}
-
-// Writes share j from place at on.
-fn write_share(frame: &[u8; MAX_FRAME], b: usize, s: usize, j: u8, out: &mut [u8], at: usize)
-    requires { ⌜ (b * s ≤ maxShare + maxParties) × (at + s ≤ length (now out)) × Bytes (now frame) ⌝ }
-    ensures { λ _. ⌜ now (out .exit) ≡ spliced (now (out .entry)) at (shareOf b s (now (frame .entry)) j) ⌝ }
-{
-    let mut c = 0;
+    let mut c: usize = 0;
     while c < s {
-        out[at + c] = share_byte(frame, b, s, j, c);
+        row[c] = frame[from + c] ^ gf256::mul_bits(j, row[c]);
         c += 1;
     }
 }
 
+// Writes share j from place at on: by Horner's rule from the last block down, a whole block at a time.
+fn write_share(frame: &[u8; MAX_FRAME], b: usize, s: usize, j: u8, out: &mut [u8], at: usize)
+    requires { ⌜ (s ≤ maxShare) × (b * s ≤ maxShare + maxParties) × (at + s ≤ length (now out)) × Bytes (now frame) ⌝ }
+    ensures { λ _. ⌜ now (out .exit) ≡ spliced (now (out .entry)) at (shareOf b s (now (frame .entry)) j) ⌝ }
+{
+    let mut row = [0u8; MAX_SHARE];
+    let mut k = b;
+    while 0 < k {
+        k -= 1;
+        add_block(&mut row, frame, k * s, s, j);
+    }
+    buffer::put(out, at, &row[..s]);
+}
+
 // Writes shares 1 to n from the start of out.
 fn write_shares(frame: &[u8; MAX_FRAME], n: usize, b: usize, s: usize, out: &mut [u8])
-    requires { ⌜ (n ≤ maxParties) × (b * s ≤ maxShare + maxParties) × (n * s ≤ length (now out)) × Bytes (now frame) ⌝ }
+    requires { ⌜ (n ≤ maxParties) × (s ≤ maxShare) × (b * s ≤ maxShare + maxParties) × (n * s ≤ length (now out)) × Bytes (now frame) ⌝ }
     ensures { λ _. ⌜ now (out .exit) ≡ spliced (now (out .entry)) 0 (sharesOf n b s (now (frame .entry))) ⌝ }
 {
     let mut at: usize = 0;

@@ -19,7 +19,7 @@ digits-add m off on = simp (zero-mul, one-mul)
 digits-add m on off = simp (zero-mul, one-mul) (sym (xor-zero-r m))
 digits-add m on on = simp (zero-mul, one-mul) (sym (xor-self m))
 
-digit-lt : {c : ℕ} (x : ℕ) → Digit c → x < 256 → c * x < 256
+pub digit-lt : {c : ℕ} (x : ℕ) → Digit c → x < 256 → c * x < 256
 digit-lt x off h = simp zero-mul (lit< tt)
 digit-lt x on h = simp one-mul h
 

@@ -3,8 +3,9 @@
 mod table;
 
 ghost use mathlib.Core.Path.{_≡_};
-ghost use Prim.Native.Nat.{_<_};
-ghost use Rattle.gf256.specs.Field.{product, power, inverse};
+ghost use Prim.Native.Nat.{_*_, _%_, _<_};
+ghost use lib.Bits.{bitXor};
+ghost use Rattle.gf256.specs.Field.{timesX, product, power, inverse};
 use table::EXPONENTS;
 use table::POWERS;
 
@@ -36,6 +37,41 @@ pub fn mul(a: u8, b: u8) -> u8
     }
     let sum = exponent_of(a) + exponent_of(b);
     power_at(sum % 255)
+}
+
+// x times a: `timesX` without its ninth bit, so that it stays a byte.
+fn times_x(a: u8) -> u8
+    ensures { λ r. ⌜ r ≡ timesX a ⌝ }
+{
+    (a % 128 * 2) ^ (a / 128 * 0x1B)
+}
+
+// Horner's rule over the bits of a: one bit more, the lowest of a, below those that the total counts.
+fn next_bit(total: u8, a: u8, b: u8) -> u8
+    ensures { λ r. ⌜ r ≡ bitXor ((a % 2) * b) (timesX total) ⌝ }
+{
+    (a % 2 * b) ^ times_x(total)
+}
+
+// The product of two bytes again, with neither table nor branch: over a row of bytes b the compiler works out 16 at once.
+pub fn mul_bits(a: u8, b: u8) -> u8
+    ensures { λ r. ⌜ r ≡ product a b ⌝ }
+{
+    let a1 = a / 2;
+    let a2 = a1 / 2;
+    let a3 = a2 / 2;
+    let a4 = a3 / 2;
+    let a5 = a4 / 2;
+    let a6 = a5 / 2;
+    let a7 = a6 / 2;
+    let first = next_bit(0, a7, b);
+    let two = next_bit(first, a6, b);
+    let three = next_bit(two, a5, b);
+    let four = next_bit(three, a4, b);
+    let five = next_bit(four, a3, b);
+    let six = next_bit(five, a2, b);
+    let seven = next_bit(six, a1, b);
+    next_bit(seven, a, b)
 }
 
 // The inverse of a byte; 0 for 0. The two exponents add up to 255, or are both 0.

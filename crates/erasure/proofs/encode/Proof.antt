@@ -97,6 +97,7 @@ write-shares-requires c κs =
     let d = f .before .before in
     let e = d .before .before in (
       group e .high,
+      omega (arith, d .share-length .ensures, share-most (B e) (length (M e)) (low e)),
       omega (arith, share-high (B e) (length (M e)) (low e), ap (λ (s : ℕ). B e * s) (d .share-length .ensures), group e),
       f .before .if3 .left,
       λ i. subst (λ (x : ℕ). x < 256) (sym (array f i)) (frame-bytes (B e) (M e) (λ i. e .before .before .before .shared-slice-known .given i .fits) (omega arith) i),

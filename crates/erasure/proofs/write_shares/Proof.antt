@@ -37,7 +37,7 @@ write-share-requires : tie.Need-write-share-requires Inv-loop μ-loop
 write-share-requires c κs =
     let l = c .before .before in
     let st = l .before .before in
-    (st .pre .1, omega (arith, row-inside (st .args .n) (l .loop .j) (st .args .s) (c .before .loop-test .taken)), st .pre .3)
+    (st .pre .1, st .pre .2, omega (arith, row-inside (st .args .n) (l .loop .j) (st .args .s) (c .before .loop-test .taken)), st .pre .4)
 
 add-at : tie.Need-add-at Inv-loop μ-loop
 add-at c =
