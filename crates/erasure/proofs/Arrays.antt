@@ -2,15 +2,15 @@
 use mathlib.Core.Path.{_≡_, refl, sym, ap, ap₂, subst, _∙_}
 use mathlib.Core.List.{List, [], _∷_, _++_}
 use Prim.Native.Nat.{ℕ, zero, suc, _+_, _-_, _*_, _/_, _%_, _<_, _≤_}
-use native.Mathlib.Nat.{mod-lt, mul-zero, mul-le-mul-right, div-lt-iff-lt-mul, add-zero, zero-add, zero-mul, suc-mul, add-comm}
+use native.Mathlib.Nat.{mod-lt, mul-zero, mul-le-mul-right, div-lt-iff-lt-mul, add-zero, zero-add, zero-mul, suc-mul}
 use native.Mathlib.Numerals.{add-one}
 use native.Mathlib.Omega.{arith}
 use lib.Arith.{digits-lt}
 use lib.Bits.{bitXor}
-use lib.ListN.{length, getD, take, drop, set, replicate, length-replicate, length-append, length-drop}
-use lib.Seq.{ext-getD, getD-drop, getD-take, take-suc, length-take-le}
+use lib.ListN.{length, getD, take, drop, replicate, length-replicate, length-append}
+use lib.Seq.{ext-getD, getD-drop, getD-take, length-take-le}
 use Rattle.buffer.specs.Splice.{spliced, putOf, tabulate}
-use Rattle.buffer.proofs.Splice.{put-fits, spliced-set, spliced-more}
+use Rattle.buffer.proofs.Splice.{put-fits, spliced-more}
 use Rattle.buffer.proofs.Tabulate.{length-tabulate, getD-tabulate, tabulate-cong}
 use Rattle.limits.specs.Limits.{maxParties}
 use Rattle.gf256.specs.Field.{product}
@@ -96,19 +96,6 @@ pub length-combined : (b s : ℕ) (table es places : List ℕ) → length (combi
 unfolding combined
 length-combined b s table es places =
     length-tabulate (b * s) (λ i. sum bytes b (λ m. product (getD table (cell (i / s) m) 0) (getD es (getD places m 0 + i % s) 0)))
-
--- one byte more of the message, written behind those before it
-pub message-more : (o f : List ℕ) (i : ℕ) → i < length o → i + 2 < length f
-    → set (spliced o 0 (take i (drop 2 f))) i (getD f (i + 2) 0) ≡ spliced o 0 (take (i + 1) (drop 2 f))
-message-more o f i ho hf =
-    let there : i < length (drop 2 f) = subst (λ (n : ℕ). i < n) (sym (length-drop 2 f)) (omega arith) in
-    let long : length (take i (drop 2 f)) ≡ i = length-take-le i (drop 2 f) (omega arith) in
-    let at : 0 + length (take i (drop 2 f)) ≡ i = zero-add (length (take i (drop 2 f))) ∙ long in
-    ap (λ (k : ℕ). set (spliced o 0 (take i (drop 2 f))) k (getD f (i + 2) 0)) (sym at)
-    ∙ spliced-set o 0 (take i (drop 2 f)) (getD f (i + 2) 0) (subst (λ (k : ℕ). k < length o) (sym at) ho)
-    ∙ ap (spliced o 0)
-    (ap (λ (x : ℕ). take i (drop 2 f) ++ (x ∷ [])) (ap (λ (k : ℕ). getD f k 0) (add-comm i 2) ∙ sym (getD-drop 2 f i 0))
-    ∙ sym (take-suc (drop 2 f) i 0 there) ∙ ap (λ (k : ℕ). take k (drop 2 f)) (sym (add-one i)))
 
 -- shares, one behind the other
 

@@ -11,6 +11,7 @@ use Rattle.buffer.specs.Given.{gave, written}
 use Rattle.erasure.specs.Coding.{shareLength, shares, encodeOf}
 use Rattle.erasure.specs.Rebuild.{Point, point, present, framed, other, unframed, joined, recovered, answered, rebuildOf}
 use Rattle.erasure.specs.Rebuild.{cause, message}
+use Rattle.erasure.specs.Arrays.{judged}
 use Rattle.buffer.specs.declared.Written.the-variants.{Refused}
 
 module _ (n t : ℕ) (m out : List ℕ) where
@@ -42,16 +43,18 @@ module _ (b s : ℕ) (f : List ℕ) where
       unfolding unframed
       unframed-stated h = rw (le-ltb (length f) 2 whole, le-ltb maxMessage (size f) within, ne-eqb s (shareLength b (size f)) h)
 
-      module _ (stated : s ≡ shareLength b (size f)) where
-        pub unframed-spoilt : other 0 (rest f) ≡ true → unframed b s f ≡ cause 12
-        unfolding unframed
-        unframed-spoilt h =
-            rw (le-ltb (length f) 2 whole, le-ltb maxMessage (size f) within, eq-eqb s (shareLength b (size f)) stated, h)
+      pub unframed-judged : s ≡ shareLength b (size f) → unframed b s f ≡ judged f
+      unfolding unframed judged
+      unframed-judged stated = rw (le-ltb (length f) 2 whole, le-ltb maxMessage (size f) within, eq-eqb s (shareLength b (size f)) stated)
 
-        pub unframed-found : other 0 (rest f) ≡ false → unframed b s f ≡ message (body f)
-        unfolding unframed
-        unframed-found h =
-            rw (le-ltb (length f) 2 whole, le-ltb maxMessage (size f) within, eq-eqb s (shareLength b (size f)) stated, h)
+module _ (f : List ℕ) where
+  pub judged-spoilt : other 0 (rest f) ≡ true → judged f ≡ cause 12
+  unfolding judged
+  judged-spoilt h = rw h
+
+  pub judged-found : other 0 (rest f) ≡ false → judged f ≡ message (body f)
+  unfolding judged
+  judged-found h = rw h
 
 module _ (b : ℕ) (ps : List Point) where
   pub recovered-few : length ps < b → recovered b ps ≡ cause 11

@@ -1,15 +1,17 @@
 -- What the arrays of the private functions stand for. No public contract cites this file. Assumes nothing.
+use mathlib.Core.Bool.{cond}
 use mathlib.Core.List.{List, [], _++_}
 use mathlib.Core.Path.{_≡_}
 use Prim.Native.Nat.{ℕ, zero, suc, _+_, _*_, _/_, _%_, _<_, _≤_}
 use lib.ListN.{length, getD, take, drop}
 use Rattle.limits.specs.Limits.{maxParties}
+use Rattle.buffer.specs.Entries.{body, rest}
 use Rattle.buffer.specs.Splice.{tabulate}
 use Rattle.gf256.specs.Field.{product}
 use Rattle.polynomial.specs.Polynomial.{sum, basis}
 use Rattle.erasure.specs.Bytes.{bytes}
 use Rattle.erasure.specs.Coding.{shareOf}
-use Rattle.erasure.specs.Rebuild.{Point}
+use Rattle.erasure.specs.Rebuild.{Point, Recovered, cause, message, other}
 
 -- shares 1 to n of a frame of b blocks of s bytes
 unfoldable pub sharesOf : ℕ → ℕ → ℕ → List ℕ → List ℕ
@@ -44,3 +46,7 @@ unfoldable pub combined : ℕ → ℕ → List ℕ → List ℕ → List ℕ →
 combined b s table es places =
     tabulate (b * s)
     (λ i. sum bytes b (λ m. product (getD table (cell (i / s) m) 0) (getD es (getD places m 0 + i % s) 0)))
+
+-- the message in a frame whose length was judged: cause 12 where the filling is not all zero
+unfoldable pub judged : List ℕ → Recovered
+judged f = cond (other 0 (rest f)) (cause 12) (message (body f))

@@ -7,15 +7,15 @@ ghost use lib.Bits.{bitXor};
 ghost use lib.ListN.{length, getD, take, drop};
 ghost use Rattle.limits.specs.Limits.{maxParties, maxMessage, maxShare};
 ghost use Rattle.buffer.specs.Splice.{spliced, tabulate};
-ghost use Rattle.buffer.specs.Entries.{fills, bodies};
+ghost use Rattle.buffer.specs.Entries.{size, fills, bodies};
 ghost use Rattle.gf256.specs.Field.{product, inverse};
 ghost use Rattle.polynomial.specs.Polynomial.{value, factor, numerator, denominator, basis, sum};
 ghost use Rattle.erasure.specs.Bytes.{bytes};
 ghost use Rattle.buffer.specs.Bounds.{Bytes};
 ghost use Rattle.buffer.specs.Given.{gave};
-ghost use Rattle.erasure.specs.Coding.{shareLength, headed, shareByte, shareOf, encodeOf};
+ghost use Rattle.erasure.specs.Coding.{shareLength, headed, shareOf, encodeOf};
 ghost use Rattle.erasure.specs.Rebuild.{present, recovered, unframed, answered, other, rebuildOf};
-ghost use Rattle.erasure.specs.Arrays.{sharesOf, held, Within, Reach, Table, cell, combined};
+ghost use Rattle.erasure.specs.Arrays.{sharesOf, held, Within, Reach, Table, cell, combined, judged};
 use buffer::Written;
 use limits::MAX_MESSAGE;
 use limits::MAX_PARTIES;
@@ -339,14 +339,8 @@ fn read_frame(
     if s != share_length(b, len) {
         return Written::Refused(12);
     }
-    if spoilt(table, entries, places, b, s, len + 2) {
-        return Written::Refused(12);
-    }
-    if out.len() < len {
-        return Written::Short(len);
-    }
-    write_message(table, entries, places, b, s, len, out);
-    Written::Done(len)
+    let frame = whole_frame(table, entries, places, b, s);
+    give_message(&frame[..b * s], len, out)
 }
 
 fn wide(x: u8) -> usize
@@ -355,48 +349,91 @@ fn wide(x: u8) -> usize
     x as usize
 }
 
-// Whether a byte other than 0 stands in the frame from place `from` on.
-fn spoilt(
+// Adds a times the s bytes from place `from` of the entries on to those from place at of the frame on.
+fn add_multiple(frame: &mut [u8], at: usize, entries: &[u8], from: usize, s: usize, a: u8)
+    requires { ⌜ (at + s ≤ length (now frame)) × (from + s ≤ length (now entries)) ⌝ }
+    ensures { λ _. ⌜ ((i : ℕ) → i < at → getD (now (frame .exit)) i 0 ≡ getD (now (frame .entry)) i 0)
+        × ((c : ℕ) → c < s → getD (now (frame .exit)) (at + c) 0
+        ≡ bitXor (getD (now (frame .entry)) (at + c) 0) (product a (getD (now (entries .entry)) (from + c) 0)))
+        × ((i : ℕ) → at + s ≤ i → getD (now (frame .exit)) i 0 ≡ getD (now (frame .entry)) i 0) ⌝ }
+{
+    let mut c: usize = 0;
+    while c < s {
+        frame[at + c] = frame[at + c] ^ gf256::mul_bits(a, entries[from + c]);
+        c += 1;
+    }
+}
+
+// Adds share m, which lies at place `from` of the entries, to each block of the frame, by the block's coefficient.
+fn add_share(
+    frame: &mut [u8],
+    table: &[u8; TABLE],
+    m: usize,
+    entries: &[u8],
+    from: usize,
+    b: usize,
+    s: usize,
+)
+    requires { ⌜ (b ≤ maxParties) × (m < maxParties) × (b * s ≤ length (now frame)) × (from + s ≤ length (now entries)) ⌝ }
+    ensures { λ _. ⌜ ((k c : ℕ) → k < b → c < s → getD (now (frame .exit)) (k * s + c) 0
+        ≡ bitXor (getD (now (frame .entry)) (k * s + c) 0)
+        (product (getD (now (table .entry)) (cell k m) 0) (getD (now (entries .entry)) (from + c) 0))) ⌝ }
+{
+    let mut k: usize = 0;
+    while k < b {
+        let a = table[k * MAX_PARTIES + m];
+        add_multiple(frame, k * s, entries, from, s, a);
+        k += 1;
+    }
+}
+
+// The frame, at the start of an array: the shares are added one after the other.
+fn whole_frame(
     table: &[u8; TABLE],
     entries: &[u8],
     places: &[usize; MAX_PARTIES],
     b: usize,
     s: usize,
-    from: usize,
-) -> bool
-    requires { ⌜ (b ≤ maxParties) × (s < 65536) × (from ≤ b * s) × Reach (now entries) (now places) b s ⌝ }
-    ensures { λ r. ⌜ r
-        ≡ other 0 (drop from (combined b s (now (table .entry)) (now (entries .entry)) (now (places .entry)))) ⌝ }
+) -> [u8; MAX_FRAME]
+    requires { ⌜ (b ≤ maxParties) × (b * s ≤ maxShare + maxParties) × Reach (now entries) (now places) b s ⌝ }
+    ensures { λ r. ⌜ take (b * s) r ≡ combined b s (now (table .entry)) (now (entries .entry)) (now (places .entry)) ⌝ }
+{
+    let mut frame = [0u8; MAX_FRAME];
+    let mut m: usize = 0;
+    while m < b {
+        let from = places[m];
+        add_share(&mut frame, table, m, entries, from, b, s);
+        m += 1;
+    }
+    frame
+}
+
+// Writes the message of a frame that states its length, unless the filling is not all zero.
+fn give_message(frame: &[u8], len: usize, out: &mut [u8]) -> Written
+    requires { ⌜ (len ≡ size (now frame)) × (len + 2 ≤ length (now frame)) ⌝ }
+    ensures { λ r. ⌜ gave r (now (out .exit)) ≡ answered (judged (now (frame .entry))) (now (out .entry)) ⌝ }
+{
+    if spoilt(frame, len + 2) {
+        return Written::Refused(12);
+    }
+    if out.len() < len {
+        return Written::Short(len);
+    }
+    let end = len + 2;
+    buffer::put(out, 0, &frame[2..end]);
+    Written::Done(len)
+}
+
+// Whether a byte other than 0 stands in a frame from place `from` on.
+fn spoilt(frame: &[u8], from: usize) -> bool
+    ensures { λ r. ⌜ r ≡ other 0 (drop from (now (frame .entry))) ⌝ }
 {
     let mut i = from;
-    while i < b * s {
-        if frame_byte(table, entries, places, b, s, i) != 0 {
+    while i < frame.len() {
+        if frame[i] != 0 {
             return true;
         }
         i += 1;
     }
     false
-}
-
-// Writes `len` bytes of the frame, those after its length, to the start of out.
-fn write_message(
-    table: &[u8; TABLE],
-    entries: &[u8],
-    places: &[usize; MAX_PARTIES],
-    b: usize,
-    s: usize,
-    len: usize,
-    out: &mut [u8],
-)
-    requires { ⌜ (b ≤ maxParties) × (s < 65536) × (len + 2 ≤ b * s) × (len ≤ length (now out))
-        × Reach (now entries) (now places) b s ⌝ }
-    ensures { λ _. ⌜ now (out .exit)
-        ≡ spliced (now (out .entry)) 0
-        (take len (drop 2 (combined b s (now (table .entry)) (now (entries .entry)) (now (places .entry))))) ⌝ }
-{
-    let mut i: usize = 0;
-    while i < len {
-        out[i] = frame_byte(table, entries, places, b, s, i + 2);
-        i += 1;
-    }
 }

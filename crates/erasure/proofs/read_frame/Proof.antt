@@ -1,22 +1,16 @@
 -- `erasure::read_frame` meets its contract: each return is one outcome of the definition. Assumes nothing.
 use mathlib.Core.Path.{_≡_, sym, ap, ap₂, subst, _∙_}
 use mathlib.Core.List.{List}
-use Prim.Native.Nat.{ℕ, _+_, _*_, _≤_}
-use native.Mathlib.Nat.{add-comm}
-use lib.ListN.{length, take, drop, length-drop}
-use lib.Seq.{length-take-le}
-use Rattle.limits.specs.Limits.{maxMessage}
-use Rattle.buffer.specs.Splice.{spliced}
-use Rattle.buffer.specs.Entries.{size, body, rest}
+use Prim.Native.Nat.{ℕ, _+_, _*_, _<_, _≤_}
+use lib.ListN.{length, take}
+use Rattle.limits.specs.Limits.{maxMessage, maxParties, maxShare}
+use Rattle.buffer.specs.Entries.{size}
 use Rattle.erasure.specs.Coding.{shareLength}
-use Rattle.buffer.specs.Given.{gave}
-use Rattle.erasure.specs.Rebuild.{Recovered, message, answered, unframed, other}
-use Rattle.buffer.specs.declared.Written.the-variants.{Short, Done}
-use Rattle.erasure.specs.Arrays.{combined}
+use Rattle.erasure.specs.Rebuild.{Recovered, answered}
+use Rattle.erasure.specs.Arrays.{combined, judged}
 use Rattle.erasure.proofs.Arrays.{blocks-small, length-combined}
-use Rattle.erasure.proofs.Frame.{share-low}
-use Rattle.buffer.proofs.Given.{written-short, written-done}
-use Rattle.erasure.proofs.Outcomes.{unframed-tiny, unframed-over, unframed-stated, unframed-spoilt, unframed-found}
+use Rattle.erasure.proofs.Frame.{share-low, share-high}
+use Rattle.erasure.proofs.Outcomes.{unframed-tiny, unframed-over, unframed-stated, unframed-judged}
 use borrow.Author.Needs.{needs}
 use native.Mathlib.Omega.{arith}
 use Rattle.erasure.proofs.read_frame.Statement.{statement}
@@ -60,31 +54,18 @@ inside c =
     let st = Entry w in
     subst (λ (n : ℕ). Len w + 2 ≤ st .args .b * n) (sym (as-given c)) (share-low (st .args .b) (Len w) (st .pre .0))
 
-filling : (c : tie.Else3) → let w = c .before .before .before in drop (Len w + 2) (F (Entry w)) ≡ rest (F (Entry w))
-unfolding rest
-filling c = let w = c .before .before .before in ap (λ (n : ℕ). drop n (F (Entry w))) (add-comm (Len w) 2 ∙ ap (λ (n : ℕ). 2 + n) (stated w))
-
--- where the filling is zero, the frame has a message of the length read
-found : (c : tie.Else4) → let st = Entry (c .before .before .before .before .before) in
-    unframed (st .args .b) (st .args .s) (F st) ≡ message (body (F st))
-found c =
-    let e = c .before .before in
-    let w = e .before .before .before in
+-- and the frame within its array
+small : (c : tie.Else3) → let st = Entry (c .before .before .before) in st .args .b * st .args .s ≤ maxShare + maxParties
+small c =
+    let w = c .before .before .before in
     let st = Entry w in
-    unframed-found (st .args .b) (st .args .s) (F st) (whole w) (within (e .before .before)) (as-stated e)
-    (ap (other 0) (sym (filling e)) ∙ sym (c .before .spoilt .ensures) ∙ c .if4 .left)
+    omega (arith, subst (λ (n : ℕ). st .args .b * n < Len w + 2 + st .args .b) (sym (as-given c)) (share-high (st .args .b) (Len w) (st .pre .0)), c .before .before .if2 .left, st .pre .1)
 
-text : (c : tie.Else4) → let w = c .before .before .before .before .before in body (F (Entry w)) ≡ take (Len w) (drop 2 (F (Entry w)))
-unfolding body
-text c = let w = c .before .before .before .before .before in ap (λ (n : ℕ). take n (drop 2 (F (Entry w)))) (sym (stated w))
-
-text-length : (c : tie.Else4) → let w = c .before .before .before .before .before in length (body (F (Entry w))) ≡ Len w
-text-length c =
-    let e = c .before .before in
-    let w = e .before .before .before in
-    let st = Entry w in
-    ap length (text c) ∙ length-take-le (Len w) (drop 2 (F st))
-    (omega (arith, length-drop 2 (F st), inside e, length-combined (st .args .b) (st .args .s) (st .args .table .now) (st .args .entries .now) (st .args .places .now)))
+long : (d : tie.After-whole-frame) → let st = Entry (d .before .before .before .before) in
+    length (take (st .args .b * st .args .s) (d .whole-frame .result)) ≡ st .args .b * st .args .s
+long d =
+    let a = Entry (d .before .before .before .before) .args in
+    ap length (d .whole-frame .ensures) ∙ length-combined (a .b) (a .s) (a .table .now) (a .entries .now) (a .places .now)
 
 mul-if1 : tie.Need-mul-if1
 mul-if1 c =
@@ -131,49 +112,37 @@ returns-3 c =
     λ q. c .if3 .taken (q ∙ sym (c .before .share-length .ensures ∙ ap (shareLength (st .args .b)) (stated w))) in
     sym (ap (λ (r : Recovered). answered r (st .args .out .now)) (unframed-stated (st .args .b) (st .args .s) (F st) (whole w) (within (c .before .before)) differs))
 
-add-spoilt : tie.Need-add-spoilt
-add-spoilt c = search needs
+whole-frame-requires : tie.Need-whole-frame-requires
+whole-frame-requires c κs = let st = Entry (c .before .before .before) in (st .pre .1, small c, st .pre .4)
 
-spoilt-requires : tie.Need-spoilt-requires
-spoilt-requires c κs =
-    let st = Entry (c .before .before .before) in
-    (st .pre .1, st .pre .3, inside c, st .pre .4)
+mul-frame : tie.Need-mul-frame
+mul-frame c = omega (arith, small (c .before))
 
-returns-4 : tie.Need-returns-4
-returns-4 c =
-    let e = c .before .before in
-    let w = e .before .before .before in
-    let st = Entry w in
-    sym (ap (λ (r : Recovered). answered r (st .args .out .now)) (unframed-spoilt (st .args .b) (st .args .s) (F st) (whole w) (within (e .before .before)) (as-stated e)
-    (ap (other 0) (sym (filling e)) ∙ sym (c .before .spoilt .ensures) ∙ c .if4 .taken)))
+array-share-prefix-frame : tie.Need-array-share-prefix-frame
+array-share-prefix-frame c = omega (arith, small (c .before))
 
-returns-5 : tie.Need-returns-5
-returns-5 c =
-    let d = c .before in
-    let w = d .before .before .before .before .before in
-    let st = Entry w in
-    let l = text-length d in
-    sym (ap (λ (r : Recovered). answered r (st .args .out .now)) (found d) ∙ written-short (body (F st)) (st .args .out .now) (rw l (c .if5 .taken))
-    ∙ ap (λ (n : ℕ). gave (Short n) (st .args .out .now)) l)
+slice-aggregate-give-message : tie.Need-slice-aggregate-give-message
+slice-aggregate-give-message c = sym (long (c .before))
 
-write-message-requires : tie.Need-write-message-requires
-write-message-requires c κs =
+give-message-requires : tie.Need-give-message-requires
+give-message-requires c κs =
     let d = c .before .before in
-    let st = Entry (d .before .before .before .before .before) in
-    (st .pre .1, st .pre .3, inside (d .before .before), c .before .if5 .left, st .pre .4)
+    (stated (d .before .before .before .before) ∙ ap size (sym (d .whole-frame .ensures)), omega (arith, inside (d .before), long d))
 
 same-length : tie.Need-same-length
 same-length c = search needs
 
-returns-6 : tie.Need-returns-6
-returns-6 c =
-    let m = c .before .before in
-    let d = m .before .before .before in
-    let w = d .before .before .before .before .before in
+returns-4 : tie.Need-returns-4
+returns-4 c =
+    let g = c .before .before in
+    let d = g .before .before .before in
+    let e = d .before in
+    let w = e .before .before .before in
     let st = Entry w in
-    let l = text-length d in
-    sym (ap (λ (r : Recovered). answered r (st .args .out .now)) (found d) ∙ written-done (body (F st)) (st .args .out .now) (rw l (m .before .before .if5 .left))
-    ∙ ap₂ (λ (n : ℕ) (o : List ℕ). gave (Done n) o) l (ap (spliced (st .args .out .now) 0) (text d) ∙ sym (m .write-message .ensures)))
+    g .give-message .ensures
+    ∙ ap (λ (f : List ℕ). answered (judged f) (st .args .out .now)) (d .whole-frame .ensures)
+    ∙ sym (ap (λ (r : Recovered). answered r (st .args .out .now))
+    (unframed-judged (st .args .b) (st .args .s) (F st) (whole w) (within (e .before .before)) (as-stated e)))
 
 pub read-frame-spec : {M : Type 1} → statement M
 read-frame-spec =
@@ -190,10 +159,10 @@ read-frame-spec =
     returns-2
     share-length-requires
     returns-3
-    add-spoilt
-    spoilt-requires
-    returns-4
-    returns-5
-    write-message-requires
+    whole-frame-requires
+    mul-frame
+    array-share-prefix-frame
+    slice-aggregate-give-message
+    give-message-requires
     same-length
-    returns-6)
+    returns-4)

@@ -1,6 +1,6 @@
 -- `erasure::write_share` meets its contract: the row holds the value of the blocks from k on, by Horner's rule. Assumes nothing.
 use mathlib.Core.Path.{_≡_, sym, ap, ap₂, _∙_}
-use Prim.Native.Nat.{ℕ, _+_, _-_, _*_, _≤_, _<_}
+use Prim.Native.Nat.{ℕ, _+_, _-_, _≤_, _<_}
 use native.Mathlib.Omega.{arith}
 use lib.ListN.{length, getD, take, length-replicate}
 use lib.Seq.{length-take-le}
