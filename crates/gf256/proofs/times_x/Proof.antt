@@ -2,18 +2,18 @@
 use mathlib.Core.Path.{_≡_}
 use Prim.Native.Nat.{ℕ, _*_, _/_, _%_, _<_}
 use lib.Bits.{bitXor}
-use lib.Dec.{eqb, eqb→eq}
+use lib.Dec.{T, eqb, eqb→eq}
 use Rattle.gf256.specs.Field.{timesX}
-use Rattle.gf256.proofs.Test.{below}
+use Rattle.gf256.proofs.Test.{all, below}
 use borrow.Author.Needs.{needs}
 use Rattle.gf256.proofs.times_x.Statement.{statement}
 use Rattle.gf256.proofs.times_x.Tie as tie
 
-within-byte : (a : ℕ) → a < 256 → bitXor (a % 128 * 2) (a / 128 * 0x1B) ≡ timesX a
-unfolding timesX
-within-byte a h =
-    eqb→eq (bitXor (a % 128 * 2) (a / 128 * 0x1B)) (timesX a)
-    (below (λ (n : ℕ). eqb (bitXor (n % 128 * 2) (n / 128 * 0x1B)) (timesX n)) 256 tt a h)
+-- what is added where the highest bit stood is m here, so that the test is of the code's own number
+within-byte : (m a : ℕ) → a < 256 → T (all (λ (n : ℕ). eqb (bitXor (n % 128 * 2) (n / 128 * m)) (timesX n)) 256)
+    → bitXor (a % 128 * 2) (a / 128 * m) ≡ timesX a
+within-byte m a h t =
+    eqb→eq (bitXor (a % 128 * 2) (a / 128 * m)) (timesX a) (below (λ (n : ℕ). eqb (bitXor (n % 128 * 2) (n / 128 * m)) (timesX n)) 256 t a h)
 
 mul-result : tie.Need-mul-result
 mul-result c = search needs
@@ -22,7 +22,8 @@ mul-result-2 : tie.Need-mul-result-2
 mul-result-2 c = search needs
 
 returns : tie.Need-returns
-returns c = within-byte (c .args .a) (c .fits .a .fits)
+unfolding timesX
+returns c = within-byte _ (c .args .a) (c .fits .a .fits) tt
 
 pub times-x-spec : {M : Type 1} → statement M
 times-x-spec = tie.close (tie.spec mul-result mul-result-2 returns)
