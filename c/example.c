@@ -5,25 +5,12 @@
 #include <string.h>
 #include "cipangohu.h"
 enum { N = 3, T = 1, ROOM = 2000, STATE = CIPANGOHU_STATE };
-static uint8_t state[N][STATE], root[N][32], out[N][ROOM], inbox[N * ROOM], relays[N * ROOM], relay[ROOM];
-
+static uint8_t state[N][STATE], root[N][32], out[N][ROOM], inbox[N * ROOM], relays[N * (ROOM + 2)];
 /* The value of an accepted call; a refused one ends the program. */
-static uint32_t value(uint64_t answer) {
-    if (cipangohu_cause(answer) != 0) exit(1);
-    return cipangohu_value(answer);
-}
-
-/* Puts a two-byte length and the packet at the end of an inbox; gives the new end. */
-static size_t append(uint8_t *box, size_t end, const uint8_t *packet, size_t len) {
-    box[end] = (uint8_t)(len >> 8);
-    box[end + 1] = (uint8_t)len;
-    memcpy(box + end + 2, packet, len);
-    return end + 2 + len;
-}
-
+static uint32_t value(uint64_t answer) { if (cipangohu_cause(answer) != 0) exit(1); return cipangohu_value(answer); }
 int main(void) {
     const char *books[N] = {"AB", "AB", "other"};
-    size_t read[N] = {0}, end = 0;
+    size_t at[N] = {0}, end = 0;
     for (size_t i = 0; i < N; i++)
         value(cipangohu_open(N, T, i + 1, (const uint8_t *)books[i], strlen(books[i]), state[i], STATE, root[i], 32));
     for (size_t i = 0; i < N; i++) { /* the short agreements settle on box 1's root and bit */
@@ -33,15 +20,15 @@ int main(void) {
     for (size_t j = 0; j < N; j++) { /* the inbox has the next entry of each outbox */
         size_t size = 0;
         for (size_t i = 0; i < N; i++) {
-            size_t len = out[i][read[i]] * 256u + out[i][read[i] + 1];
-            size = append(inbox, size, out[i] + read[i] + 2, len);
-            read[i] += 2 + len;
+            size_t len = 2 + out[i][at[i]] * 256u + out[i][at[i] + 1];
+            memcpy(inbox + size, out[i] + at[i], len);
+            size += len, at[i] += len;
         }
-        end = append(relays, end, relay, value(cipangohu_take_shares(state[j], STATE, inbox, size, relay, ROOM)));
+        uint32_t len = value(cipangohu_take_shares(state[j], STATE, inbox, size, relays + end + 2, ROOM));
+        relays[end] = (uint8_t)(len >> 8), relays[end + 1] = (uint8_t)len, end += 2 + len;
     }
     for (size_t i = 0; i < N; i++) {
         uint32_t len = value(cipangohu_take_relays(state[i], STATE, relays, end, out[i], ROOM));
-        if (len == CIPANGOHU_NOTHING) printf("%zu -\n", i + 1);
-        else printf("%zu = %.*s\n", i + 1, (int)len, (const char *)out[i]);
+        printf(len == CIPANGOHU_NOTHING ? "%zu -\n" : "%zu = %.*s\n", i + 1, (int)len, (const char *)out[i]);
     }
 }
