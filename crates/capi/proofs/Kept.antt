@@ -17,7 +17,6 @@ use Rattle.buffer.specs.declared.Written.the-variants as given
 use Rattle.party.specs.State.{Result, nothing, settled, bytesOf as resultBytes, messageIn, atFirst, atSecond, atEnd, blankState}
 use Rattle.party.specs.Steps.{openCause, openOf, stateCause, rootCause, withRoot, agreeRootOf, Ballot, bitCause, gives, writes, outboxOf, agreeBitOf}
 use Rattle.party.specs.Steps.{inboxCause, heldOf, relayOf, takeSharesOf, resultOf, givesEnd, ending, takeRelaysOf}
-use Rattle.party.specs.Calls.{Call, agreeRoot, agreeBit, takeShares, takeRelays, Event, made, events, final}
 use Rattle.party.specs.Private.{Fit}
 use Rattle.party.specs.declared.Party.{Party}
 use Rattle.party.specs.declared.Opened.{Opened}
@@ -25,6 +24,7 @@ use Rattle.party.specs.declared.Settled.the-variants as answer
 use Rattle.party.proofs.Causes.{state-fit, state-sound, open-bounds, root-state, root-length, bit-state, inbox-sound}
 use Rattle.party.proofs.Outcomes.{open-given, open-refused, root-refused, root-given}
 use Rattle.party.proofs.Progress.{message-short, held-short, result-short}
+use Rattle.agreement.specs.Calls.{Call, agreeRoot, agreeBit, takeShares, takeRelays, Event, made, events, final}
 use Rattle.capi.specs.Layout.{stateLength, stageIn, readIn, stateOf}
 use Rattle.capi.specs.Calls.{Reply, reply, Replies, kept, endValue, openCall, agreeRootCall, agreeBitCall, takeSharesCall}
 use Rattle.capi.specs.Calls.{takeRelaysCall}

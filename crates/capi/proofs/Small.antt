@@ -34,7 +34,7 @@ use Rattle.party.proofs.Progress.{result-short}
 use Rattle.party.proofs.Rooms.{outbox-fits, relay-fits}
 use Rattle.party.proofs.Shared.{length-shares}
 use Rattle.party.proofs.Taking.{Short, short-recovered}
-use Rattle.party.proofs.Tree.{Coded}
+use Rattle.party.proofs.Messages.{Coded}
 use Rattle.capi.specs.Calls.{packed, endValue}
 
 -- what is written, or would be

@@ -4,7 +4,7 @@ use mathlib.Core.List.{List, [], _∷_}
 use mathlib.Core.Option.{Option, none, some}
 use Prim.Native.Nat.{ℕ}
 use Rattle.party.specs.State.{Result, nothing, settled}
-use Rattle.party.specs.Calls.{Call, agreeRoot, agreeBit, takeShares, takeRelays, Event}
+use Rattle.agreement.specs.Calls.{Call, agreeRoot, agreeBit, takeShares, takeRelays, Event}
 use Rattle.capi.specs.Calls.{packed, Reply, reply, Replies, replies, nothingValue, agreeRootCall, agreeBitCall, takeSharesCall}
 use Rattle.capi.specs.Calls.{takeRelaysCall}
 

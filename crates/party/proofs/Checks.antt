@@ -15,9 +15,9 @@ use Rattle.packet.specs.Format.{Reading, silence, unreadable, shared, readOf}
 use Rattle.packet.specs.Class.{Class, silent, faulty, valid, judged, classOf, checkedStrings, classStrings}
 use Rattle.party.specs.State.{shareHeld}
 use Rattle.party.specs.Steps.{missing, found, firstValid, shareFrom, gathered}
-use Rattle.party.specs.Calls.{unlessValid, shareStrings, relayStrings}
+use Rattle.party.specs.Strings.{unlessValid, shareStrings, relayStrings}
 use Rattle.party.specs.declared.Party.{Party}
-use Rattle.party.proofs.Run.{Way, on, off, way}
+use Rattle.party.proofs.Ways.{Way, on, off, way}
 
 module _ (H : List ℕ → List ℕ) (n : ℕ) where
   -- a packet under number k that passes, with the strings of its check

@@ -12,7 +12,7 @@ use Rattle.buffer.specs.Splice.{spliced, putOf}
 use Rattle.buffer.proofs.Splice.{put-fits}
 use Rattle.merkle.proofs.Descend.{drop-replicate}
 use Rattle.merkle.specs.Shares.{blank}
-use Rattle.party.specs.State.{padded, messageIn, waiting, atEnd, Result, outcomeOf, bytesOf}
+use Rattle.party.specs.State.{padded, messageIn, shareHeld, waiting, atRoot, atBit, atFirst, atSecond, atEnd, Result, outcomeOf, bytesOf}
 use Rattle.party.specs.declared.Stage.{Stage}
 use Rattle.party.specs.declared.Stage.the-variants.{Ended}
 use Rattle.party.specs.declared.Party.{Party}
@@ -72,3 +72,25 @@ pub ended-kept : (n t own : ℕ) (r : Result) (bs : List ℕ) → bs ≡ padded 
     }) (atEnd n t own r)
 unfolding atEnd
 ended-kept n t own r bs e = rw e
+
+-- the message of a state that waits, and its relayed share
+module _ (n t i : ℕ) (m z : List ℕ) where
+  pub message-root : messageIn (atRoot n t i m) ≡ m
+  unfolding atRoot
+  message-root = take-padded maxMessage m
+
+  pub message-bit : messageIn (atBit n t i m z) ≡ m
+  unfolding atBit
+  message-bit = take-padded maxMessage m
+
+  pub message-first : messageIn (atFirst n t i m z) ≡ m
+  unfolding atFirst
+  message-first = take-padded maxMessage m
+
+  pub message-second : (x : List ℕ) → messageIn (atSecond n t i m z x) ≡ m
+  unfolding atSecond
+  message-second x = take-padded maxMessage m
+
+  pub share-second : (x : List ℕ) → shareHeld (atSecond n t i m z x) ≡ x
+  unfolding atSecond
+  share-second x = take-padded maxShare x

@@ -9,14 +9,9 @@ pub mod Valid
 pub mod Walk
 pub mod Taking
 pub mod Relay
-pub mod Run
-pub mod Ran
+pub mod Ways
 pub mod Checks
 pub mod Progress
-pub mod Depends
 pub mod Cases
-pub mod Tree
-pub mod Lists
-pub mod Agreement
+pub mod Messages
 pub mod Rooms
-pub mod Instances

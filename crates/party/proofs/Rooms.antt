@@ -21,8 +21,7 @@ use Rattle.packet.proofs.Parts.{entry-length, packet-length}
 use Rattle.packet.proofs.Reading.{fields-of, read-wide}
 use Rattle.party.specs.State.{atBit, atFirst, happy}
 use Rattle.party.specs.Steps.{packetFor, outboxOf, Taken, missing, found, takenBy, packetTaken, ownRelay, relayOf}
-use Rattle.party.proofs.Tree.{Coded, share-fits, pathTo, path-count, path-each}
-use Rattle.party.proofs.Agreement.{packet-bit, packet-first}
+use Rattle.party.proofs.Messages.{Coded, share-fits, pathTo, path-count, path-each, packet-bit, packet-first}
 use Rattle.party.proofs.Checks.{took, passing}
 use Rattle.party.specs.Rooms.{maxPacket, maxOutbox}
 

@@ -17,10 +17,10 @@ use Rattle.buffer.specs.declared.Written.{Written}
 use Rattle.buffer.specs.declared.Written.the-variants as given
 use Rattle.buffer.proofs.Written.{the-type as written-type}
 use Rattle.buffer.proofs.Given.{written-done}
-use Rattle.party.specs.Calls.{entry}
 use Rattle.party.specs.Steps.{Stepped, writes, refused, bitCause, outboxOf, agreeBitOf, inboxCause, relayOf, takeSharesOf}
 use Rattle.party.specs.declared.Party.{Party}
 use Rattle.party.proofs.Outcomes.{not-done}
+use Rattle.agreement.specs.Calls.{entry}
 use Rattle.plan.specs.Layout.{packetFrom, nIn, goodIn, firstIn, secondIn}
 use Rattle.plan.specs.Plan.{bookOf, packetOf}
 use Rattle.plan.proofs.Given.{book-given, packet-given}

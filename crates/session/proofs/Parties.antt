@@ -8,8 +8,8 @@ use Prim.Native.Nat.{ℕ, zero, suc, _+_, _≤_, _<_}
 use native.Mathlib.Decide.{ℕ-discrete}
 use native.Mathlib.Omega.{arith}
 use borrow.Author.Tests.{eq-eqb, ne-eqb}
-use Rattle.party.specs.Agreement.{Good, among, different, absent, sumOver}
-use Rattle.party.proofs.Run.{Way, on, off, way, clash}
+use Rattle.party.proofs.Ways.{Way, on, off, way, clash}
+use Rattle.agreement.specs.Agreement.{Good, among, different, absent, sumOver}
 use Rattle.plan.specs.Layout.{unnamed, nIn, goodIn}
 use Rattle.session.specs.Session.{isGood, sentOf, sentFrom, goodParty, goodFrom}
 

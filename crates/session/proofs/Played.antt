@@ -30,20 +30,23 @@ use Rattle.packet.proofs.Inbox.{inbox-fills, inbox-bodies}
 use Rattle.party.specs.State.{Result, nothing, bytesOf, atRoot, atBit, atFirst, atSecond, atEnd, resultIn, messageRoot, happy}
 use Rattle.party.specs.Steps.{turnOf, openCause, withRoot, Ballot, ballot, bitIn, outboxOf, heldOf, relayOf}
 use Rattle.party.specs.Steps as steps
-use Rattle.party.specs.Calls.{Call, agreeRoot, agreeBit, takeShares, takeRelays, Event, accepted, first, entry, heard, wrote, packetTo, bitGiven, resultShown}
-use Rattle.party.specs.Calls.{Reply, sentOver, made, events, final, did, firstOf, resultAfter, hashed, sentBy, opening}
-use Rattle.party.specs.Agreement.{Good, Each, step, Clean, Premises, sent, Conclusions, Agreement}
 use Rattle.party.specs.declared.Party.{Party}
 use Rattle.party.specs.declared.Opened.{Opened}
 use Rattle.party.specs.declared.Vote.the-variants.{Happy}
-use Rattle.party.proofs.Run.{Way, on, off, way, did3, did4}
-use Rattle.party.proofs.Ran.{message-root, message-bit, message-first, opened-is, result-end}
-use Rattle.party.proofs.Tree.{Coded, fine}
+use Rattle.party.proofs.Ways.{Way, on, off, way}
+use Rattle.party.proofs.Kept.{message-root, message-bit, message-first}
+use Rattle.party.proofs.Messages.{Coded, fine}
 use Rattle.party.proofs.Causes.{state-fine, root-fine}
 use Rattle.party.proofs.Outcomes.{open-given, open-refused, root-given, root-refused}
 use Rattle.party.proofs.Progress.{open-accepted, bit-accepted, shares-accepted, relays-accepted}
 use Rattle.party.proofs.Progress.{root-whole, bit-whole, first-whole, second-whole, held-short, result-short}
-use Rattle.party.proofs.Agreement.{agreement, agreement-sha256}
+use Rattle.party.proofs.Rooms.{outbox-fits, relay-fits}
+use Rattle.agreement.specs.Calls.{Call, agreeRoot, agreeBit, takeShares, takeRelays, Event, accepted, first, entry, heard, wrote, packetTo, bitGiven, resultShown}
+use Rattle.agreement.specs.Calls.{Reply, sentOver, made, events, final, did, firstOf, resultAfter, hashed, sentBy, opening}
+use Rattle.agreement.specs.Agreement.{Good, Each, step, Clean, Premises, sent, Conclusions, Agreement}
+use Rattle.agreement.proofs.Run.{did3, did4}
+use Rattle.agreement.proofs.Ran.{opened-is, result-end}
+use Rattle.agreement.proofs.Agreement.{agreement, agreement-sha256}
 use Rattle.plan.specs.Layout.{unnamed, lowest, nIn, tIn, hasRoot, hasBit, rootIn, goodIn, booksIn}
 use Rattle.plan.specs.Layout as layout
 use Rattle.plan.specs.Plan.{planCause}
@@ -52,7 +55,6 @@ use Rattle.session.specs.Session.{maxPacket, maxOutbox, wroteIn, orNothi
 use Rattle.session.specs.Session.{sameRoots, sameBits, unlawful, sessionCause, step3, firstFrom, firstInbox, step4, secondFrom, secondInbox, step5}
 use Rattle.session.specs.Session.{endsWith, sentOf, sentFrom, callsOf, goodParty, goodParties}
 use Rattle.session.proofs.Parties.{named, party-in, apart, bad-count, sum-of}
-use Rattle.party.proofs.Rooms.{outbox-fits, relay-fits}
 
 -- a plan without a cause: the plan itself has none, and nothing is against the rule
 no-cause : (k : ℕ) (b : Bool) → cond (not (eqb k 0)) k (cond b 14 0) ≡ 0 → (k ≡ 0) × (b ≡ false)

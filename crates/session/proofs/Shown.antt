@@ -14,7 +14,7 @@ use Rattle.buffer.specs.declared.Written.{Written}
 use Rattle.buffer.specs.declared.Written.the-variants.{Refused, Short, Done}
 use Rattle.buffer.proofs.Written.{the-type as written-type}
 use Rattle.report.specs.Output.{refusedLine, refusedLineOf}
-use Rattle.party.proofs.Run.{Way, on, off, way}
+use Rattle.party.proofs.Ways.{Way, on, off, way}
 use Rattle.session.specs.Session.{sessionCause, output, rehearseOf, printed, printOf}
 
 -- what is written is not refused

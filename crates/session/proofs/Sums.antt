@@ -15,7 +15,7 @@ use Rattle.sha256.specs.Sha256.{sha256}
 use Rattle.buffer.specs.Entries.{size, body, rest, bodies}
 use Rattle.buffer.proofs.Entries.{bodies-more}
 use Rattle.buffer.proofs.Rows.{row-inside}
-use Rattle.party.specs.Calls.{lengths}
+use Rattle.agreement.specs.Calls.{lengths}
 use Rattle.plan.specs.Layout.{nIn}
 use Rattle.session.specs.Session.{isGood, maxPacket, wroteIn, agreedBit, step3, step4, sentOf, sentFrom}
 use Rattle.session.specs.Private.{Slots, Relayed, Sizes}

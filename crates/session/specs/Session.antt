@@ -15,10 +15,10 @@ use Rattle.merkle.specs.Shares.{same}
 use Rattle.packet.specs.Inbox.{inboxOf}
 use Rattle.party.specs.State.{Result, nothing}
 use Rattle.party.specs.Steps.{openOf, Ballot, agreeRootOf, Stepped, agreeBitOf, takeSharesOf, Ending, takeRelaysOf}
-pub use Rattle.party.specs.Rooms.{maxPacket, maxOutbox}
-use Rattle.party.specs.Calls.{Call, agreeRoot, agreeBit, takeShares, takeRelays, entry, lengths}
-use Rattle.party.specs.Agreement.{Good}
 use Rattle.party.specs.declared.Opened.{Opened}
+pub use Rattle.party.specs.Rooms.{maxPacket, maxOutbox}
+use Rattle.agreement.specs.Calls.{Call, agreeRoot, agreeBit, takeShares, takeRelays, entry, lengths}
+use Rattle.agreement.specs.Agreement.{Good}
 use Rattle.plan.specs.Layout.{names, under, packetFrom, unnamed, lowest, nIn, tIn, hasRoot, hasBit, rootIn, bitIn, goodIn, booksIn, firstIn, secondIn}
 use Rattle.plan.specs.Plan.{planCause}
 use Rattle.report.specs.Output.{line, sentLine, refusedLine}

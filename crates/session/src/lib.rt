@@ -13,7 +13,7 @@ ghost use Rattle.buffer.specs.Given.{causeOf, valueOf, gave};
 ghost use Rattle.packet.specs.Format.{entryOf};
 ghost use Rattle.party.specs.State.{nothing, settled};
 ghost use Rattle.party.specs.Steps.{voted, bitIn, stepped, resultGiven, ended};
-ghost use Rattle.party.specs.Calls.{lengths};
+ghost use Rattle.agreement.specs.Calls.{lengths};
 ghost use Rattle.plan.specs.Layout.{names, unnamed, lowest, nIn};
 ghost use Rattle.report.specs.Output.{line};
 ghost use Rattle.session.specs.Session.{maxPacket, maxOutbox, wroteIn, orNothing, isGood, opened, agreedRoot, step2, agreedBit};

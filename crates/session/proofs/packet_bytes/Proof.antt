@@ -6,7 +6,7 @@ use native.Mathlib.Nat.{sub-zero}
 use native.Mathlib.Omega.{arith}
 use lib.ListN.{length, drop}
 use Rattle.buffer.specs.Entries.{size, bodies}
-use Rattle.party.specs.Calls.{lengths}
+use Rattle.agreement.specs.Calls.{lengths}
 use Rattle.session.proofs.Sums.{packets-end, packets-none, packets-more, packets-last}
 use borrow.Author.Needs.{needs}
 use Rattle.session.proofs.packet_bytes.Statement.{statement}

@@ -13,9 +13,9 @@ use lib.Dec.{eqb}
 use lib.ListN.{length, getD, replicate}
 use Rattle.buffer.specs.Splice.{tabulate}
 use Rattle.erasure.specs.Rebuild.{present}
-use Rattle.party.specs.Calls.{lengths}
-use Rattle.party.specs.Agreement.{among, different, absent, sumOver, joinOver}
-use Rattle.party.proofs.Run.{Way, on, off, way, clash}
+use Rattle.party.proofs.Ways.{Way, on, off, way, clash}
+use Rattle.agreement.specs.Calls.{lengths}
+use Rattle.agreement.specs.Agreement.{among, different, absent, sumOver, joinOver}
 
 -- lengths of packets
 lengths-more : (ps : List (List ℕ)) (p : List ℕ) → lengths (ps ++ (p ∷ [])) ≡ lengths ps + length p

@@ -9,11 +9,11 @@ use lib.ListN.{length, getD, take}
 use Rattle.buffer.specs.Entries.{bodies}
 use Rattle.erasure.specs.Coding.{shares}
 use Rattle.merkle.specs.Shares.{codingStrings}
-use Rattle.packet.specs.Class.{Class, silent, faulty, valid, classOf, classStrings}
 use Rattle.party.specs.State.{Result, resultIn, happy}
 use Rattle.party.specs.Steps.{openOf, agreeRootOf, agreeBitOf, takeSharesOf, takeRelaysOf}
+use Rattle.party.specs.Strings.{shareStrings, relayStrings}
 use Rattle.party.specs.declared.Party.{Party}
 use Rattle.party.specs.declared.Opened.{Opened}
 
 -- a call of step 2, 3, 4 or 5, with what it is handed: a root; a bit and the out buffer; an inbox and the out buffer
 pub data Call : Type 0 where
@@ -107,12 +107,6 @@ unfoldable pub sentOver : ℕ → List Event → ℕ
 sentOver n [] = 0
 sentOver n (e ∷ es) = sentIn n (e .call) (writtenBy e) + sentOver n es
 
--- these strings, unless a packet of this class ends the search
-abbrev pub unlessValid : Class → List (List ℕ) → List (List ℕ)
-unlessValid silent ss = ss
-unlessValid faulty ss = ss
-unlessValid (valid x p) ss = []
-
 module _ (H : List ℕ → List ℕ) where
   unfoldable pub made : Party → Call → Reply
   made x (agreeRoot z) =
@@ -136,25 +130,13 @@ module _ (H : List ℕ → List ℕ) where
   final x [] = x
   final x (c ∷ cs) = final (made x c .state) cs
 
-  -- step 4 checks the packets that bear the own number, up to the first that passes; of senders numbered from j on
-  unfoldable pub shareStrings : ℕ → ℕ → List ℕ → ℕ → List (List ℕ) → List (List ℕ)
-  shareStrings n own z j [] = []
-  shareStrings n own z j (p ∷ ps) =
-      cond (eqb j own) (shareStrings n own z (j + 1) ps)
-      (classStrings H n own p ++ unlessValid (classOf H n own z p) (shareStrings n own z (j + 1) ps))
-
-  -- step 5 checks each other sender's packet that bears the sender's number
-  unfoldable pub relayStrings : ℕ → ℕ → ℕ → List (List ℕ) → List (List ℕ)
-  relayStrings n own j [] = []
-  relayStrings n own j (p ∷ ps) = cond (eqb j own) [] (classStrings H n j p) ++ relayStrings n own (j + 1) ps
-
   -- the strings of the path checks that an accepted call makes; a happy party makes none
   unfoldable pub checkedIn : Party → Call → List (List ℕ)
   checkedIn x (agreeRoot z) = []
   checkedIn x (agreeBit bit out) = []
   checkedIn x (takeShares inbox out) =
-      cond (happy H x) [] (shareStrings (x .n) (x .own) (x .root) 1 (bodies (x .n) inbox))
-  checkedIn x (takeRelays inbox out) = cond (happy H x) [] (relayStrings (x .n) (x .own) 1 (bodies (x .n) inbox))
+      cond (happy H x) [] (shareStrings H (x .n) (x .own) (x .root) 1 (bodies (x .n) inbox))
+  checkedIn x (takeRelays inbox out) = cond (happy H x) [] (relayStrings H (x .n) (x .own) 1 (bodies (x .n) inbox))
 
   unfoldable pub checkedOver : List Event → List (List ℕ)
   checkedOver [] = []

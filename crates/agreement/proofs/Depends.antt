@@ -20,12 +20,12 @@ use Rattle.merkle.proofs.Trees.{root-hashed, path-hashed, check-hashed}
 use Rattle.packet.specs.Format.{Reading, silence, unreadable, shared, packetOf, readOf}
 use Rattle.packet.specs.Inbox.{inboxOf}
 use Rattle.packet.specs.Class.{Class, silent, faulty, valid, judged, classOf, checkedStrings, classStrings}
 use Rattle.party.specs.State.{messageIn, shareHeld, messageRoot, happy}
 use Rattle.party.specs.Steps.{packetFor, outboxOf, firstValid, takenBy, shareTaken, packetTaken, ownRelay, relayOf, heldOf, shareFrom, gathered, rebuilt, resultOf}
-use Rattle.party.specs.Calls.{unlessValid, shareStrings, relayStrings}
+use Rattle.party.specs.Strings.{unlessValid, shareStrings, relayStrings}
 use Rattle.party.specs.declared.Party.{Party}
-use Rattle.party.proofs.Run.{Way, on, off, way}
-use Rattle.party.proofs.Tree.{Coded, fine}
+use Rattle.party.proofs.Ways.{Way, on, off, way}
+use Rattle.party.proofs.Messages.{Coded, fine}
 
 module _ (H K : List ℕ → List ℕ) where
   agree-left : (xs ys : List (List ℕ)) → Agree H K (xs ++ ys) → Agree H K xs

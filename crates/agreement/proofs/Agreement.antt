@@ -13,7 +13,7 @@ use native.Mathlib.Decide.{ℕ-discrete}
 use native.Mathlib.Omega.{arith}
 use borrow.Author.Tests.{eqb-true, eqb-false, eq-eqb, ne-eqb}
 use lib.Dec.{eqb}
-use lib.ListN.{length, getD, take, replicate, length-replicate}
+use lib.ListN.{length, getD, replicate, length-replicate}
 use Rattle.sha256.specs.Sha256.{sha256}
 use Rattle.sha256.proofs.Laws.{sha256-length}
 use Rattle.limits.proofs.Group.{group-of}
@@ -28,7 +28,7 @@ use Rattle.erasure.proofs.Present.{taken}
 use Rattle.erasure.proofs.Complete.{complete}
 use Rattle.merkle.specs.Height.{height}
 use Rattle.merkle.specs.Strings.{Collision}
-use Rattle.merkle.specs.Shares.{leavesOf, sidesOf, pathOf, same, passes, codingStrings, stringsOf}
+use Rattle.merkle.specs.Shares.{same, passes, codingStrings, stringsOf}
 use Rattle.merkle.proofs.Shape.{sides-height}
 use Rattle.merkle.proofs.Judged.{same-true, same-refl}
 use Rattle.merkle.proofs.Sound.{Wide}
@@ -38,25 +38,27 @@ use Rattle.packet.specs.Class.{Class, silent, faulty, valid, classOf}
 use Rattle.packet.proofs.Inbox.{inbox-bodies}
 use Rattle.packet.proofs.Inverse.{written-read}
 use Rattle.packet.proofs.Reading.{fields-of, read-wide}
 use Rattle.party.specs.State.{Result, nothing, settled, atBit, atFirst, atSecond, messageRoot, happy}
 use Rattle.party.specs.Steps.{packetFor, outboxOf, found, firstValid, relayOf, heldOf}
 use Rattle.party.specs.Steps.{shareFrom, gathered, rebuilt, resultOf}
-use Rattle.party.specs.Calls.{agreeBit, bitGiven, resultAfter}
-use Rattle.party.specs.Calls.{entry, lengths, checkedIn, opening, hashed, sentBy}
-use Rattle.party.specs.Agreement.{Good, among, different, absent, Each, owns, step, Premises, sent, Conclusions, Agreement}
 use Rattle.party.specs.declared.Party.{Party}
 use Rattle.party.specs.declared.Opened.{Opened}
 use Rattle.party.proofs.Causes.{open-bounds}
-use Rattle.party.proofs.Run.{Way, on, off, way, clash}
-use Rattle.party.proofs.Ran.{Ran, ran-none, ran-through, opened-is, bit-given, bit-small, message-bit, message-first, message-second, share-second}
+use Rattle.party.proofs.Kept.{message-bit, message-first, message-second, share-second}
+use Rattle.party.proofs.Messages.{Coded, share-some, pathTo, packetWith, packet-bit, packet-first}
+use Rattle.party.proofs.Ways.{Way, on, off, way, clash}
 use Rattle.party.proofs.Checks.{Passing, passing, passes-valid, Took, took, finds, in-relays, gathered-at, gathered-length}
-use Rattle.party.proofs.Tree.{Coded, share-some, pathTo, packetWith, own-reads, own-leads, own-valid, own-length, honest, one-root}
-use Rattle.party.proofs.Lists.{lengths-none, lengths-others, sum-below, sum-none, in-join, find, among-out, one-each, present-or}
+use Rattle.agreement.specs.Calls.{agreeBit, bitGiven, resultAfter}
+use Rattle.agreement.specs.Calls.{entry, lengths, checkedIn, opening, hashed, sentBy}
+use Rattle.agreement.specs.Agreement.{Good, among, different, absent, Each, owns, step, Premises, sent, Conclusions, Agreement}
+use Rattle.agreement.proofs.Ran.{Ran, ran-none, ran-through, opened-is, bit-given, bit-small}
+use Rattle.agreement.proofs.Tree.{own-reads, own-leads, own-valid, own-length, honest, one-root}
+use Rattle.agreement.proofs.Lists.{lengths-none, lengths-others, sum-below, sum-none, in-join, find, among-out, one-each, present-or}
 
 regroup : (g k K x : ℕ) → x ≤ g * (2 * (k * K)) → x ≤ 2 * g * k * K
 regroup g k K x h = omega arith
 
--- one party: whether it is happy, what its packets are, and what lies in its outbox
+-- one party: whether it is happy, and what lies in its outbox
 module _ (H : List ℕ → List ℕ) (n t i : ℕ) (m z : List ℕ) where
   abbrev glad : Bool
   glad = same (messageRoot H n t m) z
@@ -72,21 +74,6 @@ module _ (H : List ℕ → List ℕ) (n t i : ℕ) (m z : List ℕ) where
   happy-second : (x : List ℕ) → happy H (atSecond n t i m z x) ≡ glad
   unfolding happy atSecond
   happy-second x = ap (λ (b : List ℕ). same (messageRoot H n t b) z) (message-second n t i m z x)
-
-  module _ (wide : (s : List ℕ) → length (H s) ≡ 32) (c : Coded n t m) (j : ℕ) (first : 1 ≤ j) (last : j ≤ n) where
-    pub packet-bit : packetFor H (atBit n t i m z) j ≡ packetWith H wide n t m c j first last
-    unfolding packetFor atBit
-    packet-bit = ap (λ (b : List ℕ). packetOf j (share (n - t) j b) (path b)) (message-bit n t i m z)
-      where
-        path : List ℕ → List (List ℕ)
-        path b = take (length (sidesOf n j)) (pathOf H n j (leavesOf H n (shares n (n - t) b)))
-
-    pub packet-first : packetFor H (atFirst n t i m z) j ≡ packetWith H wide n t m c j first last
-    unfolding packetFor atFirst
-    packet-first = ap (λ (b : List ℕ). packetOf j (share (n - t) j b) (path b)) (message-first n t i m z)
-      where
-        path : List ℕ → List (List ℕ)
-        path b = take (length (sidesOf n j)) (pathOf H n j (leavesOf H n (shares n (n - t) b)))
 
   abbrev packets : ℕ → List ℕ
   packets k = cond (eqb (k + 1) i) [] (packetFor H (atBit n t i m z) (k + 1))

@@ -28,14 +28,15 @@ use Rattle.merkle.proofs.Judged.{same-true, same-refl}
 use Rattle.packet.specs.Format.{chained, hashes, packetOf, entryOf, shareIn, readOf}
 use Rattle.packet.specs.Inbox.{inboxOf}
 use Rattle.packet.specs.Class.{classOf, classStrings}
 use Rattle.party.specs.State.{Result, nothing, settled, atRoot, atBit, atFirst, atSecond, atEnd, blankState, broken, messageRoot, happy}
 use Rattle.party.specs.Steps.{stateCause, openCause, openOf, rootCause, agreeRootOf, packetFor, bitCause, outboxOf, agreeBitOf, inboxCause, firstValid}
 use Rattle.party.specs.Steps.{relayOf, heldOf, takeSharesOf, gathered, resultOf, takeRelaysOf}
-use Rattle.party.specs.Calls.{Call, agreeRoot, agreeBit, takeShares, takeRelays, Event, accepted, first, entry, lengths, sentOver, made, events, final}
-use Rattle.party.specs.Calls.{shareStrings, relayStrings, checkedIn, checkedOver, did, hashed, sentBy, heard, packetTo, wrote, opening, resultAfter}
-use Rattle.party.specs.Agreement.{Good, among, different, absent, sumOver, joinOver, step, allHashed, Premises, sent, Conclusions}
-use Rattle.party.proofs.Run.{Way, on, off, way, clash}
-use Rattle.party.proofs.Agreement.{agreement}
+use Rattle.party.specs.Strings.{shareStrings, relayStrings}
+use Rattle.party.proofs.Ways.{Way, on, off, way, clash}
+use Rattle.agreement.specs.Calls.{Call, agreeRoot, agreeBit, takeShares, takeRelays, Event, accepted, first, entry, lengths, sentOver, made, events, final}
+use Rattle.agreement.specs.Calls.{checkedIn, checkedOver, did, hashed, sentBy, heard, packetTo, wrote, opening, resultAfter}
+use Rattle.agreement.specs.Agreement.{Good, among, different, absent, sumOver, joinOver, step, allHashed, Premises, sent, Conclusions}
+use Rattle.agreement.proofs.Agreement.{agreement}
 
 -- a small hash: a number worked out byte by byte, in eight bytes, and zeros
 unfoldable pub mix : List ℕ → ℕ → ℕ

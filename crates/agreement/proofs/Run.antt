@@ -3,7 +3,7 @@
 -- the steps, and by one induction over the list of calls. Assumes nothing.
 use mathlib.Core.Path.{_≡_, refl, sym, ap, _∙_, subst}
 use mathlib.Core.Logic.{_⊎_, inl, inr, _≢_}
-use mathlib.Core.Bool.{Bool, true, false, cond, not, true≢false}
+use mathlib.Core.Bool.{true, cond, not}
 use mathlib.Core.List.{List, [], _∷_}
 use mathlib.Core.Option.{Option, none, some}
 use Prim.Native.Nat.{ℕ, _-_, _≤_}
@@ -13,28 +13,17 @@ use lib.Dec.{eqb, ltb}
 use lib.ListN.{length}
 use Rattle.buffer.specs.Splice.{spliced}
 use Rattle.buffer.specs.declared.Written.the-variants as written
 use Rattle.party.specs.State.{Result, nothing, settled, bytesOf, messageIn, atFirst, atSecond, atEnd, resultIn, happy}
 use Rattle.party.specs.Steps.{turnOf, stateCause, rootCause, withRoot, Ballot, Stepped, gives, refused, writes, bitCause, outboxOf}
 use Rattle.party.specs.Steps.{agreeBitOf, inboxCause, relayOf, heldOf, takeSharesOf, resultOf, Ending, givesEnd, ending, takeRelaysOf}
-use Rattle.party.specs.Calls.{Call, agreeRoot, agreeBit, takeShares, takeRelays, stepOf, Reply, Event, accepted, first, sentOver}
-use Rattle.party.specs.Calls.{made, events, final}
 use Rattle.party.specs.declared.Party.{Party}
 use Rattle.party.specs.declared.Settled.the-variants as answer
+use Rattle.party.proofs.Ways.{Way, on, off, way}
 use Rattle.party.proofs.Causes.{state-sound}
 use Rattle.party.proofs.Outcomes.{root-refused, root-given}
 use Rattle.party.proofs.Kept.{take-spliced}
-
--- a test, and which way it went
-pub data Way (b : Bool) : Type 0 where
-  on : b ≡ true → Way b
-  off : b ≡ false → Way b
-
-pub way : (b : Bool) → Way b
-way true = on refl
-way false = off refl
-
-pub clash : {A : Type 0} {b : Bool} → b ≡ true → b ≡ false → A
-clash e f = absurd (true≢false (sym e ∙ f))
+use Rattle.agreement.specs.Calls.{Call, agreeRoot, agreeBit, takeShares, takeRelays, stepOf, Reply, Event, accepted, first, sentOver}
+use Rattle.agreement.specs.Calls.{made, events, final}
 
 -- either of two, with the first changed
 first-of : {A B C : Type 0} → (A → B) → A ⊎ C → B ⊎ C

@@ -10,45 +10,25 @@ use native.Mathlib.Omega.{arith}
 use borrow.Author.Tests.{eqb-true, eqb-false}
 use lib.Dec.{eqb}
 use lib.ListN.{length}
-use Rattle.limits.specs.Limits.{maxMessage, maxShare}
+use Rattle.limits.specs.Limits.{maxMessage}
 use Rattle.buffer.specs.Splice.{spliced}
 use Rattle.buffer.specs.Entries.{bodies}
 use Rattle.erasure.specs.Coding.{shares}
 use Rattle.merkle.specs.Shares.{codingStrings}
-use Rattle.party.specs.State.{Result, nothing, settled, bytesOf, messageIn, shareHeld, atRoot, atBit, atFirst, atSecond, atEnd}
+use Rattle.party.specs.State.{Result, nothing, settled, bytesOf, atRoot, atBit, atFirst, atSecond, atEnd}
 use Rattle.party.specs.State.{resultIn, messageRoot, happy}
 use Rattle.party.specs.Steps.{turnOf, openCause, outboxOf, relayOf, heldOf, resultOf}
-use Rattle.party.specs.Calls.{Call, agreeRoot, agreeBit, takeShares, takeRelays, stepOf, Reply, Event, accepted, first, entry, heard, wrote}
-use Rattle.party.specs.Calls.{bitGiven, resultShown, lengths, sentOver, events, final, checkedIn, checkedOver}
-use Rattle.party.specs.Calls.{opening, did, firstOf, resultAfter, hashed, sentBy}
 use Rattle.party.specs.declared.Party.{Party}
 use Rattle.party.specs.declared.Opened.{Opened}
 use Rattle.party.proofs.Kept.{take-padded, take-spliced}
 use Rattle.party.proofs.Outcomes.{open-given, open-refused}
-use Rattle.party.proofs.Run.{Way, on, off, way, made2, made3, made4, made5, left, did2, did3, did4, did5, in-turn, event, Chain, chain, next, Still, still}
+use Rattle.party.proofs.Ways.{Way, on, off, way}
+use Rattle.agreement.specs.Calls.{Call, agreeRoot, agreeBit, takeShares, takeRelays, stepOf, Reply, Event, accepted, first, entry, heard, wrote}
+use Rattle.agreement.specs.Calls.{bitGiven, resultShown, lengths, sentOver, events, final, checkedIn, checkedOver}
+use Rattle.agreement.specs.Calls.{opening, did, firstOf, resultAfter, hashed, sentBy}
+use Rattle.agreement.proofs.Run.{made2, made3, made4, made5, left, did2, did3, did4, did5, in-turn, event, Chain, chain, next, Still, still}
 
--- the message of a state that waits, its relayed share, and the result of one that has ended
-module _ (n t i : ℕ) (m z : List ℕ) where
-  pub message-root : messageIn (atRoot n t i m) ≡ m
-  unfolding atRoot
-  message-root = take-padded maxMessage m
-
-  pub message-bit : messageIn (atBit n t i m z) ≡ m
-  unfolding atBit
-  message-bit = take-padded maxMessage m
-
-  pub message-first : messageIn (atFirst n t i m z) ≡ m
-  unfolding atFirst
-  message-first = take-padded maxMessage m
-
-  pub message-second : (x : List ℕ) → messageIn (atSecond n t i m z x) ≡ m
-  unfolding atSecond
-  message-second x = take-padded maxMessage m
-
-  pub share-second : (x : List ℕ) → shareHeld (atSecond n t i m z x) ≡ x
-  unfolding atSecond
-  share-second x = take-padded maxShare x
-
+-- the result of a party that has ended
 pub result-end : (n t i : ℕ) (r : Result) → resultIn (atEnd n t i r) ≡ some r
 unfolding atEnd
 result-end n t i nothing = refl

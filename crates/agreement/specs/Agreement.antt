@@ -12,9 +12,9 @@ use lib.ListN.{length}
 use Rattle.buffer.specs.Bounds.{Bytes}
 use Rattle.erasure.specs.Coding.{shareLength}
 use Rattle.merkle.specs.Height.{height}
 use Rattle.party.specs.State.{Result, nothing, settled}
-use Rattle.party.specs.Calls.{Call, agreeRoot, agreeBit, Event, heard, wrote, packetTo, bitGiven, resultShown}
-use Rattle.party.specs.Calls.{opening, firstOf, resultAfter, hashed, sentBy}
+use Rattle.agreement.specs.Calls.{Call, agreeRoot, agreeBit, Event, heard, wrote, packetTo, bitGiven, resultShown}
+use Rattle.agreement.specs.Calls.{opening, firstOf, resultAfter, hashed, sentBy}
 
 -- a good party: its number, its message, and the calls that it gets after its opening
 pub record Good : Type 0 where
