@@ -1,8 +1,9 @@
 -- No string more: what a call gives back depends on the hash only at the strings of the state's own message and of the path checks that
 -- `Calls.checkedIn` lists; two hashes that agree on these give the same reply. By the same law of the tree, the path and the check. Assumes nothing.
 use mathlib.Core.Path.{_≡_, refl, sym, ap, ap₂, _∙_}
-use mathlib.Core.Bool.{Bool, false, cond, _&&_}
+use mathlib.Core.Bool.{Bool, false, cond, not, _&&_}
 use mathlib.Core.List.{List, [], _∷_, _++_, Memᴰ·append-left, Memᴰ·append-right}
+use mathlib.Core.Option.{none}
 use Prim.Native.Nat.{ℕ, _+_, _-_, _≤_}
 use native.Mathlib.Omega.{arith}
 use borrow.Author.Tests.{eqb-true, eqb-false}
@@ -20,11 +21,16 @@ use Rattle.merkle.proofs.Trees.{root-hashed, path-hashed, check-hashed}
 use Rattle.packet.specs.Format.{Reading, silence, unreadable, shared, packetOf, readOf}
 use Rattle.packet.specs.Inbox.{inboxOf}
 use Rattle.packet.specs.Class.{Class, silent, faulty, valid, judged, classOf, checkedStrings, classStrings}
-use Rattle.party.specs.State.{messageIn, shareHeld, messageRoot, happy}
+use Rattle.party.specs.State.{Result, nothing, messageIn, shareHeld, atBit, atFirst, atSecond, atEnd, messageRoot, happy}
 use Rattle.party.specs.Steps.{packetFor, outboxOf, firstValid, takenBy, shareTaken, packetTaken, ownRelay, relayOf, heldOf, shareFrom, gathered, rebuilt, resultOf}
+use Rattle.party.specs.Steps.{rootCause, withRoot, ballot, agreeRootOf, bitCause, refused, writes, agreeBitOf, inboxCause, takeSharesOf, givesEnd, ending, takeRelaysOf}
 use Rattle.party.specs.Strings.{unlessValid, shareStrings, relayStrings}
 use Rattle.party.specs.declared.Party.{Party}
+use Rattle.party.specs.declared.Vote.the-variants as vote
+use Rattle.party.specs.declared.Settled.the-variants as answer
+use Rattle.agreement.specs.Calls.{Call, agreeRoot, agreeBit, takeShares, takeRelays, Reply, made, checkedIn}
 use Rattle.party.proofs.Ways.{Way, on, off, way}
+use Rattle.party.proofs.Kept.{message-bit}
 use Rattle.party.proofs.Messages.{Coded, fine}
 
 module _ (H K : List ℕ → List ℕ) where
@@ -142,17 +148,18 @@ module _ (H K : List ℕ → List ℕ) where
     relay-own-depends = ap (λ (w : List ℕ). cond (eqb (x .n) 1) [] w) (packet-depends (x .own) own last)
 
     -- what step 4 relays and keeps, and what step 5 ends with; a happy party makes no check
-    module _ (inbox : List ℕ) where
-      abbrev firstStrings : List (List ℕ)
-      firstStrings = cond (happy H x) [] (shareStrings H (x .n) (x .own) (x .root) 1 (bodies (x .n) inbox))
+    module _ (inbox out : List ℕ) where
+      abbrev Shares : Type 0
+      Shares = Agree H K (checkedIn H x (takeShares inbox out))
 
-      abbrev secondStrings : List (List ℕ)
-      secondStrings = cond (happy H x) [] (relayStrings H (x .n) (x .own) 1 (bodies (x .n) inbox))
+      abbrev Relays : Type 0
+      Relays = Agree H K (checkedIn H x (takeRelays inbox out))
 
-      taken-depends : happy H x ≡ false → Agree H K firstStrings → takenBy H x inbox ≡ takenBy K x inbox
+      taken-depends : happy H x ≡ false → Shares → takenBy H x inbox ≡ takenBy K x inbox
+      unfolding checkedIn
       taken-depends e f = first-depends (x .n) (x .own) (x .root) 1 (bodies (x .n) inbox) (rw e at f)
 
-      pub relay-depends : Agree H K firstStrings → relayOf H x inbox ≡ relayOf K x inbox
+      pub relay-depends : Shares → relayOf H x inbox ≡ relayOf K x inbox
       unfolding relayOf
       relay-depends f = go (way (happy H x))
         where
@@ -160,7 +167,7 @@ module _ (H K : List ℕ → List ℕ) where
           go (on e) = rw (e, sym happy-depends ∙ e) relay-own-depends
           go (off e) = rw (e, sym happy-depends ∙ e) (ap (packetTaken x) (taken-depends e f))
 
-      pub held-depends : Agree H K firstStrings → heldOf H x inbox ≡ heldOf K x inbox
+      pub held-depends : Shares → heldOf H x inbox ≡ heldOf K x inbox
       unfolding heldOf
       held-depends f = go (way (happy H x))
         where
@@ -168,8 +175,8 @@ module _ (H K : List ℕ → List ℕ) where
           go (on e) = rw (e, sym happy-depends ∙ e)
           go (off e) = rw (e, sym happy-depends ∙ e) (ap shareTaken (taken-depends e f))
 
-      pub result-depends : Agree H K secondStrings → resultOf H x inbox ≡ resultOf K x inbox
-      unfolding resultOf
+      pub result-depends : Relays → resultOf H x inbox ≡ resultOf K x inbox
+      unfolding resultOf checkedIn
       result-depends f = go (way (happy H x))
         where
           go : Way (happy H x) → resultOf H x inbox ≡ resultOf K x inbox
@@ -178,3 +185,31 @@ module _ (H K : List ℕ → List ℕ) where
               rw (e, sym happy-depends ∙ e)
               (ap (λ (gs : List (List ℕ)). rebuilt (recovered (x .n - x .t) (present 1 gs)))
               (gathered-depends x 1 (bodies (x .n) inbox) (rw e at f)))
+
+    -- the root that a party is handed may be any
+    bit-depends : (z : List ℕ) → happy H (withRoot x z) ≡ happy K (withRoot x z)
+    unfolding happy atBit
+    bit-depends z =
+        ap (λ (m : List ℕ). same (messageRoot H (x .n) (x .t) m) z) (message-bit (x .n) (x .t) (x .own) (messageIn x) z)
+        ∙ ap (λ (r : List ℕ). same r z) (root-depends wide (x .n) (x .t) (messageIn x) c tree)
+        ∙ sym (ap (λ (m : List ℕ). same (messageRoot K (x .n) (x .t) m) z) (message-bit (x .n) (x .t) (x .own) (messageIn x) z))
+
+    -- the whole reply
+    pub made-depends : (call : Call) → Agree H K (checkedIn H x call) → made H x call ≡ made K x call
+    unfolding made agreeRootOf agreeBitOf takeSharesOf takeRelaysOf
+    made-depends (agreeRoot z) f =
+        ap {B = Reply} (λ (b : Bool). let r = cond (not (eqb (rootCause x z) 0)) (ballot x (vote.Refused (rootCause x z))) (ballot (withRoot x z) (vote.Happy b)) in
+        record { state = r .state; cause = r .cause; value = r .bit; result = none; buffer = [] }) (bit-depends z)
+    made-depends (agreeBit bit out) f =
+        ap {B = Reply} (λ (bs : List ℕ). let r = cond (not (eqb (bitCause x bit) 0)) (refused x (bitCause x bit) out)
+        (writes x (cond (eqb bit 0) (atEnd (x .n) (x .t) (x .own) nothing) (atFirst (x .n) (x .t) (x .own) (messageIn x) (x .root))) bs out) in
+        record { state = r .state; cause = r .cause; value = r .value; result = none; buffer = r .buffer }) (outbox-depends bit)
+    made-depends (takeShares inbox out) f =
+        ap₂ {C = Reply} (λ (held bs : List ℕ). let r = cond (not (eqb (inboxCause 4 x inbox) 0)) (refused x (inboxCause 4 x inbox) out)
+        (writes x (atSecond (x .n) (x .t) (x .own) (messageIn x) (x .root) held) bs out) in
+        record { state = r .state; cause = r .cause; value = r .value; result = none; buffer = r .buffer })
+        (held-depends inbox out f) (relay-depends inbox out f)
+    made-depends (takeRelays inbox out) f =
+        ap {B = Reply} (λ (w : Result). let r = cond (not (eqb (inboxCause 5 x inbox) 0)) (givesEnd x (answer.Refused (inboxCause 5 x inbox)) out) (ending x w out) in
+        record { state = r .state; cause = r .cause; value = r .value; result = r .result; buffer = r .buffer })
+        (result-depends inbox out f)

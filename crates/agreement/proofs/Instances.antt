@@ -5,13 +5,13 @@
 use mathlib.Core.Path.{_≡_, refl, sym, ap, _∙_, subst}
 use mathlib.Core.Logic.{_⊎_, inl, inr, _≢_}
 use mathlib.Core.Bool.{Bool, true, false, cond, false≢true}
-use mathlib.Core.List.{List, [], _∷_, List·Memᴰ, List·Memᴰ·head, List·Memᴰ·tail, List·Memᴰ·not-nil, List·Memᴰ·cases-cons}
+use mathlib.Core.List.{List, [], _∷_, map, List·Memᴰ, List·Memᴰ·head, List·Memᴰ·tail, List·Memᴰ·not-nil, List·Memᴰ·cases-cons}
 use mathlib.Core.Option.{Option, none, some}
 use Prim.Native.Nat.{ℕ, zero, suc, _+_, _-_, _*_, _/_, _%_, _^_, _<_}
 use native.Mathlib.Nat.{le-refl}
 use native.Mathlib.Omega.{arith}
 use lib.Dec.{lit<}
-use lib.ListN.{length, replicate}
+use lib.ListN.{length, take, replicate}
 use Rattle.limits.specs.Limits.{groupCause}
 use Rattle.buffer.specs.Bounds.{Bytes}
 use Rattle.buffer.specs.Splice.{spliced, tabulate}
@@ -27,7 +27,7 @@ use Rattle.merkle.specs.Shares.{leafString, leafStrings, sharesCause, same, lea
 use Rattle.merkle.proofs.Judged.{same-true, same-refl}
 use Rattle.packet.specs.Format.{chained, hashes, packetOf, entryOf, shareIn, readOf}
 use Rattle.packet.specs.Inbox.{inboxOf}
-use Rattle.packet.specs.Class.{classOf, classStrings}
+use Rattle.packet.specs.Class.{valid, faulty, classOf, classStrings}
 use Rattle.party.specs.State.{Result, nothing, settled, atRoot, atBit, atFirst, atSecond, atEnd, blankState, broken, messageRoot, happy}
 use Rattle.party.specs.Steps.{stateCause, openCause, openOf, rootCause, agreeRootOf, packetFor, bitCause, outboxOf, agreeBitOf, inboxCause, firstValid}
 use Rattle.party.specs.Steps.{relayOf, heldOf, takeSharesOf, gathered, resultOf, takeRelaysOf}
@@ -239,9 +239,20 @@ pub record Computed : Type 0 where
   -- all premises, on bit 1 and on bit 0
   pub premises : Premises toy 3 1 good z 1
   pub idle-premises : Premises toy 3 1 idle z 0
+  -- of what the liar sends, the share for party 2 passes, and the one for party 3 and the relay do not
+  pub good-share : classOf toy 3 2 z (entry 3 1 first2)
+      ≡ valid (share 2 2 M) (take 2 (pathOf toy 3 2 (leavesOf toy 3 (shares 3 2 M))))
+  pub bad-share : classOf toy 3 3 z (entry 3 1 first3) ≡ faulty
+  pub bad-relay : classOf toy 3 1 z (entry 3 1 second2) ≡ faulty
+  -- the causes for which party 2's calls were refused, 0 where they were accepted
+  pub causes : map (λ (e : Event). e .reply .cause) (events toy (opening toy 3 1 2 (0x43 ∷ []) .state) (P2 .calls))
+      ≡ 6 ∷ 7 ∷ 0 ∷ 7 ∷ 9 ∷ 0 ∷ 8 ∷ 9 ∷ 0 ∷ 6 ∷ 9 ∷ 0 ∷ 6 ∷ 6 ∷ []
   -- on bit 1 party 2 ends with M, though it opened with another message, and 356 bytes were sent
   pub party-2 : resultAfter toy 3 1 2 (0x43 ∷ []) (P2 .calls) ≡ some (settled M)
   pub sent-there : sent toy 3 1 good ≡ 356
+  -- on bit 0 it ends with nothing, and nothing is sent
+  pub idle-2 : resultAfter toy 3 1 2 (0x43 ∷ []) (Q2 .calls) ≡ some nothing
+  pub idle-sent : sent toy 3 1 idle ≡ 0
   -- the bytes sent in the two plans
   pub same-books-sent : sent toy 3 1 same-books ≡ 496
   pub two-books-sent : sent toy 3 1 two-books ≡ 388
@@ -302,8 +313,14 @@ computed = record {
     delivered = λ e. absurd (zero-one e);
     clean = λ x y h k e. clean-sound x y (allHashed toy 3 1 idle) (allHashed toy 3 1 idle) refl h k e;
   };
+  good-share = refl;
+  bad-share = refl;
+  bad-relay = refl;
+  causes = refl;
   party-2 = refl;
   sent-there = refl;
+  idle-2 = refl;
+  idle-sent = refl;
   same-books-sent = refl;
   two-books-sent = refl;
   first-hashes = refl;
