@@ -1,10 +1,10 @@
 -- A plan that is taken is a session as agreement supposes it: every opening and every step is accepted, the agreed root and bit keep the rule, and
 -- packets between good parties arrive. So, unless two different strings that good parties hashed have one hash, all good parties' lines
 -- give one result, and the figure after `sent` is the theorem's own sum. By the laws of progress, step by step. Assumes nothing.
-use mathlib.Core.Path.{_≡_, refl, sym, ap, _∙_, subst}
+use mathlib.Core.Path.{_≡_, refl, sym, ap, ap₂, _∙_, subst}
 use mathlib.Core.Logic.{_≢_}
 use mathlib.Core.Bool.{Bool, true, false, cond, not, _&&_, _||_, true≢false, false≢true}
-use mathlib.Core.List.{List, [], _∷_, List·Memᴰ}
+use mathlib.Core.List.{List, [], _∷_, _++_, List·Memᴰ}
 use mathlib.Core.Option.{Option, none, some}
 use Prim.Native.Nat.{ℕ, zero, suc, _+_, _-_, _≤_, _<_}
 use native.Mathlib.Decide.{ℕ-discrete}
@@ -51,9 +51,10 @@ use Rattle.plan.specs.Layout.{unnamed, lowest, nIn, tIn, hasRoot, hasBit, rootI
 use Rattle.plan.specs.Layout as layout
 use Rattle.plan.specs.Plan.{planCause}
 use Rattle.plan.proofs.Accepted.{Accepted, accepted as plan-taken, lowest-named, root-length, under-short, under-bytes}
+use Rattle.report.specs.Output.{line, sentLine}
 use Rattle.session.specs.Session.{maxPacket, maxOutbox, wroteIn, orNothing, isGood, messageOf, lowestGood, opened, agreedRoot, step2, agreedBit}
 use Rattle.session.specs.Session.{sameRoots, sameBits, unlawful, sessionCause, step3, firstFrom, firstInbox, step4, secondFrom, secondInbox, step5}
-use Rattle.session.specs.Session.{endsWith, sentOf, sentFrom, callsOf, goodParty, goodParties}
+use Rattle.session.specs.Session.{endsWith, sentOf, linesFrom, sentFrom, output, callsOf, goodParty, goodParties}
 use Rattle.session.proofs.Parties.{named, party-in, apart, bad-count, sum-of}
 
 -- a plan without a cause: the plan itself has none, and nothing is against the rule
@@ -87,6 +88,11 @@ accept-more H x c cs e = rw (eq-eqb (made H x c .cause) 0 e)
 bit-of : (b : Bool) → cond b 1 0 ≤ 1
 bit-of true = omega arith
 bit-of false = omega arith
+
+-- in the plan s, of k parties from p on, a line for each good one, all with the result R
+unfoldable pub linesOf : List ℕ → Result → ℕ → ℕ → List ℕ
+linesOf s R zero p = []
+linesOf s R (suc k) p = cond (isGood s p) (line p R) [] ++ linesOf s R k (p + 1)
 
 module _ (H : List ℕ → List ℕ) (wide : (x : List ℕ) → length (H x) ≡ 32) (s : List ℕ) (bytes : Bytes s) (ok : sessionCause H s ≡ 0) where
   abbrev n : ℕ
@@ -547,16 +553,39 @@ module _ (H : List ℕ → List ℕ) (wide : (x : List ℕ) → length (H x) ≡
       (λ b. rw (ne-eqb bit 0 (λ q. omega arith))
       (ap orNothing (sym (shows-5 p l h b) ∙ C .gives b (goodParty H s p) (member p l h g))))
 
-  -- and all lines give one result
+  lines-same : (R : Result) → ((p : ℕ) → 1 ≤ p → p ≤ n → isGood s p ≡ true → endsWith H s p ≡ R)
+      → (k p : ℕ) → 1 ≤ p → p + k ≤ n + 1 → linesFrom H s k p ≡ linesOf s R k p
+  unfolding linesFrom linesOf
+  lines-same R f zero p l h = refl
+  lines-same R f (suc k) p l h = ap₂ _++_ (go (way (isGood s p))) (lines-same R f k (p + 1) (omega arith) (omega arith))
+    where
+      go : Way (isGood s p) → cond (isGood s p) (line p (endsWith H s p)) [] ≡ cond (isGood s p) (line p R) []
+      go (on g) = rw g (ap (line p) (f p l (omega arith) g))
+      go (off g) = rw g
+
+  -- and all lines give one result: that of the theorem, as is the figure behind them
   pub record Lines (R : Result) : Type 0 where
     pub agreed : Conclusions H n t good bit R
     pub lines : (p : ℕ) → 1 ≤ p → p ≤ n → isGood s p ≡ true → endsWith H s p ≡ R
     pub figure : sentFrom H s n 1 ≡ sent H n t good
+    pub prints : output H s ≡ linesOf s R n 1 ++ sentLine (sent H n t good)
+
+  printed-lines : (R : Result) → ((p : ℕ) → 1 ≤ p → p ≤ n → isGood s p ≡ true → endsWith H s p ≡ R)
+      → output H s ≡ linesOf s R n 1 ++ sentLine (sent H n t good)
+  unfolding output
+  printed-lines R f = ap₂ (λ (l : List ℕ) (k : ℕ). l ++ sentLine k) (lines-same R f n 1 (omega arith) (omega arith)) sent-figure
 
   pub one-result : Clean H n t good → (R : Result) × Lines R
   one-result clean =
-      let a = agreement H wide n t good z bit (premises clean) in
-      (a .0, record { agreed = a .1; lines = λ p l h g. line-of (a .0) (a .1) p l h g; figure = sent-figure })
+      let a = agreement H wide n t good z bit (premises clean) in (
+        a .0,
+        record {
+          agreed = a .1;
+          lines = line-of (a .0) (a .1);
+          figure = sent-figure;
+          prints = printed-lines (a .0) (line-of (a .0) (a .1));
+        },
+      )
 
 -- at SHA-256
 pub one-result-sha256 : (s : List ℕ) (bytes : Bytes s) (ok : sessionCause sha256 s ≡ 0)
