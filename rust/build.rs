@@ -1,24 +1,46 @@
 //! Finds libcipangohu.a: in the folder that CIPANGOHU_LIB names, else in ../dist, where
-//! `library/build` puts it.
+//! `library/build` puts it. Where it is not found the build ends here, with the reason: the linker
+//! would not give it.
 
 use std::env;
 use std::path::{Path, PathBuf};
 
-fn main() {
-    println!("cargo:rerun-if-env-changed=CIPANGOHU_LIB");
-    let folder = match env::var_os("CIPANGOHU_LIB") {
-        Some(folder) => PathBuf::from(folder),
-        None => Path::new(env!("CARGO_MANIFEST_DIR")).join("../dist"),
+/// The folder with the archive. A relative one is refused, since a build script is not told where
+/// the command was typed. An empty name counts as none, as in the shell.
+fn folder() -> Result<PathBuf, String> {
+    let named = env::var_os("CIPANGOHU_LIB").filter(|name| !name.is_empty());
+    let Some(folder) = named.map(PathBuf::from) else {
+        return Ok(Path::new(env!("CARGO_MANIFEST_DIR")).join("../dist"));
     };
-    let archive = folder.join("libcipangohu.a");
-    if !archive.is_file() {
-        println!(
-            "cargo:error={} is missing: run library/build, or name its folder in CIPANGOHU_LIB",
-            archive.display()
-        );
+    match folder.is_absolute() {
+        true => Ok(folder),
+        false => Err(format!(
+            "CIPANGOHU_LIB is {}, a relative path; it must be absolute, as $PWD/{0} is",
+            folder.display()
+        )),
     }
-    println!("cargo:rerun-if-changed={}", archive.display());
-    println!("cargo:rustc-link-search=native={}", folder.display());
-    println!("cargo:rustc-link-lib=static=cipangohu");
-    println!("cargo:rustc-env=CIPANGOHU_ARCHIVE={}", archive.display());
+}
+
+fn archive(folder: &Path) -> Result<PathBuf, String> {
+    let archive = folder.join("libcipangohu.a");
+    match archive.is_file() {
+        true => Ok(archive),
+        false => Err(format!(
+            "{} is missing: run library/build, or name its folder in CIPANGOHU_LIB",
+            archive.display()
+        )),
+    }
+}
+
+fn main() {
+    println!("cargo::rerun-if-env-changed=CIPANGOHU_LIB");
+    let found = folder().and_then(|folder| Ok((archive(&folder)?, folder)));
+    let (archive, folder) = match found {
+        Ok(found) => found,
+        Err(reason) => return println!("cargo::error={reason}"),
+    };
+    println!("cargo::rerun-if-changed={}", archive.display());
+    println!("cargo::rustc-link-search=native={}", folder.display());
+    println!("cargo::rustc-link-lib=static=cipangohu");
+    println!("cargo::rustc-env=CIPANGOHU_ARCHIVE={}", archive.display());
 }
