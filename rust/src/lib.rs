@@ -25,8 +25,10 @@ mod entries;
 mod packet;
 mod party;
 
-// The one module that speaks to the archive.
+// The one module that speaks to the archive. Measurements, the fuzzer and the tests need its calls,
+// on bytes and buffers of their own; hosts have the types below.
 #[allow(unsafe_code)]
+#[doc(hidden)]
 pub mod calls;
 
 pub use cause::Cause;
