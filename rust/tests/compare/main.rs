@@ -81,7 +81,7 @@ fn some_step(play: &Play, stage: u8, random: &mut Random) -> Call {
 #[test]
 fn lists_of_calls() {
     let (mut random, mut tally) = (Random::new(1), Tally::default());
-    for list in 0..times(3_000) {
+    for list in 0..times(20_000) {
         let play = Play::new(&mut random);
         let opening = Call::Open(play.group, play.message.clone());
         let mut lent = Lent {
