@@ -1,6 +1,8 @@
 //! Every function of the archive along each of its ways, for whoever wants to run them all.
 
-use cipangohu::{calls, entries, lay_out, read_packet, MAX_HASHED, MAX_MESSAGE, MAX_OUTBOX, STATE};
+use cipangohu::{
+    calls, entries, lay_out, read_packet, Cause, MAX_HASHED, MAX_MESSAGE, MAX_OUTBOX, STATE,
+};
 
 use crate::party::{Party, Proved};
 use crate::session::{moments, most_faults, Moments, Setting, GREATEST};
@@ -38,10 +40,7 @@ fn session(setting: Setting, visit: Visit) {
     if setting.unhappy > 0 {
         unhappy_steps(setting.n, &at, visit);
     }
-    let mut none = [0xFF; STATE];
-    visit("any step, no state", &mut || {
-        calls::agree_root(&mut none, &at.root).expect_err("cause 5");
-    });
+    no_state(&at, visit);
     code(setting, visit);
     read(setting.n, &at, visit);
 }
@@ -97,6 +96,25 @@ fn unhappy_steps(n: usize, at: &Moments<Proved>, visit: Visit) {
     });
     on(&at.relayed[last], "take_relays, nothing", visit, |party| {
         assert!(party.take_relays(&silence, &mut out).is_none());
+    });
+}
+
+/// Each step on bytes that are no state. All bear one name, so that its figure is the greatest.
+fn no_state(at: &Moments<Proved>, visit: Visit) {
+    let name = "any step, no state";
+    let refused = |answer: Result<u32, Cause>| assert_eq!(answer.map_err(|it| it.number), Err(5));
+    let (mut none, mut out) = ([0xFF; STATE], vec![0; MAX_OUTBOX]);
+    visit(name, &mut || {
+        refused(calls::agree_root(&mut none, &at.root))
+    });
+    visit(name, &mut || {
+        refused(calls::agree_bit(&mut none, 1, &mut out))
+    });
+    visit(name, &mut || {
+        refused(calls::take_shares(&mut none, &at.first[0], &mut out))
+    });
+    visit(name, &mut || {
+        refused(calls::take_relays(&mut none, &at.second, &mut out))
     });
 }
 
