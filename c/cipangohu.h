@@ -1,4 +1,5 @@
-/* The interface of libcipangohu.a, which library/build makes: one party of a session, step by step, and the tools beside it.
+/* The interface of libcipangohu.a, which library/build makes: one party of a session, step by step, and the tools beside it. The header is
+ * C99 and C++; the archive is for x86-64 Linux.
  *
  * The host keeps a party's state, CIPANGOHU_STATE bytes, and hands it to every step. Layout, numbers big-endian here and in all entries:
  * byte 0 n, byte 1 t, byte 2 own number, byte 3 stage (0 waits for the root, 1 for the bit, 2 for the first inbox, 3 for the second,
@@ -26,8 +27,8 @@
  * entry k is what party k sent, length 0 if it sent nothing. A packet in it that cannot be read or fails the check is passed over, and
  * so is the own entry.
  *
- * Buffers of one call must not overlap. Through a pointer with length 0 nothing is read or written. Nothing is global: calls on different
- * buffers may run at once. In trials every call fits a stack of 256 KiB; docs/FIGURES.md tells what each takes. */
+ * A buffer that a call writes overlaps no other buffer of that call. Through a pointer with length 0 nothing is read or written. Nothing is
+ * global: calls on different buffers may run at once. In trials every call fits a stack of 256 KiB; docs/FIGURES.md tells what each takes. */
 #ifndef CIPANGOHU_H
 #define CIPANGOHU_H
 
@@ -43,6 +44,10 @@ extern "C" {
 #define CIPANGOHU_SHARE (CIPANGOHU_MESSAGE + 2)
 #define CIPANGOHU_ROOT 32
 #define CIPANGOHU_STATE (40 + CIPANGOHU_MESSAGE + CIPANGOHU_SHARE)
+
+/* Room for any packet that a party writes: map, number and share length, the share, a path of four hashes. Then for any outbox. */
+#define CIPANGOHU_PACKET (4 + CIPANGOHU_SHARE + 4 * CIPANGOHU_ROOT)
+#define CIPANGOHU_OUTBOX (CIPANGOHU_PARTIES * (2 + CIPANGOHU_PACKET))
 
 /* The value of take_relays for the result nothing, which is no message, not even an empty one. */
 #define CIPANGOHU_NOTHING UINT32_C(0xFFFFFFFF)

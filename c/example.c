@@ -4,31 +4,30 @@
 #include <stdlib.h>
 #include <string.h>
 #include "cipangohu.h"
-enum { N = 3, T = 1, ROOM = 2000, STATE = CIPANGOHU_STATE };
-static uint8_t state[N][STATE], root[N][32], out[N][ROOM], inbox[N * ROOM], relays[N * (ROOM + 2)];
+enum { N = 3, T = 1, STATE = CIPANGOHU_STATE, OUTBOX = CIPANGOHU_OUTBOX, PACKET = CIPANGOHU_PACKET };
+static uint8_t state[N][STATE], root[N][32], out[OUTBOX], inbox[N][OUTBOX], relays[OUTBOX];
 /* The value of an accepted call; a refused one ends the program. */
 static uint32_t value(uint64_t answer) { if (cipangohu_cause(answer) != 0) exit(1); return cipangohu_value(answer); }
 int main(void) {
     const char *books[N] = {"AB", "AB", "other"};
-    size_t at[N] = {0}, end = 0;
+    size_t size[N] = {0}, end = 0;
     for (size_t i = 0; i < N; i++)
         value(cipangohu_open(N, T, i + 1, (const uint8_t *)books[i], strlen(books[i]), state[i], STATE, root[i], 32));
     for (size_t i = 0; i < N; i++) { /* the short agreements settle on box 1's root and bit */
         printf("%zu %s\n", i + 1, value(cipangohu_agree_root(state[i], STATE, root[0], 32)) ? "happy" : "unhappy");
-        value(cipangohu_agree_bit(state[i], STATE, 1, out[i], ROOM));
-    }
-    for (size_t j = 0; j < N; j++) { /* the inbox has the next entry of each outbox */
-        size_t size = 0;
-        for (size_t i = 0; i < N; i++) {
-            size_t len = 2 + out[i][at[i]] * 256u + out[i][at[i] + 1];
-            memcpy(inbox + size, out[i] + at[i], len);
-            size += len, at[i] += len;
+        value(cipangohu_agree_bit(state[i], STATE, 1, out, OUTBOX));
+        for (size_t j = 0, at = 0; j < N; j++) { /* the next entry of the outbox goes to the next box */
+            size_t len = 2 + out[at] * 256u + out[at + 1];
+            memcpy(inbox[j] + size[j], out + at, len);
+            size[j] += len, at += len;
         }
-        uint32_t len = value(cipangohu_take_shares(state[j], STATE, inbox, size, relays + end + 2, ROOM));
+    }
+    for (size_t i = 0; i < N; i++) { /* a relay goes to all, so one inbox serves for all */
+        uint32_t len = value(cipangohu_take_shares(state[i], STATE, inbox[i], size[i], relays + end + 2, PACKET));
         relays[end] = (uint8_t)(len >> 8), relays[end + 1] = (uint8_t)len, end += 2 + len;
     }
     for (size_t i = 0; i < N; i++) {
-        uint32_t len = value(cipangohu_take_relays(state[i], STATE, relays, end, out[i], ROOM));
-        printf(len == CIPANGOHU_NOTHING ? "%zu -\n" : "%zu = %.*s\n", i + 1, (int)len, (const char *)out[i]);
+        uint32_t len = value(cipangohu_take_relays(state[i], STATE, relays, end, out, OUTBOX));
+        printf(len == CIPANGOHU_NOTHING ? "%zu -\n" : "%zu = %.*s\n", i + 1, (int)len, (const char *)out);
     }
 }
