@@ -16,15 +16,19 @@ mod wire;
 
 use std::process::ExitCode;
 
-use options::Options;
+use options::{Options, USAGE};
 
-/// Wrong usage, or a failure of the host itself.
+/// Wrong usage, a sitting without a good box, or a failure of the host itself.
 const FAILED: u8 = 2;
 
 /// Two good boxes differ, or a good box had an error.
 const DIFFER: u8 = 1;
 
 fn run(arguments: &[String]) -> Result<ExitCode, String> {
+    if arguments.iter().any(|word| word == "--help") {
+        println!("{USAGE}");
+        return Ok(ExitCode::SUCCESS);
+    }
     let options = Options::parse(arguments)?;
     if let Some(own) = options.own {
         process::run(&options, own)?;

@@ -13,7 +13,9 @@ pub const USAGE: &str = "usage: host --parties N --faults T --book BOOK [--own-b
             [--lie I=LIE]... [--limit-ms MS] [--seed S] [--break DUTY]
   BOOK  hexadecimal bytes, or the name of a file
   LIE   silent, noise, split, other-book, replay or forge
-  DUTY  forge, clock, agreement or state";
+  MS    milliseconds, the time limit of each exchange; 500 if left out
+  S     a number that settles what liars do by chance; 0 if left out
+  DUTY  forge, clock, agreement or state, which the host then does badly";
 
 /// What the host can be told to do badly.
 #[derive(Clone, Copy, Debug, PartialEq, Eq)]
@@ -66,7 +68,12 @@ fn number<N: FromStr>(text: &str) -> Result<N, String> {
 fn message(text: &str) -> Result<Vec<u8>, String> {
     match hex::decode(text) {
         Some(bytes) => Ok(bytes),
-        None => fs::read(text).map_err(|error| format!("{text}: {error}")),
+        None => fs::read(text).map_err(|error| {
+            format!(
+                "{text} is neither hexadecimal, two digits for each byte, \
+                 nor a file that can be read: {error}"
+            )
+        }),
     }
 }
 
@@ -200,6 +207,10 @@ mod tests {
             assert!(parsed(&format!("{few} {more}")).is_err(), "{more}");
         }
         assert!(parsed("--parties 3 --faults 1").is_err());
-        assert!(parsed("--parties 3 --faults 1 --book no/such/file").is_err());
+        for book in ["4", "no/such/file"] {
+            let error = parsed(&format!("--parties 3 --faults 1 --book {book}")).unwrap_err();
+            let expected = format!("{book} is neither hexadecimal, two digits for each byte, nor");
+            assert!(error.starts_with(&expected), "{error}");
+        }
     }
 }

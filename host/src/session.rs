@@ -144,6 +144,10 @@ fn gather(options: &Options, arguments: &[String]) -> Result<Vec<Process>, Strin
 /// Runs a sitting and prints it; gives whether all good boxes ended, and ended alike.
 pub fn run(options: &Options, arguments: &[String]) -> Result<bool, String> {
     check_openings(options)?;
+    // No result would be shown, and whoever goes by the status must not take it for a settled one.
+    if options.good().next().is_none() {
+        return Err(format!("no box is good: all {} lie", options.parties));
+    }
     let mut processes = gather(options, arguments)?;
     for process in &mut processes {
         process.tell(GO)?;

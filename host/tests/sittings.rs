@@ -18,6 +18,7 @@ const LIES: [&str; 6] = ["silent", "noise", "split", "other-book", "replay", "fo
 struct Run {
     status: i32,
     lines: Vec<String>,
+    error: String,
 }
 
 /// Runs the host with these words, and ends it if it hangs.
@@ -40,12 +41,15 @@ fn host(words: &str) -> Run {
         }
         thread::sleep(Duration::from_millis(10));
     };
-    let mut text = String::new();
+    let (mut text, mut error) = (String::new(), String::new());
     let output = process.stdout.as_mut().expect("a pipe");
     output.read_to_string(&mut text).expect("a text");
+    let output = process.stderr.as_mut().expect("a pipe");
+    output.read_to_string(&mut error).expect("a text");
     Run {
         status: status.code().unwrap_or(-1),
         lines: text.lines().map(String::from).collect(),
+        error,
     }
 }
 
@@ -196,6 +200,21 @@ fn a_box_left_alone_ends_with_an_error() {
     let run = host(words);
     assert_eq!(run.status, 1);
     assert_eq!(run.lines[1], "1 error: the agreement gives no value");
+}
+
+/// Nothing is settled where nobody is good.
+#[test]
+fn all_boxes_lying_are_no_sitting() {
+    let run = host("--parties 2 --faults 0 --book 41 --lie 1=noise --lie 2=silent");
+    assert_eq!((run.status, run.lines.len()), (2, 0));
+    assert_eq!(run.error, "host: no box is good: all 2 lie\n");
+}
+
+#[test]
+fn help_is_the_usage() {
+    let run = host("--parties 3 --help");
+    assert_eq!((run.status, &run.error[..]), (0, ""));
+    assert!(run.lines[0].starts_with("usage: host --parties N"));
 }
 
 #[test]
