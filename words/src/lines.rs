@@ -68,7 +68,7 @@ fn tokens(line: usize, written: &str) -> Result<Vec<Token>, Error> {
     let mut rest = written.trim_start();
     while let Some(first) = rest.chars().next().filter(|first| *first != '#') {
         let (token, behind) = match first {
-            '"' => quoted(&rest[1..]).ok_or_else(|| unclosed(line))?,
+            '"' => quoted(&rest[1..]).map_err(|text| Error { line, text })?,
             ':' | ',' | '\\' => (Token::Mark(first), &rest[1..]),
             _ => word(rest),
         };
@@ -78,31 +78,33 @@ fn tokens(line: usize, written: &str) -> Result<Vec<Token>, Error> {
     Ok(tokens)
 }
 
-fn unclosed(line: usize) -> Error {
-    let text = r#"expected a closing " in this line; in a text, \" stands for " and \\ for \"#;
-    Error {
-        line,
-        text: text.to_string(),
-    }
-}
-
 fn word(rest: &str) -> (Token, &str) {
     let ends = |c: char| c.is_whitespace() || [':', ',', '\\', '#', '"'].contains(&c);
     let (word, behind) = rest.split_at(rest.find(ends).unwrap_or(rest.len()));
     (Token::Word(word.to_string()), behind)
 }
 
-/// The text up to the closing quote, and what is behind that; none if it is not closed, or
-/// has an unknown escape.
-fn quoted(rest: &str) -> Option<(Token, &str)> {
+/// The text up to the closing quote, and what is behind that; the error says what was expected.
+fn quoted(rest: &str) -> Result<(Token, &str), String> {
+    let unclosed = r#"expected a closing " in this line; in a text, \" stands for " and \\ for \"#;
     let mut text = String::new();
     let mut chars = rest.chars();
     loop {
-        match chars.next()? {
-            '"' => return Some((Token::Text(text.into_bytes()), chars.as_str())),
-            '\\' => text.push(chars.next().filter(|it| ['"', '\\'].contains(it))?),
+        match chars.next().ok_or(unclosed)? {
+            '"' => return Ok((Token::Text(text.into_bytes()), chars.as_str())),
+            '\\' => text.push(escaped(chars.next().ok_or(unclosed)?)?),
             other => text.push(other),
         }
+    }
+}
+
+/// What a character behind a backslash stands for.
+fn escaped(found: char) -> Result<char, String> {
+    match found {
+        '"' | '\\' => Ok(found),
+        _ => Err(format!(
+            r#"expected '\"' for a quote or '\\' for a backslash, found '\{found}'"#
+        )),
     }
 }
 

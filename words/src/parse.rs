@@ -30,10 +30,10 @@ pub fn parse(text: &str) -> Result<Draft, Error> {
         })?;
         line.expect(keyword)?;
         let number = line.number(what, 0..=255)?;
-        line.end().map(|()| (number, line.number))
+        line.end().map(|()| number)
     };
-    let (n, first) = head("boxes", "the number of boxes")?;
-    let (t, _) = head("limit", "the greatest number of bad boxes")?;
+    let n = head("boxes", "the number of boxes")?;
+    let t = head("limit", "the greatest number of bad boxes")?;
     let mut reader = Reader {
         draft: Draft::new(n, t),
         bad: BTreeSet::new(),
@@ -44,7 +44,7 @@ pub fn parse(text: &str) -> Result<Draft, Error> {
         reader.statement(&mut line)?;
         line.end()?;
     }
-    reader.finished(first)
+    reader.finished(last)
 }
 
 /// The plan so far.
@@ -300,12 +300,12 @@ impl Reader {
     }
 
     /// The plan, if every box up to n is named and there is as much as is cut.
-    fn finished(self, first: usize) -> Result<Draft, Error> {
+    fn finished(self, last: usize) -> Result<Draft, Error> {
         let error = |line, text| Err(Error { line, text });
         let named = |number: &usize| self.bad.contains(number) || self.draft.is_good(*number);
         if let Some(number) = (1..=self.draft.books.n).find(|number| !named(number)) {
-            let text = format!("no line says what box {number} has, or that it is bad");
-            return error(first, text);
+            let lines = format!("'box {number} has' and a book, or 'box {number} is bad'");
+            return error(last, format!("expected {lines}, found the end of the plan"));
         }
         let whole = self.draft.uncut().len();
         match self.said.get("'cut'") {
@@ -348,10 +348,11 @@ fn damage(line: &mut Line) -> Result<(usize, u8), Error> {
     if !line.accept("by") {
         return Ok((place, 1));
     }
+    // Bits 00 would leave the byte as it is.
     let bits = line.take(|word| match pairs(word)?[..] {
-        [bits] => Some(bits),
+        [bits] if bits != 0 => Some(bits),
         _ => None,
     });
-    let bits = bits.ok_or_else(|| line.expected("two hexadecimal digits"))?;
+    let bits = bits.ok_or_else(|| line.expected("two hexadecimal digits other than 00"))?;
     Ok((place, bits))
 }

@@ -143,8 +143,16 @@ const MEMBERS: &Cases = &[
             "expected a closing \" in this line; in a text, \\\" stands for \" and \\\\ for \\",
         ),
         (
-            "book B \"\\n\"",
+            "book B \"ends in \\",
             "expected a closing \" in this line; in a text, \\\" stands for \" and \\\\ for \\",
+        ),
+        (
+            "book B \"\\q\"",
+            "expected '\\\"' for a quote or '\\\\' for a backslash, found '\\q'",
+        ),
+        (
+            "book B \"\\é",
+            "expected '\\\"' for a quote or '\\\\' for a backslash, found '\\é'",
         ),
         ("book B \"\" \"\"", "expected the end of the line, found a text in quotes"),
         ("book B hex", "expected pairs of hexadecimal digits, found the end of the line"),
@@ -248,7 +256,11 @@ const SENDINGS: &Cases = &[
     ),
     (
         "3 to 1: share 1 of A, share byte 0 damaged by 256",
-        "expected two hexadecimal digits, found '256'",
+        "expected two hexadecimal digits other than 00, found '256'",
+    ),
+    (
+        "3 to 1: share 1 of A, path byte 0 damaged by 00",
+        "expected two hexadecimal digits other than 00, found '00'",
     ),
     (
         "3 to 1: share 1 of A, cut by 71",
@@ -286,8 +298,10 @@ fn sendings() {
 
 #[test]
 fn whole_plans() {
-    let unnamed = "line 1: no line says what box 2 has, or that it is bad";
-    assert_eq!(error(SOUND), unnamed);
+    let unnamed = "expected 'box 2 has' and a book, or 'box 2 is bad', found the end of the plan";
+    assert_eq!(error(SOUND), format!("line 5: {unnamed}"));
+    let later = format!("{SOUND}first exchange\n3 to 1: empty\n\n");
+    assert_eq!(error(&later), format!("line 8: {unnamed}"));
     let cut = format!("{SOUND}box 2 has A\ncut by 18\n");
     assert_eq!(error(&cut), "line 7: the plan has 17 bytes to cut");
     let no_shares = "there are no shares: n is 1 to 16, 2·t < n, and a book has at most 1024 bytes";
