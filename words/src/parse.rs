@@ -304,7 +304,11 @@ impl Reader {
         let error = |line, text| Err(Error { line, text });
         let named = |number: &usize| self.bad.contains(number) || self.draft.is_good(*number);
         if let Some(number) = (1..=self.draft.books.n).find(|number| !named(number)) {
-            let lines = format!("'box {number} has' and a book, or 'box {number} is bad'");
+            let good = match number <= MOST_PARTIES {
+                true => format!("'box {number} has' and a book, or "),
+                false => String::new(),
+            };
+            let lines = format!("{good}'box {number} is bad'");
             return error(last, format!("expected {lines}, found the end of the plan"));
         }
         let whole = self.draft.uncut().len();

@@ -302,6 +302,9 @@ fn whole_plans() {
     assert_eq!(error(SOUND), format!("line 5: {unnamed}"));
     let later = format!("{SOUND}first exchange\n3 to 1: empty\n\n");
     assert_eq!(error(&later), format!("line 8: {unnamed}"));
+    let bad: String = (1..17).map(|it| format!("box {it} is bad\n")).collect();
+    let unnamed = "line 18: expected 'box 17 is bad', found the end of the plan";
+    assert_eq!(error(&format!("boxes 17\nlimit 1\n{bad}")), unnamed);
     let cut = format!("{SOUND}box 2 has A\ncut by 18\n");
     assert_eq!(error(&cut), "line 7: the plan has 17 bytes to cut");
     let no_shares = "there are no shares: n is 1 to 16, 2·t < n, and a book has at most 1024 bytes";
