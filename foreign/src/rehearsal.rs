@@ -448,7 +448,7 @@ mod tests {
 
     #[test]
     fn worked_plans() {
-        let worked: [(&[u8], &[u8]); 3] = [
+        let worked: [(&[u8], &[u8]); 4] = [
             (
                 include_bytes!("../../plans/worked-1.plan"),
                 include_bytes!("../../plans/worked-1.out"),
@@ -460,6 +460,10 @@ mod tests {
             (
                 include_bytes!("../../plans/worked-3.plan"),
                 include_bytes!("../../plans/worked-3.out"),
+            ),
+            (
+                include_bytes!("../../plans/alone.plan"),
+                include_bytes!("../../plans/alone.out"),
             ),
         ];
         for (plan, output) in worked {
