@@ -1,4 +1,4 @@
-//! Counts what random plans come to: their outcomes, and what was put into them.
+//! Counts what plans come to: their outcomes, and what was put into them.
 
 use std::collections::BTreeMap;
 use std::fmt::{Debug, Display, Formatter, Result};
@@ -13,8 +13,8 @@ pub struct Tally {
     pub kinds: BTreeMap<String, BTreeMap<String, usize>>,
     /// By lie, in accepted plans, and in those of them in which a lie could do harm.
     pub lies: BTreeMap<String, [usize; 2]>,
-    /// By the number of parties.
-    pub parties: BTreeMap<u8, usize>,
+    /// By n and t, in accepted plans.
+    pub groups: BTreeMap<(u8, u8), usize>,
     pub small: usize,
     pub longest: usize,
 }
@@ -49,7 +49,8 @@ impl Tally {
                 counts[0] += 1;
                 counts[1] += usize::from(made.divided);
             }
-            *self.parties.entry(made.bytes[0]).or_default() += 1;
+            let group = (made.bytes[0], made.bytes[1]);
+            *self.groups.entry(group).or_default() += 1;
         }
         let kind = self.kinds.entry(kind(made)).or_default();
         *kind.entry(outcome.clone()).or_default() += 1;
@@ -70,7 +71,7 @@ impl Display for Tally {
         lines(f, "outcomes", &self.outcomes)?;
         lines(f, "kinds", &self.kinds)?;
         lines(f, "lies: accepted plans, of these divided", &self.lies)?;
-        lines(f, "n of accepted plans", &self.parties)?;
+        lines(f, "n and t of accepted plans", &self.groups)?;
         writeln!(f, "under 2000 bytes: {}", self.small)?;
         writeln!(f, "longest: {}", self.longest)
     }

@@ -1,0 +1,296 @@
+//! The plans that are stored and run by the tests: random ones, and beside them those that
+//! chance may leave out, made one by one.
+
+use std::collections::BTreeSet;
+
+use super::{plan, Block, Damage, Draft, Made, Size};
+use crate::coder::{LONGEST_MESSAGE, MOST_PARTIES};
+use crate::liars::{flip, Lie, Scene, Sharing, Way};
+use crate::random::Random;
+use crate::rehearsal::LONGEST_PLAN;
+
+/// The plans that a person can run.
+const KEPT: [&[u8]; 5] = [
+    include_bytes!("../../../plans/worked-1.plan"),
+    include_bytes!("../../../plans/worked-2.plan"),
+    include_bytes!("../../../plans/worked-3.plan"),
+    include_bytes!("../../../plans/liar.plan"),
+    include_bytes!("../../../plans/alone.plan"),
+];
+
+/// So many random plans from this number on; without a count, the stored plans.
+pub fn chosen(count: Option<u64>, first: u64) -> Box<dyn Iterator<Item = Made>> {
+    match count {
+        Some(count) => Box::new((first..first + count).map(plan)),
+        None => Box::new(stored()),
+    }
+}
+
+pub fn stored() -> impl Iterator<Item = Made> {
+    let mut lies = lies().cycle();
+    random()
+        .chain(groups().map(all_good))
+        .chain(groups().map(move |group| liars(group, &mut lies)))
+        .chain(KEPT.map(|bytes| laid_out(bytes.to_vec(), vec![])))
+        .chain(longest())
+        .chain(small().map(|bytes| laid_out(bytes, vec![])))
+        .chain(small().into_iter().flat_map(damaged))
+}
+
+/// Long plans would make the file large, so most of them are left out.
+fn random() -> impl Iterator<Item = Made> {
+    (1..)
+        .map(|k| (k, plan(k)))
+        .filter(|(k, made)| k % 20 == 0 || made.bytes.len() <= 3_000)
+        .map(|(_, made)| made)
+        .take(2_000)
+}
+
+/// Every n with every t.
+fn groups() -> impl Iterator<Item = (usize, usize)> {
+    (1..=MOST_PARTIES).flat_map(|n| (0..n.div_ceil(2)).map(move |t| (n, t)))
+}
+
+/// Nobody is bad. The lowest party has the longest message, the others have the empty one.
+fn all_good((n, t): (usize, usize)) -> Made {
+    let mut draft = Draft::of(n, t, 0);
+    draft.messages = vec![Vec::new(); n];
+    draft.messages[0] = seeded(n, t).bytes(LONGEST_MESSAGE);
+    draft.divided = n > 1;
+    draft.made(Size::Small, vec![])
+}
+
+fn seeded(n: usize, t: usize) -> Random {
+    Random::new((MOST_PARTIES * n + t) as u64)
+}
+
+/// Every lie that is a packet.
+fn lies() -> impl Iterator<Item = Lie> + Clone {
+    let packets = |lie: &Lie| ![Lie::Honest, Lie::Unnamed].contains(lie);
+    let small = Lie::SMALL.into_iter().filter(packets);
+    small.chain([Lie::Huge])
+}
+
+/// As many are bad as may be, with the lowest numbers, so that their packets are looked at
+/// first. Root and bit are given, and of the good parties only the lowest is happy.
+fn liars((n, t): (usize, usize), lies: &mut impl Iterator<Item = Lie>) -> Made {
+    let mut random = seeded(n, t);
+    let mut draft = Draft::of(n, t, (1 << t) - 1);
+    let one = random.bytes(n);
+    let mut other = one.clone();
+    flip(&mut other, &mut random);
+    let scene = Scene {
+        agreed: Sharing::of(n, t, &one),
+        other: Sharing::of(n, t, &other),
+    };
+    draft.messages = vec![other; n - t];
+    draft.messages[0] = one;
+    draft.root = Some(scene.agreed.root);
+    draft.bit = Some(1);
+    draft.divided = n > 1;
+    let places = (0..2 * t).map(|it| (it / t, it % t));
+    for (place, lie) in places.zip(lies) {
+        draft.two_faced(&scene, place, lie, &mut random);
+    }
+    draft.made(Size::Small, vec![])
+}
+
+impl Draft {
+    /// The bad party in this place is honest to one good party, and lies to the next, who is
+    /// unhappy. There are more good parties than bad ones.
+    fn two_faced(
+        &mut self,
+        scene: &Scene,
+        (exchange, place): (usize, usize),
+        lie: Lie,
+        random: &mut Random,
+    ) {
+        let mut block = Block::default();
+        let receivers = self.good.iter().skip(place);
+        for (&receiver, lie) in receivers.zip([Lie::Honest, lie]) {
+            let way = Way::new(exchange, self.bad[place], receiver);
+            let packet = scene.told(lie, way, random).expect("a packet");
+            block.packets.insert(receiver, packet);
+            self.lies.insert(lie);
+        }
+        self.exchanges[exchange].push(block);
+    }
+}
+
+/// A plan whose bytes alone are known.
+fn laid_out(bytes: Vec<u8>, damages: Vec<Damage>) -> Made {
+    Made {
+        bytes,
+        size: Size::Small,
+        damages,
+        lies: BTreeSet::new(),
+        divided: false,
+    }
+}
+
+/// Three parties; this one is bad and silent, and the others differ.
+fn of_three(bad: usize) -> Draft {
+    let mut draft = Draft::of(3, 1, 1 << (bad - 1));
+    draft.messages = vec![b"A".to_vec(), b"B".to_vec()];
+    draft.exchanges = [(); 2].map(|()| vec![Block::default()]);
+    draft.divided = true;
+    draft
+}
+
+/// A plan as long as may be, and plans that are one byte longer: causes 1 and 2 come before
+/// that, the others after it.
+fn longest() -> [Made; 5] {
+    let over = |damages: &[Damage], change: fn(&mut Draft)| {
+        let mut draft = of_three(1);
+        change(&mut draft);
+        draft.stretch(LONGEST_PLAN + 1);
+        draft.made(Size::Small, [&[Damage::Oversize], damages].concat())
+    };
+    let mut brim = of_three(1);
+    brim.stretch(LONGEST_PLAN);
+    [
+        brim.made(Size::Brim, vec![]),
+        over(&[], |_| {}),
+        over(&[Damage::Parties], |draft| draft.head[0] = 17),
+        over(&[Damage::Faults], |draft| draft.head[1] = 2),
+        over(&[Damage::LongMessage, Damage::BitAbove], |draft| {
+            draft.messages[0].resize(LONGEST_MESSAGE + 1, 0x42);
+            draft.bit = Some(2);
+        }),
+    ]
+}
+
+/// The sound plans that are damaged in every way: the first worked one, one with root and bit,
+/// and one whose bad party sends the packets that a good one would send.
+fn small() -> [Vec<u8>; 3] {
+    let agreed = Sharing::of(3, 1, b"A");
+    let mut given = of_three(3);
+    given.root = Some(agreed.root);
+    given.bit = Some(1);
+    let mut sending = of_three(1);
+    for (exchange, number) in [(0, 3), (1, 1)] {
+        let block = &mut sending.exchanges[exchange][0];
+        block.packets.insert(3, agreed.packet(number));
+    }
+    [KEPT[0].to_vec(), given.bytes(), sending.bytes()]
+}
+
+/// The plan cut short at every place, with a byte more, and with every bit turned.
+fn damaged(plan: Vec<u8>) -> Vec<Made> {
+    let cut = |length| laid_out(plan[..length].to_vec(), vec![Damage::Cut]);
+    let turned = |place: usize| {
+        let mut bytes = plan.clone();
+        bytes[place / 8] ^= 1 << (place % 8);
+        laid_out(bytes, vec![Damage::Flip])
+    };
+    let over = laid_out([&plan[..], &[0]].concat(), vec![Damage::Over]);
+    (0..plan.len())
+        .map(cut)
+        .chain([over])
+        .chain((0..8 * plan.len()).map(turned))
+        .collect()
+}
+
+#[cfg(test)]
+mod tests {
+    use super::*;
+    use crate::rehearsal::{play, rehearse, Session, BIT_GIVEN, ROOT_GIVEN};
+    use crate::tally::{outcome, Tally};
+
+    /// What is counted here is what is run: the stored plans, no others.
+    #[test]
+    fn everything_is_stored_amply() {
+        let mut tally = Tally::default();
+        for made in stored() {
+            tally.count(&made, &rehearse(&made.bytes));
+        }
+        let seen = |outcome: &str| tally.outcomes.get(outcome).copied().unwrap_or(0);
+        assert!(seen("message") >= 1_000 && seen("nothing") >= 200);
+        for cause in [1, 2, 4, 13, 14] {
+            assert!(seen(&format!("refused {cause}")) >= 30, "cause {cause}");
+        }
+        assert_eq!(tally.outcomes.len(), 7);
+        for lie in Lie::SMALL {
+            assert!(tally.lies[&format!("{lie:?}")][1] >= 40, "{lie:?}");
+        }
+        assert!(tally.lies["Huge"][1] >= 10);
+        let damages = Damage::ALL.map(|damage| format!("{damage:?}"));
+        let others = ["Small", "Large", "Brim", "two damages"].map(String::from);
+        for kind in damages.iter().chain(&others) {
+            let long = ["Oversize", "Brim"].contains(&kind.as_str());
+            let count: usize = tally.kinds[kind].values().sum();
+            assert!(count >= if long { 1 } else { 10 }, "{kind}");
+        }
+    }
+
+    /// The stored plans that are accepted, played.
+    fn sessions() -> impl Iterator<Item = (Made, Session)> {
+        stored().filter_map(|made| play(&made.bytes).ok().map(|session| (made, session)))
+    }
+
+    /// Every n and t is accepted with nobody bad, and with t bad parties of which some send
+    /// what a good one would not.
+    #[test]
+    fn every_group_is_accepted() {
+        let mut seen = BTreeSet::new();
+        for (made, session) in sessions() {
+            let plan = session.plan;
+            let lied = lies().any(|lie| made.lies.contains(&lie));
+            seen.insert((plan.n, plan.t, plan.n - plan.good.len(), lied));
+        }
+        for (n, t) in groups() {
+            assert!(seen.contains(&(n, t, 0, false)), "n {n}, t {t}");
+            assert!(seen.contains(&(n, t, t, t > 0)), "n {n}, t {t}");
+        }
+        assert_eq!(groups().count(), 72);
+    }
+
+    /// Root and bit given and not, messages equal and not, the empty one and the longest.
+    #[test]
+    fn every_field_is_accepted() {
+        let (mut given, mut lengths, mut equal) = (BTreeSet::new(), BTreeSet::new(), [0; 2]);
+        for (_, session) in sessions() {
+            let plan = session.plan;
+            given.insert((plan.root.is_some(), plan.bit));
+            lengths.extend(session.results.into_iter().flatten().map(|it| it.len()));
+            let alike = plan.messages.iter().all(|it| *it == plan.messages[0]);
+            equal[usize::from(alike)] += 1;
+        }
+        assert_eq!(given.len(), 6);
+        assert!(lengths.contains(&0) && lengths.contains(&LONGEST_MESSAGE));
+        assert!(equal.iter().all(|count| *count >= 100));
+    }
+
+    #[test]
+    fn longest_plans_are_stored() {
+        let mut seen = BTreeSet::new();
+        for made in stored().filter(|made| made.bytes.len() >= LONGEST_PLAN) {
+            let output = outcome(&rehearse(&made.bytes)).to_string();
+            seen.insert((made.bytes.len() - LONGEST_PLAN, output));
+        }
+        let of = |over: usize, text: &str| (over, text.to_string());
+        assert!(seen.contains(&of(0, "message")));
+        for text in ["refused 1", "refused 2", "refused 13"] {
+            assert!(seen.contains(&of(1, text)), "{text}");
+        }
+    }
+
+    /// The small plans are sound, and the last one has packets in both exchanges.
+    #[test]
+    fn kept_and_damaged_plans_are_stored() {
+        let stored: BTreeSet<Vec<u8>> = stored().map(|made| made.bytes).collect();
+        assert!(KEPT.iter().all(|plan| stored.contains(*plan)));
+        for (plan, options) in small().iter().zip([0, ROOT_GIVEN | BIT_GIVEN, 0]) {
+            assert!(stored.contains(plan) && play(plan).is_ok() && plan[2] == options);
+            assert!((0..plan.len()).all(|length| stored.contains(&plan[..length])));
+            assert!(stored.contains(&[&plan[..], &[0]].concat()));
+            for place in 0..8 * plan.len() {
+                let mut bytes = plan.clone();
+                bytes[place / 8] ^= 1 << (place % 8);
+                assert!(stored.contains(&bytes), "bit {place}");
+            }
+        }
+        let sending = play(&small()[2]).expect("a sound plan").plan;
+        assert!(sending.first[0][2].is_some() && sending.second[0][2].is_some());
+    }
+}
