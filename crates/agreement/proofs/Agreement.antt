@@ -50,7 +50,7 @@ use Rattle.party.proofs.Ways.{Way, on, off, way, clash}
 use Rattle.party.proofs.Checks.{Passing, passing, passes-valid, Took, took, finds, in-relays, gathered-at, gathered-length}
 use Rattle.agreement.specs.Calls.{agreeBit, bitGiven, resultAfter}
 use Rattle.agreement.specs.Calls.{entry, lengths, checkedIn, opening, hashed, sentBy}
-use Rattle.agreement.specs.Agreement.{Good, among, different, absent, Each, owns, step, Premises, sent, Conclusions, Agreement}
+use Rattle.agreement.specs.Agreement.{Good, among, absent, Each, owns, step, Premises, sent, Conclusions, Agreement}
 use Rattle.agreement.proofs.Ran.{Ran, ran-none, ran-through, opened-is, bit-given, bit-small}
 use Rattle.agreement.proofs.Tree.{own-reads, own-leads, own-valid, own-length, honest, one-root}
 use Rattle.agreement.proofs.Lists.{lengths-none, lengths-others, sum-below, sum-none, in-join, find, among-out, one-each, present-or}

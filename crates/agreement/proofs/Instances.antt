@@ -7,7 +7,7 @@ use mathlib.Core.Logic.{_⊎_, inl, inr, _≢_}
 use mathlib.Core.Bool.{Bool, true, false, cond, false≢true}
 use mathlib.Core.List.{List, [], _∷_, map, List·Memᴰ, List·Memᴰ·head, List·Memᴰ·tail, List·Memᴰ·not-nil, List·Memᴰ·cases-cons}
 use mathlib.Core.Option.{Option, none, some}
-use Prim.Native.Nat.{ℕ, zero, suc, _+_, _-_, _*_, _/_, _%_, _^_, _<_}
+use Prim.Native.Nat.{ℕ, zero, suc, _+_, _*_, _/_, _%_, _^_, _<_}
 use native.Mathlib.Nat.{le-refl}
 use native.Mathlib.Omega.{arith}
 use lib.Dec.{lit<}
@@ -20,6 +20,7 @@ use Rattle.gf256.specs.Field.{timesX, productOf, product, power, inverse}
 use Rattle.polynomial.specs.Polynomial.{sum, pow, value, factor, unit, numerator, denominator, basis, through}
 use Rattle.erasure.specs.Coding.{shareLength, headed, frame, block, shareByte, shareOf, share, shares}
 use Rattle.erasure.specs.Rebuild.{present, point, framed, other, unframed, joined, recovered}
+use Rattle.erasure.proofs.Instances.{two-bytes}
 use Rattle.merkle.specs.Tree.{splitFrom, split, shapeOf, shape, size as leaves, nodeString, sides, beside, root, path, folded}
 use Rattle.merkle.specs.Strings.{treeStrings, foldStrings, checkStrings}
 use Rattle.merkle.specs.Hashes.{topHash, pathHashes}
@@ -36,6 +37,7 @@ use Rattle.party.proofs.Ways.{Way, on, off, way, clash}
 use Rattle.agreement.specs.Calls.{Call, agreeRoot, agreeBit, takeShares, takeRelays, Event, accepted, first, entry, lengths, sentOver, made, events, final}
 use Rattle.agreement.specs.Calls.{checkedIn, checkedOver, did, hashed, sentBy, heard, packetTo, wrote, opening, resultAfter}
 use Rattle.agreement.specs.Agreement.{Good, among, different, absent, sumOver, joinOver, step, allHashed, Premises, sent, Conclusions}
+use Rattle.agreement.proofs.Lists.{same-some}
 use Rattle.agreement.proofs.Agreement.{agreement}
 
 -- a small hash: a number worked out byte by byte, in eight bytes, and zeros
@@ -102,9 +104,6 @@ unfolding there
 pick none p = absurd (false≢true p)
 pick (some e) p = (e, refl)
 
-same-some : {A : Type 0} {x y : A} → _≡_ {A = Option A} (some x) (some y) → x ≡ y
-same-some p = cc
-
 zero-one : _≡_ {A = ℕ} 0 1 → ⊥
 zero-one e = omega arith
 
@@ -112,10 +111,6 @@ zero-one e = omega arith
 one-byte : (a : ℕ) → a < 256 → Bytes (a ∷ [])
 one-byte a h zero = h
 one-byte a h (suc i) = lit< tt
-
-two-bytes : (a b : ℕ) → a < 256 → b < 256 → Bytes (a ∷ b ∷ [])
-two-bytes a b h k zero = h
-two-bytes a b h k (suc i) = one-byte b k i
 
 -- n 3, t 1: party 1 lies, 2 is unhappy, 3 is happy
 abbrev pub M : List ℕ

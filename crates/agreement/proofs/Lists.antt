@@ -4,6 +4,7 @@ use mathlib.Core.Path.{_≡_, refl, sym, ap, _∙_, subst}
 use mathlib.Core.Logic.{_⊎_, inl, inr}
 use mathlib.Core.Bool.{Bool, true, false, cond, false≢true}
 use mathlib.Core.List.{List, [], _∷_, _++_, map, List·Memᴰ, List·Memᴰ·head, List·Memᴰ·tail, List·Memᴰ·not-nil, List·Memᴰ·cases-cons, Memᴰ·append-left, Memᴰ·append-right}
+use mathlib.Core.Option.{Option, some}
 use Prim.Native.Nat.{ℕ, zero, suc, _+_, _-_, _*_, _≤_, _<_}
 use native.Mathlib.Nat.{add-zero}
 use native.Mathlib.Decide.{ℕ-discrete}
@@ -150,3 +151,6 @@ present-or (g ∷ gs) j js h =
     go (on e) (off a) s r = rw (e, a) (omega arith)
     go (on e) (on a) (inl l) r = let z : length g ≡ 0 = eqb-true (length g) 0 e in absurd (omega arith)
     go (on e) (on a) (inr b) r = clash a (ap (λ (u : ℕ). among u js) (sym (add-zero j)) ∙ b)
+
+pub same-some : {A : Type 0} {x y : A} → _≡_ {A = Option A} (some x) (some y) → x ≡ y
+same-some p = cc

@@ -1,7 +1,7 @@
 -- The tools beside the steps: the number that a packet gives, whose parts are small, and the check of a path that lies as bytes.
 -- Assumes nothing.
-use mathlib.Core.Path.{_≡_, refl, sym, ap, subst, _∙_}
-use mathlib.Core.Bool.{Bool, true, false, cond, not, _||_, true≢false}
+use mathlib.Core.Path.{_≡_, refl, ap, subst, _∙_}
+use mathlib.Core.Bool.{Bool, true, false, cond, not}
 use mathlib.Core.List.{List, [], _∷_}
 use Prim.Native.Nat.{ℕ, _+_, _-_, _/_, _%_, _≤_}
 use native.Mathlib.Nat.{mul-div-le}
@@ -13,6 +13,7 @@ use denote.Enum.Declared.{tagOf}
 use lib.Dec.{ltb, eqb}
 use lib.ListN.{length, drop, replicate}
 use Rattle.limits.specs.Limits.{maxParties, maxPath, maxShare, maxHashed}
+use Rattle.buffer.proofs.Booleans.{not-either}
 use Rattle.sha256.specs.Sha256.{sha256}
 use Rattle.merkle.specs.Shares.{blank, parties, numbered, sidesOf, told, passes, checkOf}
 use Rattle.merkle.specs.declared.Checked.{Checked}
@@ -27,12 +28,6 @@ use Rattle.packet.proofs.Path.{length-hashes, path-there}
 use Rattle.packet.proofs.Reading.{lies-of}
 use Rattle.packet.proofs.Verdict.{passes-take}
 use Rattle.capi.specs.Calls.{packed, readAnswer, checkAnswer, denied, checkPathCall}
-
--- neither test holds
-neither : (a b : Bool) → not (a || b) ≡ true → (a ≡ false) × (b ≡ false)
-neither true b e = absurd (true≢false (sym e))
-neither false true e = absurd (true≢false (sym e))
-neither false false e = (refl, refl)
 
 -- a packet that was read, and is no share: silence
 pub read-silent : (r : Packet) → OneOf (1 ∷ 2 ∷ []) (tagOf the-type r) → OneOf (0 ∷ 1 ∷ []) (tagOf the-type r) → readAnswer r ≡ packed 0 0
@@ -61,7 +56,7 @@ parts-of n p number from len count e = go (parties n) refl e
     go false q h = subst PartsIn h tt
     go true q h =
         let l = lies-of n 0 (drop 0 p) number from len count h in
-        let high = ltb-false maxParties n (neither (ltb n 1) (ltb maxParties n) q .1) in
+        let high = ltb-false maxParties n (not-either (ltb n 1) (ltb maxParties n) q .1) in
         record {
           numbers = omega (arith, l .high, high);
           bytes = l .most;
@@ -77,8 +72,8 @@ module _ (n j : ℕ) (share path root : List ℕ) where
       → passes sha256 n j share (pathAt path 0 Count) Count root ≡ passes sha256 n j share (hashes Count path) Count root
   unfolding passes
   same-passes p q =
-      let high = ltb-false maxParties n (neither (ltb n 1) (ltb maxParties n) p .1) in
-      let own = neither (ltb j 1) (ltb n j) q in
+      let high = ltb-false maxParties n (not-either (ltb n 1) (ltb maxParties n) p .1) in
+      let own = not-either (ltb j 1) (ltb n j) q in
       let low = ltb-false j 1 (own .0) in
       let last = ltb-false n j (own .1) in
       let few = sides-fit n (j - 1) high (omega (arith, low, last)) in

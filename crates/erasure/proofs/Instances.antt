@@ -23,7 +23,7 @@ ab = 0x41 ∷ 0x42 ∷ []
 abbrev entries : List (List ℕ)
 entries = (0x41 ∷ 0x40 ∷ []) ∷ (0x82 ∷ 0x86 ∷ []) ∷ (0xEE ∷ []) ∷ []
 
-two-bytes : (a b : ℕ) → a < 256 → b < 256 → Bytes (a ∷ b ∷ [])
+pub two-bytes : (a b : ℕ) → a < 256 → b < 256 → Bytes (a ∷ b ∷ [])
 two-bytes a b ha hb zero = ha
 two-bytes a b ha hb (suc zero) = hb
 two-bytes a b ha hb (suc (suc i)) = lit< tt

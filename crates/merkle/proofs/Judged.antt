@@ -12,6 +12,7 @@ use lib.Dec.{ltb, eqb}
 use lib.ListN.{length, getD, take, drop, replicate, drop-of-length-le}
 use lib.Seq.{drop-cons}
 use Rattle.limits.specs.Limits.{maxParties, maxHashed}
+use Rattle.buffer.proofs.Booleans.{both}
 use Rattle.merkle.specs.Tree.{folded}
 use Rattle.merkle.specs.Shares.{leafString, leafStrings, blank, sharesCause, leavesOf, sidesOf, same, passes, told, checkOf}
 use Rattle.merkle.specs.Shares.{parties, numbered}
@@ -152,11 +153,6 @@ module _ (H : List ℕ → List ℕ) (n j : ℕ) (share : List ℕ) (path : List
 -- two lists that are tested are one where the test says so, and only there
 never : false ≡ true → ⊥
 never q = let z : _≡_ {A = ℕ} 0 1 = cc in omega arith
-
-both : (a b : Bool) → a && b ≡ true → (a ≡ true) × (b ≡ true)
-both true true e = (refl, refl)
-both true false e = absurd (never e)
-both false b e = absurd (never e)
 
 pub same-true : (a b : List ℕ) → same a b ≡ true → a ≡ b
 unfolding same

@@ -76,7 +76,7 @@ module _ (H : List ℕ → List ℕ) where
 abbrev pub Wide : ℕ → List (List ℕ) → Type 0
 Wide w p = (i : ℕ) → i < length p → length (getD p i []) ≡ w
 
-wide-take : (w k : ℕ) (p : List (List ℕ)) → k ≤ length p → Wide w p → Wide w (take k p)
+pub wide-take : (w k : ℕ) (p : List (List ℕ)) → k ≤ length p → Wide w p → Wide w (take k p)
 wide-take w k p h z i j =
     let n : i < k = omega (arith, length-take-le k p h) in
     ap length (getD-take k p i [] n) ∙ z i (omega arith)

@@ -6,10 +6,10 @@ use Prim.Native.Nat.{ℕ, zero, suc, _+_, _*_, _<_, _≤_}
 use native.Mathlib.Numerals.{add-one}
 use native.Mathlib.Omega.{arith}
 use lib.ListN.{length, getD, take, drop, length-append, length-drop}
-use lib.Seq.{take-suc, take-add, take-at, drop-at, getD-take, length-take-le}
+use lib.Seq.{take-suc, take-add, take-at, drop-at, length-take-le}
 use Rattle.buffer.specs.Splice.{spliced, putOf}
 use Rattle.buffer.proofs.Splice.{put-fits, spliced-more, length-spliced}
-use Rattle.merkle.proofs.Sound.{Wide}
+use Rattle.merkle.proofs.Sound.{Wide, wide-take}
 use Rattle.packet.specs.Format.{chained, hashes}
 
 -- the first hash, and those behind it
@@ -18,11 +18,6 @@ wide-head w h hs z = z 0 (omega arith)
 
 wide-tail : (w : ℕ) (h : List ℕ) (hs : List (List ℕ)) → Wide w (h ∷ hs) → Wide w hs
 wide-tail w h hs z i l = z (suc i) (omega arith)
-
-pub wide-take : (w k : ℕ) (p : List (List ℕ)) → k ≤ length p → Wide w p → Wide w (take k p)
-wide-take w k p h z i j =
-    let n : i < k = omega (arith, length-take-le k p h) in
-    ap length (getD-take k p i [] n) ∙ z i (omega arith)
 
 pub length-chained : (p : List (List ℕ)) → Wide 32 p → length (chained p) ≡ 32 * length p
 unfolding chained

@@ -2,7 +2,7 @@
 -- entries fill are the inbox of their bodies. By induction on the entries. Assumes nothing.
 use mathlib.Core.Path.{_≡_, refl, sym, ap, ap₂, _∙_}
 use mathlib.Core.Bool.{true}
-use mathlib.Core.List.{List, [], _∷_, _++_}
+use mathlib.Core.List.{List, [], _∷_, _++_, append-nil, append-assoc}
 use Prim.Native.Nat.{ℕ, zero, suc, _+_, _*_, _/_, _%_, _<_, _≤_}
 use native.Mathlib.Omega.{arith}
 use borrow.Author.Tests.{le-ltb, eqb-true}
@@ -76,3 +76,10 @@ bodies-inbox (suc n) s small h =
     let t = whole n (suc n) 0 s refl h in
     ap (λ (l : List ℕ). entryOf (body s) ++ l) (bodies-inbox n (rest s) (rest-bytes s small) (t .tail))
     ∙ first-entry s small (omega (arith, t .inside))
+
+-- a packet more
+pub inbox-more : (ps : List (List ℕ)) (p : List ℕ) → inboxOf (ps ++ (p ∷ [])) ≡ inboxOf ps ++ entryOf p
+unfolding inboxOf
+inbox-more [] p = append-nil (entryOf p)
+inbox-more (q ∷ ps) p =
+    ap (λ (l : List ℕ). entryOf q ++ l) (inbox-more ps p) ∙ sym (append-assoc (entryOf q) (inboxOf ps) (entryOf p))

@@ -8,9 +8,9 @@ use lib.ListN.{length, take, length-append}
 use lib.Seq.{length-take-le}
 use Rattle.buffer.specs.Splice.{spliced, putOf}
 use Rattle.buffer.proofs.Splice.{put-fits, spliced-more, length-spliced}
-use Rattle.merkle.proofs.Sound.{Wide}
+use Rattle.merkle.proofs.Sound.{Wide, wide-take}
 use Rattle.packet.specs.Format.{chained, packetOf, entryOf}
-use Rattle.packet.proofs.Chain.{length-chained, wide-take}
+use Rattle.packet.proofs.Chain.{length-chained}
 
 pub packet-length : (number : ℕ) (share : List ℕ) (path : List (List ℕ)) → Wide 32 path
     → length (packetOf number share path) ≡ 4 + length share + 32 * length path

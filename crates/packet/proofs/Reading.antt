@@ -3,7 +3,7 @@
 use mathlib.Core.Path.{_≡_, refl, sym, ap, ap₂, subst, _∙_}
 use mathlib.Core.Bool.{Bool, true, false, cond, not, _&&_, _||_}
 use mathlib.Core.List.{List}
-use Prim.Native.Nat.{ℕ, _+_, _-_, _*_, _≤_, _<_}
+use Prim.Native.Nat.{ℕ, _+_, _*_, _≤_, _<_}
 use native.Mathlib.Nat.{add-zero}
 use native.Mathlib.Omega.{arith}
 use borrow.Author.Tests.{lt-ltb, le-ltb, eq-eqb, ne-eqb, ltb-false, eqb-true}
@@ -13,6 +13,7 @@ use lib.Seq.{getD-drop, length-take-le}
 use Rattle.limits.specs.Limits.{maxParties, maxShare}
 use Rattle.buffer.specs.Entries.{size}
 use Rattle.buffer.proofs.Entries.{size-drop}
+use Rattle.buffer.proofs.Booleans.{not-either}
 use Rattle.merkle.specs.Shares.{numbered, sidesOf, pathLengthOf}
 use Rattle.merkle.specs.declared.Counted.the-variants as count
 use Rattle.merkle.proofs.Sound.{Wide}
@@ -162,12 +163,6 @@ module _ (n : ℕ) (s : List ℕ) (at : ℕ) where
     unfolding readAt
     at-read h = rw (le-ltb n 1 low, le-ltb maxParties n h)
 
--- neither of two tests holds
-neither : (a b : Bool) → not (a || b) ≡ true → (a ≡ false) × (b ≡ false)
-neither true b e = absurd (let z : _≡_ {A = ℕ} 0 1 = cc in omega arith)
-neither false true e = absurd (let z : _≡_ {A = ℕ} 0 1 = cc in omega arith)
-neither false false e = (refl, refl)
-
 -- which of the two answers it is
 refused : (t : Bool) (c k : ℕ) → cond (not t) (count.Refused 3) (count.Hashes c) ≡ count.Refused k → t ≡ false
 refused true c k e = absurd (let z : _≡_ {A = ℕ} 0 1 = cc in omega arith)
@@ -189,7 +184,7 @@ module _ (n j : ℕ) (low : 1 ≤ n) (high : n ≤ maxParties) where
   pub count-hashes : (k : ℕ) → pathLengthOf n j ≡ count.Hashes k → (1 ≤ j) × (j ≤ n) × (k ≡ length (sidesOf n j))
   count-hashes k e =
       let h = hashed (numbered n j) (length (sidesOf n j)) k (sym within ∙ e) in
-      let t = neither (ltb j 1) (ltb n j) (h .0) in
+      let t = not-either (ltb j 1) (ltb n j) (h .0) in
       (ltb-false j 1 (t .0), ltb-false n j (t .1), h .1)
 
 -- p is the packet of a share among n parties

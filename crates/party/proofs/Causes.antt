@@ -1,7 +1,7 @@
 -- The causes for which the opening and a party's steps are refused: one law for each, and what holds where none applies. A cause is a
 -- chain of tests, which is 0 only if every test fails. Assumes nothing.
 use mathlib.Core.Path.{_≡_, refl}
-use mathlib.Core.Bool.{Bool, true, false, cond, not, _||_, true≢false}
+use mathlib.Core.Bool.{Bool, true, false, cond, not, _||_}
 use mathlib.Core.List.{List}
 use Prim.Native.Nat.{ℕ, suc, _<_, _≤_}
 use native.Mathlib.Omega.{arith}
@@ -11,16 +11,12 @@ use lib.ListN.{length}
 use Rattle.limits.specs.Limits.{maxMessage, maxShare, groupCause}
 use Rattle.limits.proofs.Group.{group-of}
 use Rattle.buffer.specs.Entries.{fills}
+use Rattle.buffer.proofs.Booleans.{neither}
 use Rattle.merkle.specs.Shares.{numbered}
 use Rattle.party.specs.State.{broken, overlong}
 use Rattle.party.specs.Steps.{turnOf, stateCause, openCause, rootCause, bitCause, inboxCause}
 use Rattle.party.specs.Private.{Fit}
 use Rattle.party.specs.declared.Party.{Party}
-
--- tests of which none holds
-neither : (a b : Bool) → a || b ≡ false → (a ≡ false) × (b ≡ false)
-neither true b e = absurd (true≢false e)
-neither false b e = (refl, e)
 
 numbered-within : (n j : ℕ) → numbered n j ≡ true → (1 ≤ j) × (j ≤ n)
 numbered-within n j e =

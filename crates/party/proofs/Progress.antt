@@ -17,7 +17,7 @@ use Rattle.erasure.specs.Rebuild as rebuild
 use Rattle.packet.proofs.Reading.{fields-of}
 use Rattle.party.specs.State.{Result, nothing, settled, bytesOf, messageIn, atRoot, atBit, atFirst, atSecond, atEnd, broken, happy}
 use Rattle.party.specs.Steps.{turnOf, openOf, bitCause, inboxCause, agreeRootOf, outboxOf, agreeBitOf, Taken, missing, found, takenBy}
-use Rattle.party.specs.Steps.{shareTaken, relayOf, heldOf, takeSharesOf, gathered, rebuilt, resultOf, ending, takeRelaysOf, gives, writes, Ballot}
+use Rattle.party.specs.Steps.{shareTaken, relayOf, heldOf, takeSharesOf, gathered, rebuilt, resultOf, ending, takeRelaysOf, writes, Ballot}
 use Rattle.party.specs.declared.Party.{Party}
 use Rattle.party.specs.declared.Opened.{Opened}
 use Rattle.party.proofs.Causes.{fit-of, broken-stage, state-fine, open-fine, root-fine, bit-fine, inbox-fine}

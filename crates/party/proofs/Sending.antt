@@ -2,7 +2,7 @@
 -- hash has 32 bytes, and silence for all is zeros. By induction on the entries. Assumes nothing.
 use mathlib.Core.Path.{_≡_, refl, sym, ap, ap₂, _∙_}
 use mathlib.Core.Bool.{Bool, true, false, cond, _&&_}
-use mathlib.Core.List.{List, [], _∷_, _++_, append-nil, append-assoc}
+use mathlib.Core.List.{List, [], _∷_, _++_}
 use Prim.Native.Nat.{ℕ, zero, suc, _+_, _-_, _*_, _≤_}
 use native.Mathlib.Decide.{ℕ-discrete}
 use native.Mathlib.Numerals.{add-one}
@@ -16,6 +16,7 @@ use Rattle.merkle.proofs.Trees.{path-counted, path-hashes-wide}
 use Rattle.packet.specs.Format.{packetOf, entryOf}
 use Rattle.packet.specs.Inbox.{inboxOf}
 use Rattle.packet.proofs.Parts.{packet-length, entry-length}
+use Rattle.packet.proofs.Inbox.{inbox-more}
 use Rattle.party.specs.State.{happy}
 use Rattle.party.specs.Steps.{leavesIn, packetFor, outboxOf}
 use Rattle.party.specs.Private.{entryFor, outboxUpTo, entryLength, outboxLength}
@@ -23,12 +24,6 @@ use Rattle.party.specs.declared.Party.{Party}
 use Rattle.party.proofs.Parts.{length-part}
 use Rattle.party.proofs.Shared.{share-inside, shares-fine, sizeIn, sharesIn, own-share}
 use Rattle.party.proofs.Outbox.{length-own, length-other, entry-own, entry-other}
-
-inbox-more : (ps : List (List ℕ)) (p : List ℕ) → inboxOf (ps ++ (p ∷ [])) ≡ inboxOf ps ++ entryOf p
-unfolding inboxOf
-inbox-more [] p = append-nil (entryOf p)
-inbox-more (q ∷ ps) p =
-    ap (λ (l : List ℕ). entryOf q ++ l) (inbox-more ps p) ∙ sym (append-assoc (entryOf q) (inboxOf ps) (entryOf p))
 
 -- silence for all is zeros
 silence : (n : ℕ) → inboxOf (replicate n []) ≡ replicate (2 * n) 0

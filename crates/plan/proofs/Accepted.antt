@@ -1,7 +1,7 @@
 -- What holds of a plan that is taken: n and t are within their limits, a given root has 32 bytes, and no book is over its limit. By the tests
 -- of the definitions, and by induction along the parties. Assumes nothing.
 use mathlib.Core.Path.{_≡_, refl, subst}
-use mathlib.Core.Bool.{Bool, true, false, cond, not, _||_, true≢false, false≢true}
+use mathlib.Core.Bool.{Bool, true, false, cond, not, _||_, false≢true}
 use mathlib.Core.List.{List, []}
 use mathlib.Core.Option.{Option, none}
 use Prim.Native.Nat.{ℕ, zero, suc, _+_, _≤_, _<_, _^_}
@@ -14,6 +14,7 @@ use Rattle.limits.specs.Limits.{maxMessage, maxPlan, groupCause}
 use Rattle.buffer.specs.Bounds.{Bytes}
 use Rattle.buffer.specs.Entries.{size, body, rest}
 use Rattle.buffer.proofs.Bounds.{body-bytes, rest-bytes}
+use Rattle.buffer.proofs.Booleans.{neither}
 use Rattle.plan.specs.Layout.{names, under, longBook, unnamed, lowest, nIn, tIn, optionsIn, afterRoot, afterBit, hasRoot, rootIn, goodIn, booksIn, endOf, empty, laidOut}
 use Rattle.plan.specs.Plan.{planCause}
 
@@ -50,19 +51,23 @@ accepted s e =
     (cond (longBook maxMessage (nIn s) 1 (goodIn s) (booksIn s)) 4 0))) ≡ 0) (not-or (ltb maxPlan (length s)) (laidOut s)) e) in
     record { group = h .0; laid = either (ltb maxPlan (length s)) (laidOut s) (h .1); short = h .2 }
 
--- a root that is given has 32 bytes
+-- the books start within the plan
 first-tests : (a b c d : Bool) (o : Option (List ℕ)) → empty (cond (a || b || c || d) none o) ≡ true → c ≡ false
 first-tests true b c d o e = absurd (false≢true e)
 first-tests false true c d o e = absurd (false≢true e)
 first-tests false false true d o e = absurd (false≢true e)
 first-tests false false false d o e = refl
 
-pub root-length : (s : List ℕ) → laidOut s ≡ true → hasRoot s ≡ true → length (rootIn s) ≡ 32
+pub books-inside : (s : List ℕ) → laidOut s ≡ true → afterBit s + 2 ≤ length s
 unfolding laidOut endOf
+books-inside s l =
+    ltb-false (length s) (afterBit s + 2)
+    (first-tests (ltb (length s) 3) (not (ltb (optionsIn s) 4)) (ltb (length s) (afterBit s + 2)) (not (ltb (goodIn s) (2 ^ nIn s))) _ l)
+
+-- a root that is given has 32 bytes
+pub root-length : (s : List ℕ) → laidOut s ≡ true → hasRoot s ≡ true → length (rootIn s) ≡ 32
 root-length s l r =
-    let h = first-tests (ltb (length s) 3) (not (ltb (optionsIn s) 4)) (ltb (length s) (afterBit s + 2))
-    (not (ltb (goodIn s) (2 ^ nIn s))) _ l in
-    let long : afterBit s + 2 ≤ length s = ltb-false (length s) (afterBit s + 2) h in
+    let long : afterBit s + 2 ≤ length s = books-inside s l in
     let at : afterRoot s ≡ 35 = rw r in
     length-take-le 32 (drop 3 s) (omega (arith, length-drop 3 s))
 
@@ -70,10 +75,6 @@ root-length s l r =
 body-short : (s : List ℕ) → length (body s) ≤ size s
 unfolding body
 body-short s = omega (arith, length-take (size s) (drop 2 s))
-
-or-false : (a b : Bool) → a || b ≡ false → (a ≡ false) × (b ≡ false)
-or-false true b e = absurd (true≢false e)
-or-false false b e = (refl, e)
 
 pub under-short : (most k p g q : ℕ) (s : List ℕ) → longBook most k p g s ≡ false → length (under k p g q s) ≤ most
 unfolding longBook under
@@ -86,9 +87,9 @@ under-short most (suc k) p g q s e =
         → (longBook most k (p + 1) g s ≡ false → length (under k (p + 1) g q s) ≤ most)
         → length (cond b (cond a (body s) []) (under k (p + 1) g q (cond a (rest s) s))) ≤ most
     go true true h r t =
-        let w = or-false (ltb most (size s)) (longBook most k (p + 1) g (rest s)) h in
+        let w = neither (ltb most (size s)) (longBook most k (p + 1) g (rest s)) h in
         omega (arith, body-short s, ltb-false most (size s) (w .0))
-    go true false h r t = r (or-false (ltb most (size s)) (longBook most k (p + 1) g (rest s)) h .1)
+    go true false h r t = r (neither (ltb most (size s)) (longBook most k (p + 1) g (rest s)) h .1)
     go false true h r t = omega arith
     go false false h r t = t h
 

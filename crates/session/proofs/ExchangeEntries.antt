@@ -1,6 +1,6 @@
 -- Entries of an inbox as they are written: a length put before its packet, and an entry put behind those before it. Assumes nothing.
 use mathlib.Core.Path.{_≡_, refl, sym, ap, ap₂, _∙_}
-use mathlib.Core.List.{List, [], _∷_, _++_, append-nil, append-assoc}
+use mathlib.Core.List.{List, [], _∷_, _++_, append-assoc}
 use Prim.Native.Nat.{ℕ, _+_, _/_, _%_, _≤_}
 use native.Mathlib.Numerals.{add-one}
 use native.Mathlib.Omega.{arith}
@@ -9,6 +9,7 @@ use lib.Seq.{length-take-le, take-append-le, take-take, take-at, drop-at}
 use Rattle.buffer.specs.Splice.{spliced, tabulate}
 use Rattle.packet.specs.Format.{entryOf}
 use Rattle.packet.specs.Inbox.{inboxOf}
+use Rattle.packet.proofs.Inbox.{inbox-more}
 
 -- bytes put before those that were written
 spliced-before : (d : List ℕ) (at : ℕ) (h p : List ℕ) → at + length h ≤ length d
@@ -32,12 +33,6 @@ unfolding entryOf
 entry-headed o at len w o' inside e q =
     ap₂ (λ (x : List ℕ) (k : ℕ). spliced x at (k / 256 ∷ k % 256 ∷ [])) q e
     ∙ spliced-before o at (length w / 256 ∷ length w % 256 ∷ []) w inside
-
-inbox-more : (ps : List (List ℕ)) (p : List ℕ) → inboxOf (ps ++ (p ∷ [])) ≡ inboxOf ps ++ entryOf p
-unfolding inboxOf
-inbox-more [] p = append-nil (entryOf p)
-inbox-more (q ∷ ps) p =
-    ap (λ (l : List ℕ). entryOf q ++ l) (inbox-more ps p) ∙ sym (append-assoc (entryOf q) (inboxOf ps) (entryOf p))
 
 -- the inbox of the packets f 0, f 1, .., so far
 module _ (f : ℕ → List ℕ) where

@@ -1,7 +1,7 @@
 -- What is known of a plan that was read: its parts, where the two exchanges stand, and that no packet in them is longer than the plan. By the
 -- tests of the definitions, and by induction along the parties. Assumes nothing.
 use mathlib.Core.Path.{_≡_, refl, sym, ap, _∙_}
-use mathlib.Core.Bool.{Bool, true, false, cond, not, _||_, _&&_, true≢false}
+use mathlib.Core.Bool.{Bool, true, false, cond, not, _||_, _&&_}
 use mathlib.Core.List.{List, []}
 use mathlib.Core.Option.{Option, none, some}
 use Prim.Native.Nat.{ℕ, zero, suc, _+_, _-_, _≤_, _<_, _^_, min}
@@ -14,6 +14,7 @@ use lib.Seq.{drop-drop, drop-length}
 use Rattle.limits.specs.Limits.{maxParties, maxMessage, maxPlan, groupCause}
 use Rattle.limits.proofs.Group.{group-of}
 use Rattle.buffer.specs.Entries.{size, body, rest, bodies}
+use Rattle.buffer.proofs.Booleans.{both}
 use Rattle.agreement.specs.Calls.{entry}
 use Rattle.plan.specs.Layout.{names, behind, under, within, behindBlock, behindBlocks, packetFrom, longBook, andThen, orEmpty, nIn, tIn, afterBit, goodIn, booksIn, firstIn, secondIn, laidOut}
 use Rattle.plan.specs.Plan.{planCause, planOf}
@@ -176,10 +177,6 @@ parts-of s parts r =
 allTo : ℕ → Bool
 allTo zero = true
 allTo (suc k) = names 65535 (suc k) && allTo k
-
-both : (a b : Bool) → a && b ≡ true → (a ≡ true) × (b ≡ true)
-both true b e = (refl, e)
-both false b e = absurd (true≢false (sym e))
 
 all-named : (k p : ℕ) → allTo k ≡ true → 1 ≤ p → p ≤ k → names 65535 p ≡ true
 unfolding allTo

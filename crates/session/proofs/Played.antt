@@ -5,7 +5,7 @@ use mathlib.Core.Path.{_≡_, refl, sym, ap, ap₂, _∙_, subst}
 use mathlib.Core.Logic.{_≢_}
 use mathlib.Core.Bool.{Bool, true, false, cond, not, _&&_, _||_, true≢false, false≢true}
 use mathlib.Core.List.{List, [], _∷_, _++_, List·Memᴰ}
-use mathlib.Core.Option.{Option, none, some}
+use mathlib.Core.Option.{Option, some}
 use Prim.Native.Nat.{ℕ, zero, suc, _+_, _-_, _≤_, _<_}
 use native.Mathlib.Decide.{ℕ-discrete}
 use native.Mathlib.Omega.{arith}
@@ -42,12 +42,13 @@ use Rattle.party.proofs.Progress.{open-accepted, bit-accepted, shares-accepted,
 use Rattle.party.proofs.Progress.{root-whole, bit-whole, first-whole, second-whole, held-short, result-short}
 use Rattle.party.proofs.Rooms.{outbox-fits, relay-fits}
 use Rattle.agreement.specs.Calls.{Call, agreeRoot, agreeBit, takeShares, takeRelays, Event, accepted, first, entry, heard, wrote, packetTo, bitGiven, resultShown}
-use Rattle.agreement.specs.Calls.{Reply, sentOver, made, events, final, did, firstOf, resultAfter, hashed, sentBy, opening}
+use Rattle.agreement.specs.Calls.{Reply, sentOver, made, events, final, did, firstOf, resultAfter, sentBy, opening}
 use Rattle.agreement.specs.Agreement.{Good, Each, step, Clean, Premises, sent, Conclusions, Agreement}
 use Rattle.agreement.proofs.Run.{did3, did4}
 use Rattle.agreement.proofs.Ran.{opened-is, result-end}
+use Rattle.agreement.proofs.Lists.{same-some}
 use Rattle.agreement.proofs.Agreement.{agreement, agreement-sha256}
-use Rattle.plan.specs.Layout.{unnamed, lowest, nIn, tIn, hasRoot, hasBit, rootIn, goodIn, booksIn}
+use Rattle.plan.specs.Layout.{unnamed, nIn, tIn, hasRoot, hasBit, rootIn, goodIn, booksIn}
 use Rattle.plan.specs.Layout as layout
 use Rattle.plan.specs.Plan.{planCause}
 use Rattle.plan.proofs.Accepted.{Accepted, accepted as plan-taken, lowest-named, root-length, under-short, under-bytes}
@@ -474,9 +475,6 @@ module _ (H : List ℕ → List ℕ) (wide : (x : List ℕ) → length (H x) ≡
       go : Way (isGood s p) → sameBits H s k (p + 1) b ≡ true → sameBits H s (suc k) p b ≡ true
       go (on e) r = rw (e, eq-eqb (step2 H s p .bit) b (f p (omega arith) (omega arith) e)) r
       go (off e) r = rw e r
-
-  same-some : {A : Type 0} {x y : A} → _≡_ {A = Option A} (some x) (some y) → x ≡ y
-  same-some e = cc
 
   root-rule : (v : List ℕ) → Each H n t good (λ A. some (opening H n t (A .own) (A .message) .root) ≡ some v) → z ≡ v
   unfolding opened

@@ -3,11 +3,10 @@
 use mathlib.Core.Path.{_≡_, refl, sym, ap, ap₂, _∙_}
 use mathlib.Core.Bool.{Bool, true, false, cond, not, _&&_, _||_, true≢false, false≢true}
 use mathlib.Core.List.{List}
-use mathlib.Core.Option.{Option, none}
 use Prim.Native.Nat.{ℕ, suc, _+_, _-_, _*_, _%_, _/_, _^_, _<_, _≤_}
 use native.Mathlib.Decide.{ℕ-discrete}
 use native.Mathlib.Omega.{arith}
-use borrow.Author.Tests.{lt-ltb, le-ltb, ltb-false, eq-eqb, ne-eqb}
+use borrow.Author.Tests.{lt-ltb, le-ltb, eq-eqb, ne-eqb}
 use lib.Dec.{ltb, eqb}
 use lib.ListN.{length, take, drop}
 use Rattle.limits.specs.Limits.{maxParties, maxMessage}
@@ -21,29 +20,16 @@ use Rattle.buffer.proofs.Given.{written-done}
 use Rattle.merkle.specs.Shares.{same}
 use Rattle.party.specs.Steps.{openOf}
 use Rattle.party.proofs.Kept.{take-spliced}
-use Rattle.plan.specs.Layout.{names, unnamed, lowest, nIn, tIn, optionsIn, hasRoot, hasBit, afterRoot, afterBit, rootIn, bitIn, goodIn, booksIn}
-use Rattle.plan.specs.Layout.{firstIn, secondIn, endOf, empty, laidOut}
+use Rattle.plan.specs.Layout.{names, unnamed, lowest, nIn, tIn, hasRoot, hasBit, afterRoot, afterBit, rootIn, bitIn, goodIn, booksIn}
+use Rattle.plan.specs.Layout.{firstIn, secondIn, laidOut}
 use Rattle.plan.specs.Plan.{planCause, planOf, bookOf}
 use Rattle.plan.specs.declared.Plan.{Plan}
 use Rattle.plan.proofs.Maps.{named}
 use Rattle.plan.proofs.Maps as maps
 use Rattle.plan.proofs.Given.{book-given}
-use Rattle.plan.proofs.Accepted.{accepted, under-short}
+use Rattle.plan.proofs.Accepted.{accepted, books-inside, under-short}
 use Rattle.session.specs.Session.{isGood, messageOf, lowestGood, opened, agreedRoot, step2, agreedBit, sameRoots, sameBits, unlawful}
 use Rattle.session.specs.Private.{Ready}
-
--- the books start within the plan
-head-tests : (a b c d : Bool) (o : Option (List ℕ)) → empty (cond (a || b || c || d) none o) ≡ true → c ≡ false
-head-tests true b c d o e = absurd (false≢true e)
-head-tests false true c d o e = absurd (false≢true e)
-head-tests false false true d o e = absurd (false≢true e)
-head-tests false false false d o e = refl
-
-books-inside : (s : List ℕ) → laidOut s ≡ true → afterBit s + 2 ≤ length s
-unfolding laidOut endOf
-books-inside s l =
-    ltb-false (length s) (afterBit s + 2)
-    (head-tests (ltb (length s) 3) (not (ltb (optionsIn s) 4)) (ltb (length s) (afterBit s + 2)) (not (ltb (goodIn s) (2 ^ nIn s))) _ l)
 
 -- the parts of a plan that is taken
 pub record Known (s : List ℕ) (parts : Plan) : Type 0 where

@@ -1,7 +1,7 @@
 -- `erasure::uneven` meets its contract: that a length differs is that one still to come does. Assumes nothing.
 use mathlib.Core.Path.{_≡_, refl, sym, _∙_}
 use Prim.Native.Nat.{ℕ, _-_, _≤_}
-use lib.ListN.{length, getD, drop}
+use lib.ListN.{getD, drop}
 use Rattle.limits.specs.Limits.{maxParties}
 use Rattle.buffer.specs.Splice.{tabulate}
 use Rattle.buffer.proofs.Tabulate.{length-tabulate, getD-tabulate}

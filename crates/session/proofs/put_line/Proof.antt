@@ -7,7 +7,7 @@ use lib.ListN.{length, length-take, length-replicate}
 use lib.Seq.{length-take-le}
 use Rattle.limits.specs.Limits.{maxMessage}
 use Rattle.buffer.specs.Splice.{spliced}
-use Rattle.party.specs.State.{Result, nothing}
+use Rattle.party.specs.State.{Result}
 use Rattle.party.specs.Steps.{resultGiven}
 use Rattle.party.specs.declared.Settled.{Settled}
 use Rattle.report.specs.Output.{line}
