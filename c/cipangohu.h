@@ -45,9 +45,10 @@ extern "C" {
 #define CIPANGOHU_ROOT 32
 #define CIPANGOHU_STATE (40 + CIPANGOHU_MESSAGE + CIPANGOHU_SHARE)
 
-/* Room for any packet that a party writes: map, number and share length, the share, a path of four hashes. Then for any outbox. */
+/* Room for any packet that a party writes: map, number and share length, the share, a path of four hashes. Then for any outbox: all shares of a
+ * message together, and beside each its entry's length and the rest of its packet. */
 #define CIPANGOHU_PACKET (4 + CIPANGOHU_SHARE + 4 * CIPANGOHU_ROOT)
-#define CIPANGOHU_OUTBOX (CIPANGOHU_PARTIES * (2 + CIPANGOHU_PACKET))
+#define CIPANGOHU_OUTBOX (2 * (CIPANGOHU_SHARE + CIPANGOHU_PARTIES) + CIPANGOHU_PARTIES * (6 + 4 * CIPANGOHU_ROOT))
 
 /* The value of take_relays for the result nothing, which is no message, not even an empty one. */
 #define CIPANGOHU_NOTHING UINT32_C(0xFFFFFFFF)

@@ -46,12 +46,13 @@ pub const MAX_HASHED: usize = 65_535;
 /// The longest packet: map, number and share length, the share, a path of four hashes.
 pub const MAX_PACKET: usize = 4 + MAX_SHARE + 4 * 32;
 
-/// Room for any outbox: for each party a two-byte length and a packet.
-pub const MAX_OUTBOX: usize = MAX_PARTIES * (2 + MAX_PACKET);
-
 /// Room for all shares of a message: n is less than 2·(n − t), so that they have less than twice
 /// the bytes of the longest frame with its zeros.
 const MAX_SHARES: usize = 2 * (MAX_SHARE + MAX_PARTIES);
+
+/// Room for any outbox: all shares of a message, and beside each its entry's two-byte length, map,
+/// number, share length and path.
+pub const MAX_OUTBOX: usize = MAX_SHARES + MAX_PARTIES * (6 + 4 * 32);
 
 /// The bytes of a party's state.
 pub const STATE: usize = 40 + MAX_MESSAGE + MAX_SHARE;

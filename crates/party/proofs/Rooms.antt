@@ -1,5 +1,5 @@
--- How long what a party writes can be: no packet is over maxPacket, no outbox over maxOutbox. By the lengths of shares and paths.
--- Assumes nothing.
+-- How long what a party writes can be: no packet is over maxPacket, no outbox over maxOutbox. By the lengths of shares and paths; all n
+-- shares together are within maxShares, for every n and t. Assumes nothing.
 use mathlib.Core.Path.{_≡_, refl, sym, subst}
 use mathlib.Core.Bool.{Bool, true, false, cond, _&&_}
 use mathlib.Core.List.{List, [], _∷_}
@@ -8,11 +8,11 @@ use native.Mathlib.Nat.{mul-le-mul-right}
 use native.Mathlib.Omega.{arith}
 use lib.Dec.{eqb}
 use lib.ListN.{length, getD, replicate, length-append, length-replicate}
-use Rattle.limits.specs.Limits.{maxParties}
+use Rattle.limits.specs.Limits.{maxPath}
 use Rattle.buffer.specs.Splice.{tabulate}
 use Rattle.buffer.specs.Entries.{bodies}
 use Rattle.buffer.proofs.Tabulate.{length-tabulate, getD-tabulate}
-use Rattle.erasure.specs.Coding.{share}
+use Rattle.erasure.specs.Coding.{shareLength, share}
 use Rattle.erasure.proofs.Frame.{length-share}
 use Rattle.merkle.proofs.Descend.{sides-fit}
 use Rattle.packet.specs.Format.{packetOf, entryOf}
@@ -21,6 +21,7 @@ use Rattle.packet.proofs.Parts.{entry-length, packet-length}
 use Rattle.packet.proofs.Reading.{fields-of, read-wide}
 use Rattle.party.specs.State.{atBit, atFirst, happy}
 use Rattle.party.specs.Steps.{packetFor, outboxOf, Taken, missing, found, takenBy, packetTaken, ownRelay, relayOf}
+use Rattle.party.proofs.Shared.{shares-bound}
 use Rattle.party.proofs.Messages.{Coded, share-fits, pathTo, path-count, path-each, packet-bit, packet-first}
 use Rattle.party.proofs.Checks.{took, passing}
 use Rattle.party.specs.Rooms.{maxPacket, maxOutbox}
@@ -44,16 +45,31 @@ none-there (suc n) zero = refl
 none-there (suc n) (suc k) = none-there n k
 
 module _ (H : List ℕ → List ℕ) (wide : (s : List ℕ) → length (H s) ≡ 32) (n t i : ℕ) (m z : List ℕ) (c : Coded n t m) where
+  -- the length of a packet whose path is the longest
+  abbrev most : ℕ
+  most = 4 + shareLength (n - t) (length m) + 32 * maxPath
+
   -- the packet with share j
-  made-short : (j : ℕ) (first : 1 ≤ j) (last : j ≤ n) → length (packetOf j (share (n - t) j m) (pathTo H wide n t m c j first last)) ≤ maxPacket
-  made-short j first last =
+  made-length : (j : ℕ) (first : 1 ≤ j) (last : j ≤ n) → length (packetOf j (share (n - t) j m) (pathTo H wide n t m c j first last)) ≤ most
+  made-length j first last =
       omega (
         arith,
         packet-length j (share (n - t) j m) (pathTo H wide n t m c j first last) (path-each H wide n t m c j first last),
         length-share (n - t) j m,
-        share-fits n t m c,
         path-count H wide n t m c j first last,
         sides-fit n (j - 1) (c .high) (omega arith),
+      )
+
+  made-short : (j : ℕ) (first : 1 ≤ j) (last : j ≤ n) → length (packetOf j (share (n - t) j m) (pathTo H wide n t m c j first last)) ≤ maxPacket
+  made-short j first last = omega (arith, made-length j first last, share-fits n t m c)
+
+  -- n entries of such packets
+  entries-fit : n * (2 + most) ≤ maxOutbox
+  entries-fit =
+      omega (
+        arith,
+        shares-bound n t (length m) (c .faults) (c .high) (c .short),
+        mul-le-mul-right (6 + 32 * maxPath) (c .high),
       )
 
   -- the outbox of step 3
@@ -64,26 +80,22 @@ module _ (H : List ℕ → List ℕ) (wide : (s : List ℕ) → length (H s) ≡
       f : ℕ → List ℕ
       f k = cond (eqb (k + 1) i) [] (packetFor H (atBit n t i m z) (k + 1))
 
-      each : (k : ℕ) → k < n → (b : Bool) → length (cond b [] (packetFor H (atBit n t i m z) (k + 1))) ≤ maxPacket
+      each : (k : ℕ) → k < n → (b : Bool) → length (cond b [] (packetFor H (atBit n t i m z) (k + 1))) ≤ most
       each k l true = omega arith
       each k l false =
-          subst (λ (w : List ℕ). length w ≤ maxPacket) (sym (packet-bit H n t i m z wide c (k + 1) (omega arith) (omega arith)))
-          (made-short (k + 1) (omega arith) (omega arith))
+          subst (λ (w : List ℕ). length w ≤ most) (sym (packet-bit H n t i m z wide c (k + 1) (omega arith) (omega arith)))
+          (made-length (k + 1) (omega arith) (omega arith))
 
-      all : (ps : List (List ℕ)) → length ps ≡ n → ((k : ℕ) → k < n → length (getD ps k []) ≤ maxPacket) → length (inboxOf ps) ≤ maxOutbox
+      all : (ps : List (List ℕ)) → length ps ≡ n → ((k : ℕ) → k < n → length (getD ps k []) ≤ most) → length (inboxOf ps) ≤ maxOutbox
       all ps e h =
-          let high : length ps ≤ maxParties = omega (arith, e, c .high) in
-          omega (
-            arith,
-            inbox-below maxPacket ps (λ k l. h k (omega (arith, e, l))),
-            mul-le-mul-right (2 + maxPacket) high,
-          )
+          let below : length ps * (2 + most) ≤ maxOutbox = rw e entries-fit in
+          omega (arith, inbox-below most ps (λ k l. h k (omega (arith, e, l))), below)
 
       go : (b : Bool) → length (inboxOf (cond b (tabulate n (λ k. cond (eqb (k + 1) i) [] (packetFor H (atBit n t i m z) (k + 1))))
           (replicate n []))) ≤ maxOutbox
       go true =
           all (tabulate n f) (length-tabulate n f)
-          (λ k l. subst (λ (w : List ℕ). length w ≤ maxPacket) (sym (getD-tabulate n f k [] l)) (each k l (eqb (k + 1) i)))
+          (λ k l. subst (λ (w : List ℕ). length w ≤ most) (sym (getD-tabulate n f k [] l)) (each k l (eqb (k + 1) i)))
       go false = all (replicate n []) (length-replicate {A = List ℕ} n []) (λ k l. omega (arith, none-there n k))
 
   -- the relay of step 4

@@ -95,6 +95,12 @@ pub struct Ended {
 // The greatest length of all shares of a message together: n is less than 2·b, and b·s less than the message with its length and b.
 const MAX_SHARES: usize = 2 * (MAX_SHARE + MAX_PARTIES);
 
+// The greatest length of a packet that a party writes, and of its outbox: each entry has, beside its share, its length, map, number, share length
+// and path.
+pub const MAX_PACKET: usize = 4 + MAX_SHARE + 32 * MAX_PATH;
+
+pub const MAX_OUTBOX: usize = MAX_SHARES + MAX_PARTIES * (6 + 32 * MAX_PATH);
+
 // The greatest length of n entries with a share each.
 const MAX_ENTRIES: usize = MAX_PARTIES * (MAX_SHARE + 2);
 

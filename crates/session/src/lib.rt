@@ -23,10 +23,10 @@ ghost use Rattle.session.specs.Private.{Ready, maxEntry, maxInbox, maxLi
 use buffer::Written;
 use limits::MAX_MESSAGE;
 use limits::MAX_PARTIES;
-use limits::MAX_PATH;
-use limits::MAX_SHARE;
 use merkle::Hash;
 use party::Ended;
+use party::MAX_OUTBOX;
+use party::MAX_PACKET;
 use party::Opened;
 use party::Party;
 use party::Settled;
@@ -34,11 +34,6 @@ use party::Step;
 use party::Vote;
 use party::Voted;
 use plan::Plan;
-
-// The greatest length of a packet that a party writes, and of its outbox.
-const MAX_PACKET: usize = 4 + MAX_SHARE + 32 * MAX_PATH;
-
-const MAX_OUTBOX: usize = MAX_PARTIES * (2 + MAX_PACKET);
 
 // The greatest length of an entry, and of an inbox.
 const MAX_ENTRY: usize = 2 + 65535;
