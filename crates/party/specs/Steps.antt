@@ -152,14 +152,14 @@ pub data Taken : Type 0 where
   missing : Taken
   found : List ℕ → List (List ℕ) → Taken
 
+abbrev pub shareTaken : Taken → List ℕ
+shareTaken missing = []
+shareTaken (found x p) = x
+
 abbrev pub orLater : Class → Taken → Taken
 orLater silent later = later
 orLater faulty later = later
 orLater (valid x p) later = found x p
-
-abbrev pub shareTaken : Taken → List ℕ
-shareTaken missing = []
-shareTaken (found x p) = x
 
 abbrev pub packetTaken : Party → Taken → List ℕ
 packetTaken x missing = []
