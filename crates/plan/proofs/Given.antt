@@ -1,9 +1,10 @@
 -- The outcomes of giving a book or a packet: cause 1, else its bytes. Assumes nothing.
 use mathlib.Core.Path.{_≡_}
+use mathlib.Core.Bool.{false}
 use mathlib.Core.List.{List}
-use mathlib.Core.Bool.{true, false}
-use Prim.Native.Nat.{ℕ}
-use Rattle.limits.specs.Limits.{parties}
+use Prim.Native.Nat.{ℕ, _≤_}
+use Rattle.limits.specs.Limits.{maxParties, parties}
+use Rattle.limits.proofs.Ranges.{parties-some}
 use Rattle.buffer.specs.Given.{gave, written}
 use Rattle.buffer.specs.declared.Written.the-variants.{Refused}
 use Rattle.plan.specs.Layout.{under, packetFrom}
@@ -19,11 +20,11 @@ module _ (n g q : ℕ) (s out : List ℕ) where
     unfolding packetOf
     packet-parties i = rw none
 
-  module _ (some : parties n ≡ true) where
-    pub book-given : bookOf n g q s out ≡ written (under n 1 g q s) out
+  module _ (low : 1 ≤ n) where
+    pub book-given : n ≤ maxParties → bookOf n g q s out ≡ written (under n 1 g q s) out
     unfolding bookOf
-    book-given = rw some
+    book-given high = rw (parties-some n low high)
 
-    pub packet-given : (i : ℕ) → packetOf n g q i s out ≡ written (packetFrom n 1 n g q i s) out
+    pub packet-given : (i : ℕ) → n ≤ maxParties → packetOf n g q i s out ≡ written (packetFrom n 1 n g q i s) out
     unfolding packetOf
-    packet-given i = rw some
+    packet-given i high = rw (parties-some n low high)
