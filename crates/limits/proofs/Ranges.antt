@@ -1,19 +1,12 @@
--- The ranges of n and of a party's number: one law for each outcome, the bounds where the test holds, and both from an answer that is
--- the test. Assumes nothing.
-use mathlib.Core.Path.{_≡_, refl, sym, _∙_}
-use mathlib.Core.Bool.{Bool, true, false, not, _&&_, true≢false}
+-- The ranges of n and of a party's number: one law for each outcome, and the bounds where the test holds, also from an answer that is
+-- the test and is not turned down. Assumes nothing.
+use mathlib.Core.Path.{_≡_, sym, _∙_}
+use mathlib.Core.Bool.{Bool, true, false, not}
 use Prim.Native.Nat.{ℕ, _<_, _≤_}
-use borrow.Author.Tests.{le-leb, lt-leb, leb-true, not-true, not-false}
+use borrow.Author.Tests.{le-leb, lt-leb, leb-true, not-false}
 use lib.Dec.{leb}
 use Rattle.limits.specs.Limits.{maxParties, parties, numbered}
-
-both : (a b : Bool) → (a && b) ≡ true → (a ≡ true) × (b ≡ true)
-both true b e = (refl, e)
-both false b e = absurd (true≢false (sym e))
-
--- the test fails where its answer is turned down
-pub denied : {r b : Bool} → r ≡ b → not r ≡ true → b ≡ false
-denied {r} e h = sym e ∙ not-true r h
+use Rattle.limits.proofs.Booleans.{both}
 
 module _ (n : ℕ) where
   pub parties-none : n < 1 → parties n ≡ false

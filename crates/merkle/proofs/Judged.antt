@@ -13,7 +13,7 @@ use lib.ListN.{length, getD, take, drop, replicate, drop-of-length-le}
 use lib.Seq.{drop-cons}
 use Rattle.limits.specs.Limits.{maxParties, maxHashed, parties, numbered}
 use Rattle.limits.proofs.Ranges.{parties-some, parties-range, numbered-within}
-use Rattle.buffer.proofs.Booleans.{both}
+use Rattle.limits.proofs.Booleans.{both}
 use Rattle.merkle.specs.Tree.{folded}
 use Rattle.merkle.specs.Shares.{leafString, leafStrings, blank, sharesCause, leavesOf, sidesOf, same, passes, told, checkOf}
 use Rattle.merkle.specs.declared.Checked.the-variants.{Refused, No, Yes}

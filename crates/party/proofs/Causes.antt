@@ -12,7 +12,7 @@ use Rattle.limits.specs.Limits.{maxMessage, maxShare, numbered, groupCause}
 use Rattle.limits.proofs.Ranges.{numbered-within, numbered-range}
 use Rattle.limits.proofs.Group.{group-of}
 use Rattle.buffer.specs.Entries.{fills}
-use Rattle.buffer.proofs.Booleans.{neither}
+use Rattle.limits.proofs.Booleans.{neither}
 use Rattle.party.specs.State.{broken, overlong}
 use Rattle.party.specs.Steps.{turnOf, stateCause, openCause, rootCause, bitCause, inboxCause}
 use Rattle.party.specs.Private.{Fit}

@@ -4,7 +4,8 @@ use Prim.Native.Nat.{_≤_}
 use native.Mathlib.Omega.{arith}
 use borrow.Author.Needs.{needs}
 use Rattle.limits.specs.Limits.{maxParties}
-use Rattle.limits.proofs.Ranges.{denied, parties-told}
+use Rattle.limits.proofs.Booleans.{denied}
+use Rattle.limits.proofs.Ranges.{parties-told}
 use Rattle.limits.proofs.Group.{group-parties, group-faults, group-fine}
 use Rattle.limits.proofs.group_cause.Statement.{statement}
 use Rattle.limits.proofs.group_cause.Tie as tie

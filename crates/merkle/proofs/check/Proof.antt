@@ -6,7 +6,8 @@ use Prim.Native.Nat.{ℕ, _≤_}
 use native.Mathlib.Omega.{arith}
 use lib.ListN.{take}
 use Rattle.limits.specs.Limits.{maxParties}
-use Rattle.limits.proofs.Ranges.{denied, parties-told, numbered-told}
+use Rattle.limits.proofs.Booleans.{denied}
+use Rattle.limits.proofs.Ranges.{parties-told, numbered-told}
 use Rattle.sha256.specs.Sha256.{sha256}
 use Rattle.merkle.specs.Tree.{folded}
 use Rattle.merkle.specs.Shares.{leafString, sidesOf, same, passes, told, checkOf}

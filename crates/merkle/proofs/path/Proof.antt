@@ -4,7 +4,8 @@ use Prim.Native.Nat.{_≤_}
 use native.Mathlib.Omega.{arith}
 use borrow.Author.Needs.{needs}
 use Rattle.limits.specs.Limits.{maxParties}
-use Rattle.limits.proofs.Ranges.{denied, parties-told, numbered-told}
+use Rattle.limits.proofs.Booleans.{denied}
+use Rattle.limits.proofs.Ranges.{parties-told, numbered-told}
 use Rattle.sha256.specs.Sha256.{sha256}
 use Rattle.merkle.proofs.Outcomes.{path-parties, path-number, path-hashes}
 use Rattle.merkle.proofs.path.Statement.{statement}

@@ -4,7 +4,8 @@ use Prim.Native.Nat.{_≤_}
 use native.Mathlib.Omega.{arith}
 use borrow.Author.Needs.{needs}
 use Rattle.limits.specs.Limits.{maxParties}
-use Rattle.limits.proofs.Ranges.{denied, parties-told}
+use Rattle.limits.proofs.Booleans.{denied}
+use Rattle.limits.proofs.Ranges.{parties-told}
 use Rattle.merkle.proofs.Judged.{cause-parties, cause-long, cause-uneven, cause-fine}
 use Rattle.merkle.proofs.shares_cause.Statement.{statement}
 use Rattle.merkle.proofs.shares_cause.Tie as tie

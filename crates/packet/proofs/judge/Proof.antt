@@ -4,7 +4,8 @@ use mathlib.Core.List.{List}
 use Prim.Native.Nat.{ℕ, _-_, _≤_}
 use native.Mathlib.Omega.{arith}
 use Rattle.limits.specs.Limits.{maxParties, maxPath}
-use Rattle.limits.proofs.Ranges.{denied, parties-told, numbered-told}
+use Rattle.limits.proofs.Booleans.{denied}
+use Rattle.limits.proofs.Ranges.{parties-told, numbered-told}
 use Rattle.merkle.proofs.Descend.{sides-fit}
 use Rattle.packet.specs.Format.{readOf}
 use Rattle.packet.specs.Class.{classOf}

@@ -5,7 +5,8 @@ use native.Mathlib.Omega.{arith}
 use borrow.Author.Needs.{needs}
 use lib.ListN.{length}
 use Rattle.limits.specs.Limits.{maxParties}
-use Rattle.limits.proofs.Ranges.{denied, parties-told}
+use Rattle.limits.proofs.Booleans.{denied}
+use Rattle.limits.proofs.Ranges.{parties-told}
 use Rattle.merkle.specs.Shares.{sidesOf}
 use Rattle.packet.proofs.Writing.{cause-parties, cause-number, cause-empty, cause-long, cause-count, cause-fine}
 use Rattle.packet.proofs.Reading.{count-hashes, count-refused}

@@ -3,7 +3,8 @@ use mathlib.Core.Path.{sym, ap, _∙_}
 use mathlib.Core.List.{List}
 use Prim.Native.Nat.{ℕ, _≤_}
 use Rattle.limits.specs.Limits.{maxParties}
-use Rattle.limits.proofs.Ranges.{denied, parties-told}
+use Rattle.limits.proofs.Booleans.{denied}
+use Rattle.limits.proofs.Ranges.{parties-told}
 use Rattle.buffer.specs.Given.{written}
 use Rattle.plan.proofs.Given.{book-parties, book-given}
 use borrow.Author.Needs.{needs}
