@@ -12,7 +12,7 @@ use native.Mathlib.Nat.{le-refl}
 use native.Mathlib.Omega.{arith}
 use lib.Dec.{lit<}
 use lib.ListN.{length, take, replicate}
-use Rattle.limits.specs.Limits.{groupCause}
+use Rattle.limits.specs.Limits.{parties, numbered, groupCause}
 use Rattle.buffer.specs.Bounds.{Bytes}
 use Rattle.buffer.specs.Splice.{spliced, tabulate}
 use Rattle.buffer.specs.Entries.{size, body, rest, fills, bodies}
@@ -257,7 +257,7 @@ pub record Computed : Type 0 where
   pub second-ends : resultAfter toy 3 1 2 (0x42 ∷ []) calls2 ≡ some (settled (0x41 ∷ []))
 
 pub computed : Computed
-unfolding size body rest fills bodies spliced tabulate groupCause timesX productOf product power inverse sum pow value factor unit numerator denominator basis through shareLength headed frame block shareByte shareOf share shares present point framed other unframed joined recovered splitFrom split shapeOf shape leaves nodeString sides beside root path folded treeStrings foldStrings checkStrings topHash pathHashes leafString leafStrings sharesCause same leavesOf rootOf pathOf passes codingStrings stringsOf chained hashes packetOf entryOf shareIn readOf inboxOf classOf classStrings atRoot atBit atFirst atSecond atEnd blankState broken messageRoot happy stateCause openCause openOf rootCause agreeRootOf packetFor bitCause outboxOf agreeBitOf inboxCause firstValid relayOf heldOf takeSharesOf gathered resultOf takeRelaysOf accepted first entry lengths sentOver made events final shareStrings relayStrings checkedIn checkedOver did hashed sentBy among different absent sumOver joinOver clean cleanOf there mix digest
+unfolding size body rest fills bodies spliced tabulate parties numbered groupCause timesX productOf product power inverse sum pow value factor unit numerator denominator basis through shareLength headed frame block shareByte shareOf share shares present point framed other unframed joined recovered splitFrom split shapeOf shape leaves nodeString sides beside root path folded treeStrings foldStrings checkStrings topHash pathHashes leafString leafStrings sharesCause same leavesOf rootOf pathOf passes codingStrings stringsOf chained hashes packetOf entryOf shareIn readOf inboxOf classOf classStrings atRoot atBit atFirst atSecond atEnd blankState broken messageRoot happy stateCause openCause openOf rootCause agreeRootOf packetFor bitCause outboxOf agreeBitOf inboxCause firstValid relayOf heldOf takeSharesOf gathered resultOf takeRelaysOf accepted first entry lengths sentOver made events final shareStrings relayStrings checkedIn checkedOver did hashed sentBy among different absent sumOver joinOver clean cleanOf there mix digest
 computed = record {
   premises = record {
     opened = record {

@@ -13,6 +13,7 @@ use lib.ListN.{length}
 use Rattle.limits.specs.Limits.{maxMessage}
 use Rattle.buffer.specs.Splice.{spliced}
 use Rattle.buffer.specs.Entries.{bodies}
+use Rattle.buffer.proofs.Splice.{take-spliced}
 use Rattle.erasure.specs.Coding.{shares}
 use Rattle.merkle.specs.Shares.{codingStrings}
 use Rattle.party.specs.State.{Result, nothing, settled, bytesOf, atRoot, atBit, atFirst, atSecond, atEnd}
@@ -20,7 +21,7 @@ use Rattle.party.specs.State.{resultIn, messageRoot, happy}
 use Rattle.party.specs.Steps.{turnOf, openCause, outboxOf, relayOf, heldOf, resultOf}
 use Rattle.party.specs.declared.Party.{Party}
 use Rattle.party.specs.declared.Opened.{Opened}
-use Rattle.party.proofs.Kept.{take-padded, take-spliced}
+use Rattle.party.proofs.Kept.{take-padded}
 use Rattle.party.proofs.Outcomes.{open-given, open-refused}
 use Rattle.party.proofs.Ways.{Way, on, off, way}
 use Rattle.agreement.specs.Calls.{Call, agreeRoot, agreeBit, takeShares, takeRelays, stepOf, Reply, Event, accepted, first, entry, heard, wrote}

@@ -13,6 +13,7 @@ use lib.Dec.{eqb, ltb}
 use lib.ListN.{length}
 use Rattle.buffer.specs.Splice.{spliced}
 use Rattle.buffer.specs.declared.Written.the-variants as written
+use Rattle.buffer.proofs.Splice.{take-spliced}
 use Rattle.party.specs.State.{Result, nothing, settled, bytesOf, messageIn, atFirst, atSecond, atEnd, resultIn, happy}
 use Rattle.party.specs.Steps.{turnOf, stateCause, rootCause, withRoot, Ballot, Stepped, gives, refused, writes, bitCause, outboxOf}
 use Rattle.party.specs.Steps.{agreeBitOf, inboxCause, relayOf, heldOf, takeSharesOf, resultOf, Ending, givesEnd, ending, takeRelaysOf}
@@ -21,7 +22,6 @@ use Rattle.party.specs.declared.Settled.the-variants as answer
 use Rattle.party.proofs.Ways.{Way, on, off, way}
 use Rattle.party.proofs.Causes.{state-sound}
 use Rattle.party.proofs.Outcomes.{root-refused, root-given}
-use Rattle.party.proofs.Kept.{take-spliced}
 use Rattle.agreement.specs.Calls.{Call, agreeRoot, agreeBit, takeShares, takeRelays, stepOf, Reply, Event, accepted, first, sentOver}
 use Rattle.agreement.specs.Calls.{made, events, final}
 

@@ -7,7 +7,7 @@ use native.Mathlib.Decide.{decLt}
 use native.Mathlib.Omega.{arith}
 use borrow.Author.Tests.{lt-ltb, le-ltb, eq-eqb, ne-eqb}
 use lib.ListN.{length}
-use Rattle.limits.specs.Limits.{groupCause}
+use Rattle.limits.specs.Limits.{parties, groupCause}
 use Rattle.buffer.specs.Splice.{spliced}
 use Rattle.buffer.specs.Given.{causeOf, valueOf, Given, gave, written}
 use Rattle.buffer.specs.declared.Written.{Written}
@@ -26,19 +26,19 @@ use Rattle.capi.proofs.Reading.{state-short}
 -- the blank state is refused by every step
 module _ (H : List ℕ → List ℕ) where
   blank-root : (z : List ℕ) → agreeRootOf H blankState z .cause ≡ 5
-  unfolding agreeRootOf rootCause stateCause broken groupCause blankState
+  unfolding agreeRootOf rootCause stateCause broken parties groupCause blankState
   blank-root z = refl
 
   blank-bit : (bit : ℕ) (out : List ℕ) → agreeBitOf H blankState bit out .cause ≡ 5
-  unfolding agreeBitOf bitCause stateCause broken groupCause blankState
+  unfolding agreeBitOf bitCause stateCause broken parties groupCause blankState
   blank-bit bit out = refl
 
   blank-shares : (inbox out : List ℕ) → takeSharesOf H blankState inbox out .cause ≡ 5
-  unfolding takeSharesOf inboxCause stateCause broken groupCause blankState
+  unfolding takeSharesOf inboxCause stateCause broken parties groupCause blankState
   blank-shares inbox out = refl
 
   blank-relays : (inbox out : List ℕ) → takeRelaysOf H blankState inbox out .cause ≡ 5
-  unfolding takeRelaysOf inboxCause stateCause broken groupCause blankState
+  unfolding takeRelaysOf inboxCause stateCause broken parties groupCause blankState
   blank-relays inbox out = refl
 
   -- so what is accepted is no blank state, and has all its bytes

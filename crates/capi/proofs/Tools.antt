@@ -7,15 +7,15 @@ use Prim.Native.Nat.{ℕ, _+_, _-_, _/_, _%_, _≤_}
 use native.Mathlib.Nat.{mul-div-le}
 use native.Mathlib.Decide.{decLt}
 use native.Mathlib.Omega.{arith}
-use borrow.Author.Tests.{eq-eqb, ne-eqb, ltb-false}
+use borrow.Author.Tests.{eq-eqb, ne-eqb}
 use types.Run.{OneOf, miss}
 use denote.Enum.Declared.{tagOf}
 use lib.Dec.{ltb, eqb}
 use lib.ListN.{length, drop, replicate}
-use Rattle.limits.specs.Limits.{maxParties, maxPath, maxShare, maxHashed}
-use Rattle.buffer.proofs.Booleans.{not-either}
+use Rattle.limits.specs.Limits.{maxParties, maxPath, maxShare, maxHashed, parties, numbered}
+use Rattle.limits.proofs.Ranges.{parties-range, numbered-range}
 use Rattle.sha256.specs.Sha256.{sha256}
-use Rattle.merkle.specs.Shares.{blank, parties, numbered, sidesOf, told, passes, checkOf}
+use Rattle.merkle.specs.Shares.{blank, sidesOf, told, passes, checkOf}
 use Rattle.merkle.specs.declared.Checked.{Checked}
 use Rattle.merkle.specs.declared.Checked.the-variants as checked
 use Rattle.merkle.proofs.Descend.{sides-fit}
@@ -56,7 +56,7 @@ parts-of n p number from len count e = go (parties n) refl e
     go false q h = subst PartsIn h tt
     go true q h =
         let l = lies-of n 0 (drop 0 p) number from len count h in
-        let high = ltb-false maxParties n (not-either (ltb n 1) (ltb maxParties n) q .1) in
+        let high = parties-range n q .1 in
         record {
           numbers = omega (arith, l .high, high);
           bytes = l .most;
@@ -72,11 +72,7 @@ module _ (n j : ℕ) (share path root : List ℕ) where
       → passes sha256 n j share (pathAt path 0 Count) Count root ≡ passes sha256 n j share (hashes Count path) Count root
   unfolding passes
   same-passes p q =
-      let high = ltb-false maxParties n (not-either (ltb n 1) (ltb maxParties n) p .1) in
-      let own = not-either (ltb j 1) (ltb n j) q in
-      let low = ltb-false j 1 (own .0) in
-      let last = ltb-false n j (own .1) in
-      let few = sides-fit n (j - 1) high (omega (arith, low, last)) in
+      let few = sides-fit n (j - 1) (parties-range n p .1) (omega (arith, numbered-range n j q)) in
       elim (decLt maxPath Count) [
         | yes h ↦ rw (ne-eqb Count (length (sidesOf n j)) (λ e. absurd (omega (arith, e, few, h))))
         | no h ↦ ap (λ (l : List (List ℕ)). passes sha256 n j share l Count root)

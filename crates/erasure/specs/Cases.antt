@@ -5,7 +5,7 @@ use mathlib.Core.List.{List, [], _∷_}
 use Prim.Native.Nat.{ℕ}
 use Rattle.gf256.specs.Field.{timesX, product, power, inverse}
 use Rattle.gf256.specs.Cases.{product-case, inverse-case}
-use Rattle.limits.specs.Limits.{groupCause}
+use Rattle.limits.specs.Limits.{parties, groupCause}
 use Rattle.buffer.specs.Splice.{spliced, tabulate}
 use Rattle.buffer.specs.Entries.{size, body, rest, fills, bodies}
 use Rattle.polynomial.specs.Polynomial.{sum, pow, value, factor, unit, numerator, denominator, basis, through}
@@ -43,7 +43,7 @@ pub record Cases : Type 0 where
   pub empty-3 : share 2 3 [] ≡ 0 ∷ []
 
 pub cases : Cases
-unfolding share shareOf shareByte shareLength frame headed block tabulate value sum pow product timesX power inverse rebuildOf groupCause
+unfolding share shareOf shareByte shareLength frame headed block tabulate value sum pow product timesX power inverse rebuildOf parties groupCause
     fills bodies size body rest present point recovered joined framed other unframed written spliced through basis numerator denominator
     factor unit
 cases = record {

@@ -1,7 +1,7 @@
--- The greatest numbers of document 01, and causes 1 and 2. Assumes nothing.
+-- The greatest numbers of document 01, the ranges of n and of a party's number, and causes 1 and 2. Assumes nothing.
 use Prim.Native.Nat.{ℕ, _+_, _*_}
-use mathlib.Core.Bool.{cond, _||_}
-use lib.Dec.{ltb, leb}
+use mathlib.Core.Bool.{Bool, cond, not, _&&_}
+use lib.Dec.{leb}
 use Rattle.limits.specs.declared.Greatest.{Greatest}
 
 -- the number of parties is 1 to maxParties
@@ -32,6 +32,14 @@ abbrev pub greatest : Greatest
 greatest =
     record { parties = maxParties; message = maxMessage; share = maxShare; path = maxPath; hashed = maxHashed; plan = maxPlan }
 
--- cause 1: n outside 1 to maxParties; cause 2: 2·t ≥ n; 0: neither
+-- n is 1 to maxParties
+unfoldable pub parties : ℕ → Bool
+parties n = leb 1 n && leb n maxParties
+
+-- j is the number of one of n parties: 1 to n
+unfoldable pub numbered : ℕ → ℕ → Bool
+numbered n j = leb 1 j && leb j n
+
+-- cause 1: n out of its range; cause 2: 2·t ≥ n; 0: neither
 unfoldable pub groupCause : ℕ → ℕ → ℕ
-groupCause n t = cond (ltb n 1 || ltb maxParties n) 1 (cond (leb n (2 * t)) 2 0)
+groupCause n t = cond (not (parties n)) 1 (cond (leb n (2 * t)) 2 0)

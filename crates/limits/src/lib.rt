@@ -1,6 +1,6 @@
-// The greatest numbers, in one place, and the judgement of n and t by them. All other code and all definitions cite these.
+// The greatest numbers, in one place, and the judgement of n, t and a party's number by them. All other code and all definitions cite these.
 ghost use mathlib.Core.Path.{_≡_};
-ghost use Rattle.limits.specs.Limits.{greatest, groupCause};
+ghost use Rattle.limits.specs.Limits.{greatest, parties, numbered, groupCause};
 
 // The greatest number of parties.
 pub const MAX_PARTIES: usize = 16;
@@ -44,14 +44,25 @@ pub fn all() -> Greatest
     }
 }
 
+// Whether there may be n parties.
+pub fn parties(n: usize) -> bool
+    ensures { λ r. ⌜ r ≡ parties n ⌝ }
+{
+    1 <= n && n <= MAX_PARTIES
+}
+
+// Whether j is the number of one of n parties.
+pub fn numbered(n: usize, j: usize) -> bool
+    ensures { λ r. ⌜ r ≡ numbered n j ⌝ }
+{
+    1 <= j && j <= n
+}
+
 // The lower of causes 1 and 2 that applies to n parties and the fault limit t, or 0.
 pub fn group_cause(n: usize, t: usize) -> u8
     ensures { λ r. ⌜ r ≡ groupCause n t ⌝ }
 {
-    if n < 1 {
-        return 1;
-    }
-    if MAX_PARTIES < n {
+    if !parties(n) {
         return 1;
     }
     if n <= t {

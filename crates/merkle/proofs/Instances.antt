@@ -8,7 +8,7 @@ use Prim.Native.Nat.{ℕ, _-_}
 use native.Mathlib.Omega.{arith}
 use lib.Dec.{lit≤}
 use lib.ListN.{length, take, replicate}
-use Rattle.limits.specs.Limits.{maxPath}
+use Rattle.limits.specs.Limits.{maxPath, parties}
 use Rattle.sha256.specs.Sha256.{sha256}
 use Rattle.sha256.proofs.Laws.{sha256-length}
 use Rattle.merkle.specs.Tree.{splitFrom, split, shapeOf, shape, size, sides, root, path, folded}
@@ -27,7 +27,7 @@ abbrev second : List ℕ
 second = 0xBB ∷ []
 
 fine : sharesCause 3 3 ≡ 0
-unfolding sharesCause
+unfolding sharesCause parties
 fine = refl
 
 -- the path of share 2 has two hashes

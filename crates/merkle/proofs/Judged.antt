@@ -1,7 +1,7 @@
 -- The outcomes of the definitions on shares, one law for each, from plain facts about numbers; and that the test of two lists
 -- tells whether they are one. Assumes nothing.
 use mathlib.Core.Path.{_≡_, refl, sym, ap, ap₂, _∙_}
-use mathlib.Core.Bool.{Bool, true, false, cond, not, _||_, _&&_}
+use mathlib.Core.Bool.{Bool, true, false, cond, not, _&&_}
 use mathlib.Core.List.{List, [], _∷_, _++_, map}
 use Prim.Native.Nat.{ℕ, suc, _+_, _-_, _*_, _/_, _%_, _<_, _≤_}
 use native.Mathlib.Nat.{div-add-mod}
@@ -11,11 +11,11 @@ use borrow.Author.Tests.{lt-ltb, le-ltb, eq-eqb, ne-eqb, ltb-false, eqb-true}
 use lib.Dec.{ltb, eqb}
 use lib.ListN.{length, getD, take, drop, replicate, drop-of-length-le}
 use lib.Seq.{drop-cons}
-use Rattle.limits.specs.Limits.{maxParties, maxHashed}
-use Rattle.buffer.proofs.Booleans.{both}
+use Rattle.limits.specs.Limits.{maxParties, maxHashed, parties, numbered}
+use Rattle.limits.proofs.Ranges.{parties-some, parties-range, numbered-within}
+use Rattle.limits.proofs.Booleans.{both}
 use Rattle.merkle.specs.Tree.{folded}
 use Rattle.merkle.specs.Shares.{leafString, leafStrings, blank, sharesCause, leavesOf, sidesOf, same, passes, told, checkOf}
-use Rattle.merkle.specs.Shares.{parties, numbered}
 use Rattle.merkle.specs.declared.Checked.the-variants.{Refused, No, Yes}
 
 -- n equal shares of len bytes together, within the limits
@@ -26,49 +26,37 @@ pub record Even (n len : ℕ) : Type 0 where
   pub whole : len % n ≡ 0
 
 module _ (n len : ℕ) where
-  pub cause-none : n < 1 → sharesCause n len ≡ 1
+  pub cause-parties : parties n ≡ false → sharesCause n len ≡ 1
   unfolding sharesCause
-  cause-none h = rw (lt-ltb n 1 h)
+  cause-parties h = rw h
 
-  module _ (low : 1 ≤ n) where
-    pub cause-many : maxParties < n → sharesCause n len ≡ 1
+  module _ (low : 1 ≤ n) (high : n ≤ maxParties) where
+    pub cause-long : maxHashed < 2 + len / n → sharesCause n len ≡ 4
     unfolding sharesCause
-    cause-many h = rw (le-ltb n 1 low, lt-ltb maxParties n h)
+    cause-long h = rw (parties-some n low high, lt-ltb maxHashed (2 + len / n) h)
 
-    module _ (high : n ≤ maxParties) where
-      pub cause-long : maxHashed < 2 + len / n → sharesCause n len ≡ 4
+    module _ (short : 2 + len / n ≤ maxHashed) where
+      pub cause-uneven : (len % n ≡ 0 → ⊥) → sharesCause n len ≡ 8
       unfolding sharesCause
-      cause-long h = rw (le-ltb n 1 low, le-ltb maxParties n high, lt-ltb maxHashed (2 + len / n) h)
+      cause-uneven h = rw (parties-some n low high, le-ltb maxHashed (2 + len / n) short, ne-eqb (len % n) 0 h)
 
-      module _ (short : 2 + len / n ≤ maxHashed) where
-        pub cause-uneven : (len % n ≡ 0 → ⊥) → sharesCause n len ≡ 8
-        unfolding sharesCause
-        cause-uneven h =
-            rw (le-ltb n 1 low, le-ltb maxParties n high, le-ltb maxHashed (2 + len / n) short, ne-eqb (len % n) 0 h)
-
-        pub cause-fine : len % n ≡ 0 → sharesCause n len ≡ 0
-        unfolding sharesCause
-        cause-fine h =
-            rw (le-ltb n 1 low, le-ltb maxParties n high, le-ltb maxHashed (2 + len / n) short, eq-eqb (len % n) 0 h)
+      pub cause-fine : len % n ≡ 0 → sharesCause n len ≡ 0
+      unfolding sharesCause
+      cause-fine h = rw (parties-some n low high, le-ltb maxHashed (2 + len / n) short, eq-eqb (len % n) 0 h)
 
 -- a cause is 0 only where no test holds
-none-holds : (a b c d : Bool) → _≡_ {A = ℕ} (cond (a || b) 1 (cond c 4 (cond (not d) 8 0))) 0
-    → (a ≡ false) × (b ≡ false) × (c ≡ false) × (d ≡ true)
-none-holds true b c d e = absurd (omega arith)
-none-holds false true c d e = absurd (omega arith)
-none-holds false false true d e = absurd (omega arith)
-none-holds false false false true e = (refl, refl, refl, refl)
-none-holds false false false false e = absurd (omega arith)
+none-holds : (a b c : Bool) → _≡_ {A = ℕ} (cond (not a) 1 (cond b 4 (cond (not c) 8 0))) 0 → (a ≡ true) × (b ≡ false) × (c ≡ true)
+none-holds false b c e = absurd (omega arith)
+none-holds true true c e = absurd (omega arith)
+none-holds true false true e = (refl, refl, refl)
+none-holds true false false e = absurd (omega arith)
 
 pub even-of : (n len : ℕ) → sharesCause n len ≡ 0 → Even n len
 unfolding sharesCause
 even-of n len e =
-    let h = none-holds (ltb n 1) (ltb maxParties n) (ltb maxHashed (2 + len / n)) (eqb (len % n) 0) e in record {
-      low = ltb-false n 1 (h .0);
-      high = ltb-false maxParties n (h .1);
-      short = ltb-false maxHashed (2 + len / n) (h .2);
-      whole = eqb-true (len % n) 0 (h .3);
-    }
+    let h = none-holds (parties n) (ltb maxHashed (2 + len / n)) (eqb (len % n) 0) e in
+    let (low, high) = parties-range n (h .0) in
+    record { low = low; high = high; short = ltb-false maxHashed (2 + len / n) (h .1); whole = eqb-true (len % n) 0 (h .2) }
 
 -- the shares are all of the bytes
 pub even-whole : (n len : ℕ) → Even n len → n * (len / n) ≡ len
@@ -85,61 +73,41 @@ module _ (H : List ℕ → List ℕ) (n : ℕ) (shares : List ℕ) where
   leaves-fine h = rw (eq-eqb (sharesCause n (length shares)) 0 h)
 
 module _ (H : List ℕ → List ℕ) (n j : ℕ) (share : List ℕ) (path : List (List ℕ)) (count : ℕ) (root : List ℕ) where
-  pub check-none : n < 1 → checkOf H n j share path count root ≡ Refused 1
+  pub check-parties : parties n ≡ false → checkOf H n j share path count root ≡ Refused 1
   unfolding checkOf
-  check-none h = rw (lt-ltb n 1 h)
+  check-parties h = rw h
 
-  module _ (low : 1 ≤ n) where
-    pub check-many : maxParties < n → checkOf H n j share path count root ≡ Refused 1
+  module _ (low : 1 ≤ n) (high : n ≤ maxParties) where
+    pub check-number : numbered n j ≡ false → checkOf H n j share path count root ≡ Refused 3
     unfolding checkOf
-    check-many h = rw (le-ltb n 1 low, lt-ltb maxParties n h)
+    check-number h = rw (parties-some n low high, h)
 
-    module _ (high : n ≤ maxParties) where
-      pub check-zero : j < 1 → checkOf H n j share path count root ≡ Refused 3
+    module _ (first : 1 ≤ j) (last : j ≤ n) where
+      pub check-long : maxHashed < 2 + length share → checkOf H n j share path count root ≡ Refused 4
       unfolding checkOf
-      check-zero h = rw (le-ltb n 1 low, le-ltb maxParties n high, lt-ltb j 1 h)
+      check-long h =
+          rw (parties-some n low high, numbered-within n j first last, lt-ltb maxHashed (2 + length share) h)
 
-      module _ (first : 1 ≤ j) where
-        pub check-past : n < j → checkOf H n j share path count root ≡ Refused 3
+      module _ (short : 2 + length share ≤ maxHashed) where
+        pub check-root : (length root ≡ 32 → ⊥) → checkOf H n j share path count root ≡ Refused 7
         unfolding checkOf
-        check-past h = rw (le-ltb n 1 low, le-ltb maxParties n high, le-ltb j 1 first, lt-ltb n j h)
+        check-root h =
+            rw (
+              parties-some n low high,
+              numbered-within n j first last,
+              le-ltb maxHashed (2 + length share) short,
+              ne-eqb (length root) 32 h,
+            )
 
-        module _ (last : j ≤ n) where
-          pub check-long : maxHashed < 2 + length share → checkOf H n j share path count root ≡ Refused 4
-          unfolding checkOf
-          check-long h =
-              rw (
-                le-ltb n 1 low,
-                le-ltb maxParties n high,
-                le-ltb j 1 first,
-                le-ltb n j last,
-                lt-ltb maxHashed (2 + length share) h,
-              )
-
-          module _ (short : 2 + length share ≤ maxHashed) where
-            pub check-root : (length root ≡ 32 → ⊥) → checkOf H n j share path count root ≡ Refused 7
-            unfolding checkOf
-            check-root h =
-                rw (
-                  le-ltb n 1 low,
-                  le-ltb maxParties n high,
-                  le-ltb j 1 first,
-                  le-ltb n j last,
-                  le-ltb maxHashed (2 + length share) short,
-                  ne-eqb (length root) 32 h,
-                )
-
-            pub check-judged : length root ≡ 32 → checkOf H n j share path count root ≡ told (passes H n j share path count root)
-            unfolding checkOf
-            check-judged h =
-                rw (
-                  le-ltb n 1 low,
-                  le-ltb maxParties n high,
-                  le-ltb j 1 first,
-                  le-ltb n j last,
-                  le-ltb maxHashed (2 + length share) short,
-                  eq-eqb (length root) 32 h,
-                )
+        pub check-judged : length root ≡ 32 → checkOf H n j share path count root ≡ told (passes H n j share path count root)
+        unfolding checkOf
+        check-judged h =
+            rw (
+              parties-some n low high,
+              numbered-within n j first last,
+              le-ltb maxHashed (2 + length share) short,
+              eq-eqb (length root) 32 h,
+            )
 
   pub passes-miscount : (count ≡ length (sidesOf n j) → ⊥) → passes H n j share path count root ≡ false
   unfolding passes

@@ -1,11 +1,11 @@
 -- The tree over the shares of a message (document 01, "Field, shares, tree"): leaf strings, root, audit path and path check. The hash is a
 -- parameter; document 01's is SHA-256, at which the contracts cite these. Assumes nothing.
-use mathlib.Core.Bool.{Bool, true, false, cond, not, _&&_, _||_}
+use mathlib.Core.Bool.{Bool, true, false, cond, not, _&&_}
 use mathlib.Core.List.{List, [], _∷_, _++_, map}
 use Prim.Native.Nat.{ℕ, _+_, _-_, _*_, _/_, _%_}
 use lib.Dec.{ltb, eqb}
 use lib.ListN.{length, take, drop, replicate}
-use Rattle.limits.specs.Limits.{maxParties, maxPath, maxHashed}
+use Rattle.limits.specs.Limits.{maxParties, maxPath, maxHashed, parties, numbered}
 use Rattle.buffer.specs.Splice.{tabulate}
 use Rattle.merkle.specs.Tree.{Side, shape, sides, folded}
 use Rattle.merkle.specs.Strings.{treeStrings, checkStrings}
@@ -31,18 +31,10 @@ blank = replicate 32 0
 -- len / n, rounded down), not n equal shares (8); 0: they are
 unfoldable pub sharesCause : ℕ → ℕ → ℕ
 sharesCause n len =
-    cond (ltb n 1 || ltb maxParties n) 1
+    cond (not (parties n)) 1
     (cond (ltb maxHashed (2 + len / n)) 4
     (cond (not (eqb (len % n) 0)) 8
     0))
-
--- n is within its range
-abbrev pub parties : ℕ → Bool
-parties n = not (ltb n 1 || ltb maxParties n)
-
--- j is the number of one of n parties
-abbrev pub numbered : ℕ → ℕ → Bool
-numbered n j = not (ltb j 1 || ltb n j)
 
 -- the sides of the siblings of share j of n, from the leaf upward
 abbrev pub sidesOf : ℕ → ℕ → List Side

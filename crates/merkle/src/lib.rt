@@ -37,10 +37,7 @@ pub enum Checked {
 pub fn shares_cause(n: usize, len: usize) -> u8
     ensures { λ r. ⌜ r ≡ sharesCause n len ⌝ }
 {
-    if n < 1 {
-        return 1;
-    }
-    if MAX_PARTIES < n {
+    if !limits::parties(n) {
         return 1;
     }
     if MAX_HASHED - 2 < len / n {
@@ -77,10 +74,7 @@ pub fn leaves(n: usize, shares: &[u8]) -> [Hash; MAX_PARTIES]
 pub fn root(n: usize, leaves: &[Hash; MAX_PARTIES]) -> Hash
     ensures { λ r. ⌜ r ≡ rootOf sha256 n (now (leaves .entry)) ⌝ }
 {
-    if n < 1 {
-        return [0; 32];
-    }
-    if MAX_PARTIES < n {
+    if !limits::parties(n) {
         return [0; 32];
     }
     top_hash(leaves, 0, n)
@@ -90,16 +84,10 @@ pub fn root(n: usize, leaves: &[Hash; MAX_PARTIES]) -> Hash
 pub fn path_length(n: usize, j: usize) -> Counted
     ensures { λ r. ⌜ r ≡ pathLengthOf n j ⌝ }
 {
-    if n < 1 {
+    if !limits::parties(n) {
         return Counted::Refused(1);
     }
-    if MAX_PARTIES < n {
-        return Counted::Refused(1);
-    }
-    if j < 1 {
-        return Counted::Refused(3);
-    }
-    if n < j {
+    if !limits::numbered(n, j) {
         return Counted::Refused(3);
     }
     let way = way_down(n, j - 1);
@@ -110,16 +98,10 @@ pub fn path_length(n: usize, j: usize) -> Counted
 pub fn path(n: usize, j: usize, leaves: &[Hash; MAX_PARTIES]) -> [Hash; MAX_PATH]
     ensures { λ r. ⌜ r ≡ pathOf sha256 n j (now (leaves .entry)) ⌝ }
 {
-    if n < 1 {
+    if !limits::parties(n) {
         return [[0; 32]; MAX_PATH];
     }
-    if MAX_PARTIES < n {
-        return [[0; 32]; MAX_PATH];
-    }
-    if j < 1 {
-        return [[0; 32]; MAX_PATH];
-    }
-    if n < j {
+    if !limits::numbered(n, j) {
         return [[0; 32]; MAX_PATH];
     }
     let way = way_down(n, j - 1);
@@ -137,16 +119,10 @@ pub fn check(
 ) -> Checked
     ensures { λ r. ⌜ r ≡ checkOf sha256 n j (now (share .entry)) path count (now (root .entry)) ⌝ }
 {
-    if n < 1 {
+    if !limits::parties(n) {
         return Checked::Refused(1);
     }
-    if MAX_PARTIES < n {
-        return Checked::Refused(1);
-    }
-    if j < 1 {
-        return Checked::Refused(3);
-    }
-    if n < j {
+    if !limits::numbered(n, j) {
         return Checked::Refused(3);
     }
     if MAX_HASHED - 2 < share.len() {

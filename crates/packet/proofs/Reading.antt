@@ -10,11 +10,11 @@ use borrow.Author.Tests.{lt-ltb, le-ltb, eq-eqb, ne-eqb, ltb-false, eqb-true}
 use lib.Dec.{ltb, eqb}
 use lib.ListN.{length, getD, take, drop, length-drop}
 use lib.Seq.{getD-drop, length-take-le}
-use Rattle.limits.specs.Limits.{maxParties, maxShare}
+use Rattle.limits.specs.Limits.{maxParties, maxShare, parties, numbered}
+use Rattle.limits.proofs.Ranges.{parties-some, numbered-within, numbered-range}
 use Rattle.buffer.specs.Entries.{size}
 use Rattle.buffer.proofs.Entries.{size-drop}
-use Rattle.buffer.proofs.Booleans.{not-either}
-use Rattle.merkle.specs.Shares.{numbered, sidesOf, pathLengthOf}
+use Rattle.merkle.specs.Shares.{sidesOf, pathLengthOf}
 use Rattle.merkle.specs.declared.Counted.the-variants as count
 use Rattle.merkle.proofs.Sound.{Wide}
 use Rattle.packet.specs.Format.{Reading, silence, unreadable, shared, hashes, numberIn, lengthIn, countIn, shareIn, readOf}
@@ -103,8 +103,7 @@ module _ (n : ℕ) (p : List ℕ) where
   share-told a b c d e f =
       rw (
         le-ltb (length p) 4 a,
-        le-ltb (numberIn p) 1 b,
-        le-ltb n (numberIn p) c,
+        numbered-within n (numberIn p) b c,
         le-ltb (lengthIn p) 1 d,
         le-ltb maxShare (lengthIn p) e,
         eq-eqb (length p) (4 + lengthIn p + 32 * countIn n p) f,
@@ -150,18 +149,13 @@ module _ (n : ℕ) (p : List ℕ) where
 
 -- the answer at a place
 module _ (n : ℕ) (s : List ℕ) (at : ℕ) where
-  pub at-none : n < 1 → readAt n s at ≡ Refused 1
+  pub at-parties : parties n ≡ false → readAt n s at ≡ Refused 1
   unfolding readAt
-  at-none h = rw (lt-ltb n 1 h)
+  at-parties h = rw h
 
-  module _ (low : 1 ≤ n) where
-    pub at-many : maxParties < n → readAt n s at ≡ Refused 1
-    unfolding readAt
-    at-many h = rw (le-ltb n 1 low, lt-ltb maxParties n h)
-
-    pub at-read : n ≤ maxParties → readAt n s at ≡ placed at (readOf n (drop at s))
-    unfolding readAt
-    at-read h = rw (le-ltb n 1 low, le-ltb maxParties n h)
+  pub at-read : 1 ≤ n → n ≤ maxParties → readAt n s at ≡ placed at (readOf n (drop at s))
+  unfolding readAt
+  at-read low high = rw (parties-some n low high)
 
 -- which of the two answers it is
 refused : (t : Bool) (c k : ℕ) → cond (not t) (count.Refused 3) (count.Hashes c) ≡ count.Refused k → t ≡ false
@@ -176,7 +170,7 @@ hashed false c k e = absurd (let z : _≡_ {A = ℕ} 0 1 = cc in omega arith)
 module _ (n j : ℕ) (low : 1 ≤ n) (high : n ≤ maxParties) where
   within : pathLengthOf n j ≡ cond (not (numbered n j)) (count.Refused 3) (count.Hashes (length (sidesOf n j)))
   unfolding pathLengthOf
-  within = rw (le-ltb n 1 low, le-ltb maxParties n high)
+  within = rw (parties-some n low high)
 
   pub count-refused : (k : ℕ) → pathLengthOf n j ≡ count.Refused k → numbered n j ≡ false
   count-refused k e = refused (numbered n j) (length (sidesOf n j)) k (sym within ∙ e)
@@ -184,8 +178,7 @@ module _ (n j : ℕ) (low : 1 ≤ n) (high : n ≤ maxParties) where
   pub count-hashes : (k : ℕ) → pathLengthOf n j ≡ count.Hashes k → (1 ≤ j) × (j ≤ n) × (k ≡ length (sidesOf n j))
   count-hashes k e =
       let h = hashed (numbered n j) (length (sidesOf n j)) k (sym within ∙ e) in
-      let t = not-either (ltb j 1) (ltb n j) (h .0) in
-      (ltb-false j 1 (t .0), ltb-false n j (t .1), h .1)
+      let (first, last) = numbered-range n j (h .0) in (first, last, h .1)
 
 -- p is the packet of a share among n parties
 pub record Readable (n : ℕ) (p : List ℕ) : Type 0 where
@@ -214,40 +207,38 @@ module _ (number : ℕ) (share : List ℕ) (path : List (List ℕ)) where
   not-unreadable : unreadable ≡ shared number share path → ⊥
   not-unreadable q = let z : _≡_ {A = ℕ} 0 1 = cc in omega arith
 
-  passed : (r : Reading) (a b c d e f g h k : Bool)
-      → cond a silence (cond b (cond (c || not (not (d || e)) || f || g || not h) unreadable r) (cond k silence unreadable))
-      ≡ shared number share path
-      → (b ≡ true) × (c ≡ false) × (d ≡ false) × (e ≡ false) × (f ≡ false) × (g ≡ false) × (h ≡ true)
-      × (r ≡ shared number share path)
-  passed r true b c d e f g h k q = absurd (not-silence q)
-  passed r false false c d e f g h true q = absurd (not-silence q)
-  passed r false false c d e f g h false q = absurd (not-unreadable q)
-  passed r false true true d e f g h k q = absurd (not-unreadable q)
-  passed r false true false true e f g h k q = absurd (not-unreadable q)
-  passed r false true false false true f g h k q = absurd (not-unreadable q)
-  passed r false true false false false true g h k q = absurd (not-unreadable q)
-  passed r false true false false false false true h k q = absurd (not-unreadable q)
-  passed r false true false false false false false false k q = absurd (not-unreadable q)
-  passed r false true false false false false false true k q = (refl, refl, refl, refl, refl, refl, refl, q)
+  passed : (r : Reading) (a b c d e f g h : Bool)
+      → cond a silence (cond b (cond (c || not d || e || f || not g) unreadable r) (cond h silence unreadable)) ≡ shared number share path
+      → (b ≡ true) × (c ≡ false) × (d ≡ true) × (e ≡ false) × (f ≡ false) × (g ≡ true) × (r ≡ shared number share path)
+  passed r true b c d e f g h q = absurd (not-silence q)
+  passed r false false c d e f g true q = absurd (not-silence q)
+  passed r false false c d e f g false q = absurd (not-unreadable q)
+  passed r false true true d e f g h q = absurd (not-unreadable q)
+  passed r false true false false e f g h q = absurd (not-unreadable q)
+  passed r false true false true true f g h q = absurd (not-unreadable q)
+  passed r false true false true false true g h q = absurd (not-unreadable q)
+  passed r false true false true false false false h q = absurd (not-unreadable q)
+  passed r false true false true false false true h q = (refl, refl, refl, refl, refl, refl, q)
 
 pub read-readable : (n : ℕ) (p : List ℕ) (number : ℕ) (share : List ℕ) (path : List (List ℕ)) → readOf n p ≡ shared number share path
     → Readable n p × (partsOf n p ≡ shared number share path)
 unfolding readOf shareIn
 read-readable n p number share path read =
     let t =
-    passed number share path (partsOf n p) (eqb (length p) 0) (eqb (getD p 0 0) 7) (ltb (length p) 4) (ltb (numberIn p) 1)
-    (ltb n (numberIn p)) (ltb (lengthIn p) 1) (ltb maxShare (lengthIn p)) (eqb (length p) (4 + lengthIn p + 32 * countIn n p))
-    (eqb (getD p 0 0) 0 && eqb (length p) 1) read in (
+    passed number share path (partsOf n p) (eqb (length p) 0) (eqb (getD p 0 0) 7) (ltb (length p) 4)
+    (numbered n (numberIn p)) (ltb (lengthIn p) 1) (ltb maxShare (lengthIn p)) (eqb (length p) (4 + lengthIn p + 32 * countIn n p))
+    (eqb (getD p 0 0) 0 && eqb (length p) 1) read in
+    let (first, last) = numbered-range n (numberIn p) (t .2) in (
       record {
         heads = ltb-false (length p) 4 (t .1);
         map = eqb-true (getD p 0 0) 7 (t .0);
-        first = ltb-false (numberIn p) 1 (t .2);
-        last = ltb-false n (numberIn p) (t .3);
-        some = ltb-false (lengthIn p) 1 (t .4);
-        short = ltb-false maxShare (lengthIn p) (t .5);
-        whole = eqb-true (length p) (4 + lengthIn p + 32 * countIn n p) (t .6);
+        first = first;
+        last = last;
+        some = ltb-false (lengthIn p) 1 (t .3);
+        short = ltb-false maxShare (lengthIn p) (t .4);
+        whole = eqb-true (length p) (4 + lengthIn p + 32 * countIn n p) (t .5);
       },
-      t .7,
+      t .6,
     )
 
 -- what holds of a packet's fields where a share is read

@@ -3,15 +3,16 @@
 use mathlib.Core.Path.{_≡_, refl, sym, ap, ap₂, subst, _∙_}
 use mathlib.Core.Bool.{Bool, true, false}
 use mathlib.Core.List.{List, [], _∷_, _++_}
-use Prim.Native.Nat.{ℕ, _+_, _≤_, _<_}
+use Prim.Native.Nat.{ℕ, _+_, _≤_}
 use native.Mathlib.Omega.{arith}
-use borrow.Author.Tests.{lt-ltb, le-ltb, eq-eqb, ne-eqb}
+use borrow.Author.Tests.{eq-eqb, ne-eqb}
 use types.Run.{OneOf, miss}
 use denote.Enum.Declared.{tagOf}
 use lib.ListN.{length, take, drop}
 use lib.Seq.{take-at, take-all}
 use Rattle.sha256.specs.Sha256.{sha256}
-use Rattle.limits.specs.Limits.{maxParties}
+use Rattle.limits.specs.Limits.{maxParties, parties, numbered}
+use Rattle.limits.proofs.Ranges.{parties-some, numbered-within}
 use Rattle.merkle.specs.Shares.{passes}
 use Rattle.merkle.specs.Shares as shares
 use Rattle.merkle.proofs.Checked.{the-type as checked-type}
@@ -36,35 +37,23 @@ passes-take n j x p r c z e =
     rw (take-at p r c e, take-all c p h)
 
 module _ (n j : ℕ) (root p : List ℕ) where
-  pub judge-none : n < 1 → judgeOf sha256 n j root p ≡ Refused 1
+  pub judge-parties : parties n ≡ false → judgeOf sha256 n j root p ≡ Refused 1
   unfolding judgeOf
-  judge-none h = rw (lt-ltb n 1 h)
+  judge-parties h = rw h
 
-  module _ (low : 1 ≤ n) where
-    pub judge-many : maxParties < n → judgeOf sha256 n j root p ≡ Refused 1
+  module _ (low : 1 ≤ n) (high : n ≤ maxParties) where
+    pub judge-number : numbered n j ≡ false → judgeOf sha256 n j root p ≡ Refused 3
     unfolding judgeOf
-    judge-many h = rw (le-ltb n 1 low, lt-ltb maxParties n h)
+    judge-number h = rw (parties-some n low high, h)
 
-    module _ (high : n ≤ maxParties) where
-      pub judge-zero : j < 1 → judgeOf sha256 n j root p ≡ Refused 3
+    module _ (first : 1 ≤ j) (last : j ≤ n) where
+      pub judge-root : (length root ≡ 32 → ⊥) → judgeOf sha256 n j root p ≡ Refused 7
       unfolding judgeOf
-      judge-zero h = rw (le-ltb n 1 low, le-ltb maxParties n high, lt-ltb j 1 h)
+      judge-root h = rw (parties-some n low high, numbered-within n j first last, ne-eqb (length root) 32 h)
 
-      module _ (first : 1 ≤ j) where
-        pub judge-past : n < j → judgeOf sha256 n j root p ≡ Refused 3
-        unfolding judgeOf
-        judge-past h = rw (le-ltb n 1 low, le-ltb maxParties n high, le-ltb j 1 first, lt-ltb n j h)
-
-        module _ (last : j ≤ n) where
-          pub judge-root : (length root ≡ 32 → ⊥) → judgeOf sha256 n j root p ≡ Refused 7
-          unfolding judgeOf
-          judge-root h =
-              rw (le-ltb n 1 low, le-ltb maxParties n high, le-ltb j 1 first, le-ltb n j last, ne-eqb (length root) 32 h)
-
-          pub judge-told : length root ≡ 32 → judgeOf sha256 n j root p ≡ told (classOf sha256 n j root p)
-          unfolding judgeOf
-          judge-told h =
-              rw (le-ltb n 1 low, le-ltb maxParties n high, le-ltb j 1 first, le-ltb n j last, eq-eqb (length root) 32 h)
+      pub judge-told : length root ≡ 32 → judgeOf sha256 n j root p ≡ told (classOf sha256 n j root p)
+      unfolding judgeOf
+      judge-told h = rw (parties-some n low high, numbered-within n j first last, eq-eqb (length root) 32 h)
 
   -- whether the path of a share that lies there leads to the root
   abbrev pub leads : ℕ → ℕ → ℕ → Bool

@@ -8,88 +8,74 @@ use native.Mathlib.Omega.{arith}
 use borrow.Author.Tests.{lt-ltb, le-ltb, eq-eqb, ne-eqb, ltb-false, eqb-true}
 use lib.Dec.{ltb, eqb}
 use lib.ListN.{length, take}
-use Rattle.limits.specs.Limits.{maxParties, maxPath, maxShare}
+use Rattle.limits.specs.Limits.{maxParties, maxPath, maxShare, parties, numbered}
+use Rattle.limits.proofs.Ranges.{parties-some, parties-range, numbered-within, numbered-range}
 use Rattle.buffer.specs.Given.{gave, written}
 use Rattle.buffer.specs.declared.Written.the-variants as given
-use Rattle.merkle.specs.Shares.{numbered, sidesOf}
+use Rattle.merkle.specs.Shares.{sidesOf}
 use Rattle.merkle.specs.declared.Counted.the-variants.{Refused}
 use Rattle.merkle.proofs.Descend.{sides-fit}
 use Rattle.packet.specs.Format.{packetOf, entryOf}
 use Rattle.packet.specs.Answer.{writeCause, writeOf, writeEntryOf}
 
 module _ (n number len count : ℕ) where
-  pub cause-none : n < 1 → writeCause n number len count ≡ 1
+  pub cause-parties : parties n ≡ false → writeCause n number len count ≡ 1
   unfolding writeCause
-  cause-none h = rw (lt-ltb n 1 h)
+  cause-parties h = rw h
 
-  module _ (low : 1 ≤ n) where
-    pub cause-many : maxParties < n → writeCause n number len count ≡ 1
+  module _ (low : 1 ≤ n) (high : n ≤ maxParties) where
+    pub cause-number : numbered n number ≡ false → writeCause n number len count ≡ 3
     unfolding writeCause
-    cause-many h = rw (le-ltb n 1 low, lt-ltb maxParties n h)
+    cause-number h = rw (parties-some n low high, h)
 
-    module _ (high : n ≤ maxParties) where
-      pub cause-number : numbered n number ≡ false → writeCause n number len count ≡ 3
+    module _ (first : 1 ≤ number) (last : number ≤ n) where
+      pub cause-empty : len < 1 → writeCause n number len count ≡ 10
       unfolding writeCause
-      cause-number h = rw (le-ltb n 1 low, le-ltb maxParties n high, h)
+      cause-empty h = rw (parties-some n low high, numbered-within n number first last, lt-ltb len 1 h)
 
-      module _ (first : 1 ≤ number) (last : number ≤ n) where
-        pub cause-empty : len < 1 → writeCause n number len count ≡ 10
+      module _ (some : 1 ≤ len) where
+        pub cause-long : maxShare < len → writeCause n number len count ≡ 10
         unfolding writeCause
-        cause-empty h =
-            rw (le-ltb n 1 low, le-ltb maxParties n high, le-ltb number 1 first, le-ltb n number last, lt-ltb len 1 h)
+        cause-long h =
+            rw (
+              parties-some n low high,
+              numbered-within n number first last,
+              le-ltb len 1 some,
+              lt-ltb maxShare len h,
+            )
 
-        module _ (some : 1 ≤ len) where
-          pub cause-long : maxShare < len → writeCause n number len count ≡ 10
+        module _ (short : len ≤ maxShare) where
+          pub cause-count : (count ≡ length (sidesOf n number) → ⊥) → writeCause n number len count ≡ 10
           unfolding writeCause
-          cause-long h =
+          cause-count h =
               rw (
-                le-ltb n 1 low,
-                le-ltb maxParties n high,
-                le-ltb number 1 first,
-                le-ltb n number last,
+                parties-some n low high,
+                numbered-within n number first last,
                 le-ltb len 1 some,
-                lt-ltb maxShare len h,
+                le-ltb maxShare len short,
+                ne-eqb count (length (sidesOf n number)) h,
               )
 
-          module _ (short : len ≤ maxShare) where
-            pub cause-count : (count ≡ length (sidesOf n number) → ⊥) → writeCause n number len count ≡ 10
-            unfolding writeCause
-            cause-count h =
-                rw (
-                  le-ltb n 1 low,
-                  le-ltb maxParties n high,
-                  le-ltb number 1 first,
-                  le-ltb n number last,
-                  le-ltb len 1 some,
-                  le-ltb maxShare len short,
-                  ne-eqb count (length (sidesOf n number)) h,
-                )
-
-            pub cause-fine : count ≡ length (sidesOf n number) → writeCause n number len count ≡ 0
-            unfolding writeCause
-            cause-fine h =
-                rw (
-                  le-ltb n 1 low,
-                  le-ltb maxParties n high,
-                  le-ltb number 1 first,
-                  le-ltb n number last,
-                  le-ltb len 1 some,
-                  le-ltb maxShare len short,
-                  eq-eqb count (length (sidesOf n number)) h,
-                )
+          pub cause-fine : count ≡ length (sidesOf n number) → writeCause n number len count ≡ 0
+          unfolding writeCause
+          cause-fine h =
+              rw (
+                parties-some n low high,
+                numbered-within n number first last,
+                le-ltb len 1 some,
+                le-ltb maxShare len short,
+                eq-eqb count (length (sidesOf n number)) h,
+              )
 
 -- a cause is 0 only where no test holds
-none-holds : (a b c d e f g : Bool)
-    → _≡_ {A = ℕ} (cond (not (not (a || b))) 1 (cond (not (not (c || d))) 3 (cond (e || f || not g) 10 0))) 0
-    → (a ≡ false) × (b ≡ false) × (c ≡ false) × (d ≡ false) × (e ≡ false) × (f ≡ false) × (g ≡ true)
-none-holds true b c d e f g h = absurd (omega arith)
-none-holds false true c d e f g h = absurd (omega arith)
-none-holds false false true d e f g h = absurd (omega arith)
-none-holds false false false true e f g h = absurd (omega arith)
-none-holds false false false false true f g h = absurd (omega arith)
-none-holds false false false false false true g h = absurd (omega arith)
-none-holds false false false false false false false h = absurd (omega arith)
-none-holds false false false false false false true h = (refl, refl, refl, refl, refl, refl, refl)
+none-holds : (a b c d e : Bool) → _≡_ {A = ℕ} (cond (not a) 1 (cond (not b) 3 (cond (c || d || not e) 10 0))) 0
+    → (a ≡ true) × (b ≡ true) × (c ≡ false) × (d ≡ false) × (e ≡ true)
+none-holds false b c d e h = absurd (omega arith)
+none-holds true false c d e h = absurd (omega arith)
+none-holds true true true d e h = absurd (omega arith)
+none-holds true true false true e h = absurd (omega arith)
+none-holds true true false false false h = absurd (omega arith)
+none-holds true true false false true h = (refl, refl, refl, refl, refl)
 
 -- a packet that is written
 pub record Fine (n number len count : ℕ) : Type 0 where
@@ -106,19 +92,16 @@ pub fine-of : (n number len count : ℕ) → writeCause n number len count ≡ 0
 unfolding writeCause
 fine-of n number len count e =
     let h =
-    none-holds (ltb n 1) (ltb maxParties n) (ltb number 1) (ltb n number) (ltb len 1) (ltb maxShare len)
-    (eqb count (length (sidesOf n number))) e in
-    let low : 1 ≤ n = ltb-false n 1 (h .0) in
-    let high : n ≤ maxParties = ltb-false maxParties n (h .1) in
-    let first : 1 ≤ number = ltb-false number 1 (h .2) in
-    let last : number ≤ n = ltb-false n number (h .3) in
-    let hashes : count ≡ length (sidesOf n number) = eqb-true count (length (sidesOf n number)) (h .6) in record {
+    none-holds (parties n) (numbered n number) (ltb len 1) (ltb maxShare len) (eqb count (length (sidesOf n number))) e in
+    let (low, high) = parties-range n (h .0) in
+    let (first, last) = numbered-range n number (h .1) in
+    let hashes : count ≡ length (sidesOf n number) = eqb-true count (length (sidesOf n number)) (h .4) in record {
       low = low;
       high = high;
       first = first;
       last = last;
-      some = ltb-false len 1 (h .4);
-      short = ltb-false maxShare len (h .5);
+      some = ltb-false len 1 (h .2);
+      short = ltb-false maxShare len (h .3);
       hashes = hashes;
       few = omega (arith, sides-fit n (number - 1) high (omega arith));
     }

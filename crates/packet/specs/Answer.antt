@@ -4,10 +4,10 @@ use mathlib.Core.List.{List, _++_}
 use Prim.Native.Nat.{ℕ, _+_, _-_, _*_}
 use lib.Dec.{ltb, eqb}
 use lib.ListN.{length, take, drop, replicate}
-use Rattle.limits.specs.Limits.{maxPath, maxShare}
+use Rattle.limits.specs.Limits.{maxPath, maxShare, parties, numbered}
 use Rattle.buffer.specs.Given.{Given, gave, written}
 use Rattle.buffer.specs.declared.Written.the-variants as given
-use Rattle.merkle.specs.Shares.{blank, parties, numbered, sidesOf}
+use Rattle.merkle.specs.Shares.{blank, sidesOf}
 use Rattle.packet.specs.Format.{Reading, silence, unreadable, shared, hashes, packetOf, entryOf, readOf}
 use Rattle.packet.specs.Class.{Class, silent, faulty, valid, classOf}
 use Rattle.packet.specs.declared.Packet.{Packet}

@@ -6,8 +6,8 @@ use mathlib.Core.List.{List, [], _∷_, _++_}
 use Prim.Native.Nat.{ℕ, zero, suc, _+_, _*_, _/_, _%_}
 use lib.Dec.{ltb, eqb}
 use lib.ListN.{length, getD, take, drop}
-use Rattle.limits.specs.Limits.{maxShare}
-use Rattle.merkle.specs.Shares.{numbered, sidesOf}
+use Rattle.limits.specs.Limits.{maxShare, numbered}
+use Rattle.merkle.specs.Shares.{sidesOf}
 
 -- lists one behind the other, such as the hashes of a path
 unfoldable pub chained : List (List ℕ) → List ℕ

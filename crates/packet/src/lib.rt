@@ -12,7 +12,6 @@ ghost use mathlib.Core.Bool.{true, false};
 ghost use Rattle.sha256.specs.Sha256.{sha256};
 ghost use Rattle.packet.specs.Answer.{readAt, placed, pathAt, judgeOf, writeCause, writeOf, writeEntryOf};
 use buffer::Written;
-use limits::MAX_PARTIES;
 use limits::MAX_PATH;
 use limits::MAX_SHARE;
 use merkle::Checked;
@@ -51,10 +50,7 @@ pub enum Judged {
 pub fn read_at(n: usize, s: &[u8], at: usize) -> Packet
     ensures { λ r. ⌜ r ≡ readAt n (now (s .entry)) at ⌝ }
 {
-    if n < 1 {
-        return Packet::Refused(1);
-    }
-    if MAX_PARTIES < n {
+    if !limits::parties(n) {
         return Packet::Refused(1);
     }
     if s.len() <= at {
@@ -151,16 +147,10 @@ fn hash_at(s: &[u8], at: usize) -> Hash
 pub fn judge(n: usize, j: usize, root: &[u8], s: &[u8]) -> Judged
     ensures { λ r. ⌜ r ≡ judgeOf sha256 n j (now (root .entry)) (now (s .entry)) ⌝ }
 {
-    if n < 1 {
+    if !limits::parties(n) {
         return Judged::Refused(1);
     }
-    if MAX_PARTIES < n {
-        return Judged::Refused(1);
-    }
-    if j < 1 {
-        return Judged::Refused(3);
-    }
-    if n < j {
+    if !limits::numbered(n, j) {
         return Judged::Refused(3);
     }
     if root.len() != 32 {
@@ -214,10 +204,7 @@ fn judge_path(
 fn write_cause(n: usize, number: usize, len: usize, count: usize) -> u8
     ensures { λ r. ⌜ r ≡ writeCause n number len count ⌝ }
 {
-    if n < 1 {
-        return 1;
-    }
-    if MAX_PARTIES < n {
+    if !limits::parties(n) {
         return 1;
     }
     let Counted::Hashes(right) = merkle::path_length(n, number) else {

@@ -6,7 +6,7 @@ use native.Mathlib.Omega.{arith}
 use lib.Dec.{lit≤}
 use lib.ListN.{length}
 use Rattle.sha256.specs.Sha256.{sha256}
-use Rattle.limits.specs.Limits.{groupCause}
+use Rattle.limits.specs.Limits.{parties, numbered, groupCause}
 use Rattle.erasure.specs.Cases as erasure
 use Rattle.merkle.specs.Tree.{splitFrom, split, shapeOf, shape, size, sides}
 use Rattle.merkle.specs.Shares.{pathLengthOf}
@@ -18,13 +18,13 @@ use Rattle.party.proofs.Outcomes.{open-refused}
 use Rattle.party.proofs.Progress.{open-accepted}
 
 too-long : (m : List ℕ) → length m ≡ 1025 → causeOf 3 1 m ≡ 4
-unfolding groupCause
+unfolding parties groupCause
 too-long m e =
     let c : openCause 3 1 1 (length m) ≡ 4 = open-long 3 1 1 (length m) refl (lit≤ tt) (lit≤ tt) (omega arith) in
     ap (λ (r : Opened). r .cause) (open-refused sha256 3 1 1 m (λ q. omega arith)) ∙ c
 
 pub cases : Cases
-unfolding openOf openCause groupCause pathLengthOf splitFrom split shapeOf shape size sides
+unfolding parties numbered openOf openCause groupCause pathLengthOf splitFrom split shapeOf shape size sides
 cases = record {
   coding = erasure.cases;
   path-lengths = refl;

@@ -5,23 +5,18 @@ use mathlib.Core.Bool.{Bool, true, false, cond, not, _||_}
 use mathlib.Core.List.{List}
 use Prim.Native.Nat.{ℕ, suc, _<_, _≤_}
 use native.Mathlib.Omega.{arith}
-use borrow.Author.Tests.{lt-ltb, le-ltb, eq-eqb, ne-eqb, ltb-false, eqb-true, eqb-false, not-true, not-false}
+use borrow.Author.Tests.{lt-ltb, le-ltb, eq-eqb, ne-eqb, ltb-false, eqb-true, eqb-false, not-false}
 use lib.Dec.{ltb, eqb}
 use lib.ListN.{length}
-use Rattle.limits.specs.Limits.{maxMessage, maxShare, groupCause}
+use Rattle.limits.specs.Limits.{maxMessage, maxShare, numbered, groupCause}
+use Rattle.limits.proofs.Ranges.{numbered-within, numbered-range}
 use Rattle.limits.proofs.Group.{group-of}
 use Rattle.buffer.specs.Entries.{fills}
-use Rattle.buffer.proofs.Booleans.{neither}
-use Rattle.merkle.specs.Shares.{numbered}
+use Rattle.limits.proofs.Booleans.{neither}
 use Rattle.party.specs.State.{broken, overlong}
 use Rattle.party.specs.Steps.{turnOf, stateCause, openCause, rootCause, bitCause, inboxCause}
 use Rattle.party.specs.Private.{Fit}
 use Rattle.party.specs.declared.Party.{Party}
-
-numbered-within : (n j : ℕ) → numbered n j ≡ true → (1 ≤ j) × (j ≤ n)
-numbered-within n j e =
-    let h = neither (ltb j 1) (ltb n j) (not-true (ltb j 1 || ltb n j) e) in
-    (ltb-false j 1 (h .0), ltb-false n j (h .1))
 
 -- of a chain of tests that gives 0 the first fails, and the rest gives 0
 spared : (t : Bool) (k r : ℕ) → cond t (suc k) r ≡ 0 → (t ≡ false) × (r ≡ 0)
@@ -43,48 +38,40 @@ module _ (x : Party) where
   broken-group h = rw (ne-eqb (groupCause (x .n) (x .t)) 0 h)
 
   module _ (group : groupCause (x .n) (x .t) ≡ 0) where
-    pub broken-zero : x .own < 1 → broken x ≡ true
+    pub broken-number : numbered (x .n) (x .own) ≡ false → broken x ≡ true
     unfolding broken
-    broken-zero h = rw (eq-eqb (groupCause (x .n) (x .t)) 0 group, lt-ltb (x .own) 1 h)
+    broken-number h = rw (eq-eqb (groupCause (x .n) (x .t)) 0 group, h)
 
-    module _ (first : 1 ≤ x .own) where
-      pub broken-past : x .n < x .own → broken x ≡ true
+    module _ (first : 1 ≤ x .own) (last : x .own ≤ x .n) where
+      pub broken-long : maxMessage < x .len → broken x ≡ true
       unfolding broken
-      broken-past h = rw (eq-eqb (groupCause (x .n) (x .t)) 0 group, le-ltb (x .own) 1 first, lt-ltb (x .n) (x .own) h)
+      broken-long h =
+          rw (
+            eq-eqb (groupCause (x .n) (x .t)) 0 group,
+            numbered-within (x .n) (x .own) first last,
+            lt-ltb maxMessage (x .len) h,
+          )
 
-      module _ (last : x .own ≤ x .n) where
-        pub broken-long : maxMessage < x .len → broken x ≡ true
+      module _ (short : x .len ≤ maxMessage) where
+        pub broken-held : maxShare < x .held → broken x ≡ true
         unfolding broken
-        broken-long h =
+        broken-held h =
             rw (
               eq-eqb (groupCause (x .n) (x .t)) 0 group,
-              le-ltb (x .own) 1 first,
-              le-ltb (x .n) (x .own) last,
-              lt-ltb maxMessage (x .len) h,
+              numbered-within (x .n) (x .own) first last,
+              le-ltb maxMessage (x .len) short,
+              lt-ltb maxShare (x .held) h,
             )
 
-        module _ (short : x .len ≤ maxMessage) where
-          pub broken-held : maxShare < x .held → broken x ≡ true
-          unfolding broken
-          broken-held h =
-              rw (
-                eq-eqb (groupCause (x .n) (x .t)) 0 group,
-                le-ltb (x .own) 1 first,
-                le-ltb (x .n) (x .own) last,
-                le-ltb maxMessage (x .len) short,
-                lt-ltb maxShare (x .held) h,
-              )
-
-          pub broken-stage : x .held ≤ maxShare → broken x ≡ overlong (x .stage)
-          unfolding broken
-          broken-stage h =
-              rw (
-                eq-eqb (groupCause (x .n) (x .t)) 0 group,
-                le-ltb (x .own) 1 first,
-                le-ltb (x .n) (x .own) last,
-                le-ltb maxMessage (x .len) short,
-                le-ltb maxShare (x .held) h,
-              )
+        pub broken-stage : x .held ≤ maxShare → broken x ≡ overlong (x .stage)
+        unfolding broken
+        broken-stage h =
+            rw (
+              eq-eqb (groupCause (x .n) (x .t)) 0 group,
+              numbered-within (x .n) (x .own) first last,
+              le-ltb maxMessage (x .len) short,
+              le-ltb maxShare (x .held) h,
+            )
 
 -- a state that is not broken keeps its bounds
 pub fit-of : (x : Party) → broken x ≡ false → Fit x
@@ -99,7 +86,7 @@ fit-of x e =
     let long = neither (g || o) l (held .0) in
     let first = neither g o (long .0) in
     let group = group-of (x .n) (x .t) (eqb-true (groupCause (x .n) (x .t)) 0 (not-false (eqb (groupCause (x .n) (x .t)) 0) (first .0))) in
-    let own = numbered-within (x .n) (x .own) (not-false (numbered (x .n) (x .own)) (first .1)) in
+    let own = numbered-range (x .n) (x .own) (not-false (numbered (x .n) (x .own)) (first .1)) in
     record {
       low = group .low;
       high = group .high;
@@ -143,25 +130,20 @@ module _ (n t own len : ℕ) where
   open-group h = rw (ne-eqb (groupCause n t) 0 h)
 
   module _ (group : groupCause n t ≡ 0) where
-    pub open-zero : own < 1 → openCause n t own len ≡ 3
+    pub open-number : numbered n own ≡ false → openCause n t own len ≡ 3
     unfolding openCause
-    open-zero h = rw (eq-eqb (groupCause n t) 0 group, lt-ltb own 1 h)
+    open-number h = rw (eq-eqb (groupCause n t) 0 group, h)
 
-    module _ (first : 1 ≤ own) where
-      pub open-past : n < own → openCause n t own len ≡ 3
+    module _ (first : 1 ≤ own) (last : own ≤ n) where
+      pub open-long : maxMessage < len → openCause n t own len ≡ 4
       unfolding openCause
-      open-past h = rw (eq-eqb (groupCause n t) 0 group, le-ltb own 1 first, lt-ltb n own h)
+      open-long h =
+          rw (eq-eqb (groupCause n t) 0 group, numbered-within n own first last, lt-ltb maxMessage len h)
 
-      module _ (last : own ≤ n) where
-        pub open-long : maxMessage < len → openCause n t own len ≡ 4
-        unfolding openCause
-        open-long h =
-            rw (eq-eqb (groupCause n t) 0 group, le-ltb own 1 first, le-ltb n own last, lt-ltb maxMessage len h)
-
-        pub open-fine : len ≤ maxMessage → openCause n t own len ≡ 0
-        unfolding openCause
-        open-fine h =
-            rw (eq-eqb (groupCause n t) 0 group, le-ltb own 1 first, le-ltb n own last, le-ltb maxMessage len h)
+      pub open-fine : len ≤ maxMessage → openCause n t own len ≡ 0
+      unfolding openCause
+      open-fine h =
+          rw (eq-eqb (groupCause n t) 0 group, numbered-within n own first last, le-ltb maxMessage len h)
 
 -- where none applies, the arguments are within their bounds
 pub open-bounds : (n t own len : ℕ) → openCause n t own len ≡ 0
@@ -170,7 +152,7 @@ unfolding openCause
 open-bounds n t own len e =
     let g = cleared (groupCause n t) (cond (not (numbered n own)) 3 (cond (ltb maxMessage len) 4 0)) e in
     let h = spared (not (numbered n own)) 2 (cond (ltb maxMessage len) 4 0) (g .1) in
-    let o = numbered-within n own (not-false (numbered n own) (h .0)) in
+    let o = numbered-range n own (not-false (numbered n own) (h .0)) in
     let k = spared (ltb maxMessage len) 3 0 (h .1) in
     (g .0, o .0, o .1, ltb-false maxMessage len (k .0))
 

@@ -3,27 +3,18 @@
 use mathlib.Core.Path.{_≡_, refl, ap, _∙_}
 use mathlib.Core.List.{List, _++_, append-nil}
 use Prim.Native.Nat.{ℕ, _-_, _≤_}
-use native.Mathlib.Nat.{zero-add}
 use native.Mathlib.Omega.{arith}
-use lib.ListN.{length, take, drop, replicate, length-replicate}
+use lib.ListN.{length, take, replicate, length-replicate}
 use lib.Seq.{length-take-le, take-at}
 use Rattle.limits.specs.Limits.{maxMessage, maxShare}
-use Rattle.buffer.specs.Splice.{spliced, putOf}
-use Rattle.buffer.proofs.Splice.{put-fits}
+use Rattle.buffer.specs.Splice.{putOf}
+use Rattle.buffer.proofs.Splice.{put-fits, spliced-start}
 use Rattle.merkle.proofs.Descend.{drop-replicate}
 use Rattle.merkle.specs.Shares.{blank}
 use Rattle.party.specs.State.{padded, messageIn, shareHeld, waiting, atRoot, atBit, atFirst, atSecond, atEnd, Result, outcomeOf, bytesOf}
 use Rattle.party.specs.declared.Stage.{Stage}
 use Rattle.party.specs.declared.Stage.the-variants.{Ended}
 use Rattle.party.specs.declared.Party.{Party}
-
-spliced-start : (d l : List ℕ) → spliced d 0 l ≡ l ++ drop (length l) d
-unfolding spliced
-spliced-start d l = ap (λ (k : ℕ). l ++ drop k d) (zero-add (length l))
-
--- the first bytes of a buffer that was written to
-pub take-spliced : (d l : List ℕ) → take (length l) (spliced d 0 l) ≡ l
-take-spliced d l = ap (take (length l)) (spliced-start d l) ∙ take-at l (drop (length l) d) (length l) refl
 
 pub put-padded : (k : ℕ) (l : List ℕ) → length l ≤ k → putOf (replicate k 0) 0 l ≡ padded k l
 put-padded k l h =

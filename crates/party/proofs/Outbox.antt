@@ -1,24 +1,25 @@
 -- Laws of the outbox of step 3, for any hash: the entries for parties 1 to k, one behind the other, as they are written and counted. An
 -- entry is told by whether its number is the own one, and the outbox by induction on k. Assumes nothing.
 use mathlib.Core.Path.{_≡_, refl, sym, ap, _∙_}
-use mathlib.Core.Bool.{true, true≢false}
+use mathlib.Core.Bool.{true≢false}
 use mathlib.Core.List.{List, [], _∷_, _++_, append-nil}
 use Prim.Native.Nat.{ℕ, zero, suc, _+_, _-_, _*_, _<_, _≤_}
 use native.Mathlib.Nat.{add-zero, zero-add}
 use native.Mathlib.Decide.{ℕ-discrete}
 use native.Mathlib.Numerals.{add-one}
 use native.Mathlib.Omega.{arith}
-use borrow.Author.Tests.{le-ltb, eq-eqb, ne-eqb}
+use borrow.Author.Tests.{eq-eqb, ne-eqb}
 use lib.ListN.{length, take, drop, set, replicate, length-append, length-drop, length-replicate}
 use lib.ListN.{replicate-append-replicate, drop-of-length-le}
 use lib.Seq.{drop-drop}
 use Rattle.limits.specs.Limits.{maxParties, maxPath, maxShare}
+use Rattle.limits.proofs.Ranges.{numbered-within}
 use Rattle.buffer.specs.Splice.{spliced}
 use Rattle.buffer.proofs.Splice.{spliced-set, spliced-more}
 use Rattle.buffer.specs.Given.{gave, written}
 use Rattle.buffer.specs.declared.Written.the-variants as given
 use Rattle.buffer.proofs.Given.{written-done}
-use Rattle.merkle.specs.Shares.{numbered, sidesOf, pathOf, pathLengthOf}
+use Rattle.merkle.specs.Shares.{sidesOf, pathOf, pathLengthOf}
 use Rattle.merkle.specs.declared.Counted.the-variants.{Refused}
 use Rattle.merkle.proofs.Descend.{sides-fit}
 use Rattle.packet.specs.Format.{packetOf, entryOf}
@@ -71,8 +72,7 @@ module _ (n own s j : ℕ) where
 -- a party's number is never refused a path
 pub never-refused : (n j : ℕ) → 1 ≤ n → n ≤ maxParties → 1 ≤ j → j ≤ n → (k : ℕ) → pathLengthOf n j ≡ Refused k → ⊥
 never-refused n j low high first last k e =
-    let yes : numbered n j ≡ true = rw (le-ltb j 1 first, le-ltb n j last) in
-    true≢false (sym yes ∙ count-refused n j low high k e)
+    true≢false (sym (numbered-within n j first last) ∙ count-refused n j low high k e)
 
 -- the length of the outbox
 module _ (n own s : ℕ) where

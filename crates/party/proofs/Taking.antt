@@ -18,7 +18,7 @@ use Rattle.buffer.specs.Given.{Given, gave, written, valueOf}
 use Rattle.buffer.specs.declared.Written.{Written}
 use Rattle.buffer.specs.declared.Written.the-variants as given
 use Rattle.buffer.proofs.Written.{the-type as written-type}
-use Rattle.buffer.proofs.Splice.{length-spliced}
+use Rattle.buffer.proofs.Splice.{length-spliced, take-spliced}
 use Rattle.buffer.proofs.Given.{written-done}
 use Rattle.buffer.proofs.Entries.{length-bodies}
 use Rattle.erasure.specs.Rebuild.{Recovered, cause, message, Point, point, present, other, unframed, joined, framed, recovered}
@@ -37,7 +37,6 @@ use Rattle.party.specs.Steps.{Taken, missing, found, firstValid, gathere
 use Rattle.party.specs.Private.{Fit, TakenIs}
 use Rattle.party.specs.declared.Party.{Party}
 use Rattle.party.specs.declared.Placed.the-variants.{Nowhere, At}
-use Rattle.party.proofs.Kept.{take-spliced}
 use Rattle.party.proofs.Outcomes.{not-done}
 use Rattle.party.proofs.Checks.{took, passing, gathered-length}
 

@@ -6,9 +6,9 @@ use mathlib.Core.Option.{Option, none, some}
 use Prim.Native.Nat.{ℕ, _-_}
 use lib.Dec.{ltb, eqb}
 use lib.ListN.{length, take, replicate}
-use Rattle.limits.specs.Limits.{maxMessage, maxShare, groupCause}
+use Rattle.limits.specs.Limits.{maxMessage, maxShare, numbered, groupCause}
 use Rattle.erasure.specs.Coding.{shares}
-use Rattle.merkle.specs.Shares.{blank, numbered, leavesOf, rootOf, same}
+use Rattle.merkle.specs.Shares.{blank, leavesOf, rootOf, same}
 use Rattle.party.specs.declared.Outcome.{Outcome}
 use Rattle.party.specs.declared.Outcome.the-variants.{Nothing, Message}
 use Rattle.party.specs.declared.Stage.{Stage}

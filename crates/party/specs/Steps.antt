@@ -7,7 +7,7 @@ use mathlib.Core.Option.{Option, none, some}
 use Prim.Native.Nat.{ℕ, _+_, _-_}
 use lib.Dec.{ltb, eqb}
 use lib.ListN.{length, take, replicate}
-use Rattle.limits.specs.Limits.{maxMessage, groupCause}
+use Rattle.limits.specs.Limits.{maxMessage, numbered, groupCause}
 use Rattle.buffer.specs.Splice.{spliced, tabulate}
 use Rattle.buffer.specs.Entries.{fills, bodies}
 use Rattle.buffer.specs.declared.Written.{Written}
@@ -16,7 +16,7 @@ use Rattle.buffer.specs.declared.Written.the-variants as written
 use Rattle.erasure.specs.Coding.{share, shares}
 use Rattle.erasure.specs.Rebuild.{Recovered, present, recovered}
 use Rattle.erasure.specs.Rebuild as rebuild
-use Rattle.merkle.specs.Shares.{blank, numbered, sidesOf, leavesOf, pathOf}
+use Rattle.merkle.specs.Shares.{blank, sidesOf, leavesOf, pathOf}
 use Rattle.packet.specs.Format.{packetOf}
 use Rattle.packet.specs.Inbox.{inboxOf}
 use Rattle.packet.specs.Class.{Class, silent, faulty, valid, classOf}

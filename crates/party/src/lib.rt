@@ -391,10 +391,7 @@ impl Party {
         if limits::group_cause(self.n, self.t) != 0 {
             return true;
         }
-        if self.own < 1 {
-            return true;
-        }
-        if self.n < self.own {
+        if !limits::numbered(self.n, self.own) {
             return true;
         }
         if MAX_MESSAGE < self.len {
@@ -618,10 +615,7 @@ fn open_cause(n: usize, t: usize, own: usize, len: usize) -> u8
     if cause != 0 {
         return cause;
     }
-    if own < 1 {
-        return 3;
-    }
-    if n < own {
+    if !limits::numbered(n, own) {
         return 3;
     }
     if MAX_MESSAGE < len {

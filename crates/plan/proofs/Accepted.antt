@@ -14,7 +14,7 @@ use Rattle.limits.specs.Limits.{maxMessage, maxPlan, groupCause}
 use Rattle.buffer.specs.Bounds.{Bytes}
 use Rattle.buffer.specs.Entries.{size, body, rest}
 use Rattle.buffer.proofs.Bounds.{body-bytes, rest-bytes}
-use Rattle.buffer.proofs.Booleans.{neither}
+use Rattle.limits.proofs.Booleans.{neither}
 use Rattle.plan.specs.Layout.{names, under, longBook, unnamed, lowest, nIn, tIn, optionsIn, afterRoot, afterBit, hasRoot, rootIn, goodIn, booksIn, endOf, empty, laidOut}
 use Rattle.plan.specs.Plan.{planCause}
 

@@ -5,7 +5,7 @@ use mathlib.Core.Bool.{false}
 use mathlib.Core.List.{List, [], _∷_, _++_}
 use Prim.Native.Nat.{ℕ}
 use lib.ListN.{take, drop, replicate}
-use Rattle.limits.specs.Limits.{groupCause}
+use Rattle.limits.specs.Limits.{parties, groupCause}
 use Rattle.buffer.specs.Entries.{size, body, rest}
 use Rattle.plan.specs.Layout.{behind, under, within, behindBlock, behindBlocks, packetFrom, longBook, firstIn, secondIn, endOf, laidOut}
 use Rattle.plan.specs.Plan.{planCause, planOf}
@@ -17,7 +17,7 @@ worked =
 
 pub worked-read : planOf worked
     ≡ record { cause = 0; n = 3; t = 1; rooted = false; voted = false; good = 3; books = 5; first = 13; second = 15 }
-unfolding groupCause size rest behind behindBlock behindBlocks within longBook firstIn secondIn endOf laidOut planCause planOf
+unfolding parties groupCause size rest behind behindBlock behindBlocks within longBook firstIn secondIn endOf laidOut planCause planOf
 worked-read = refl
 
 pub worked-book : under 3 1 3 2 (drop 5 worked) ≡ 0x41 ∷ 0x42 ∷ []
@@ -35,26 +35,26 @@ unsent-packet = refl
 
 -- a byte left over, an unknown option, a receiver that is not good
 pub left-over : planCause (worked ++ (0x00 ∷ [])) ≡ 13
-unfolding groupCause size rest behind behindBlock behindBlocks within endOf laidOut planCause
+unfolding parties groupCause size rest behind behindBlock behindBlocks within endOf laidOut planCause
 left-over = refl
 
 pub unknown-option : planCause (0x03 ∷ 0x01 ∷ 0x04 ∷ drop 3 worked) ≡ 13
-unfolding groupCause endOf laidOut planCause
+unfolding parties groupCause endOf laidOut planCause
 unknown-option = refl
 
 pub bad-receiver : planCause (take 13 worked ++ (0x00 ∷ 0x04 ∷ 0x00 ∷ 0x00 ∷ 0x00 ∷ 0x00 ∷ [])) ≡ 13
-unfolding groupCause size rest behind behindBlock behindBlocks within endOf laidOut planCause
+unfolding parties groupCause size rest behind behindBlock behindBlocks within endOf laidOut planCause
 bad-receiver = refl
 
 -- one party with a book of 1,025 bytes is cause 4; with a byte left over it is cause 13, with t 1 cause 2
 pub long-book : planCause (0x01 ∷ 0x00 ∷ 0x00 ∷ 0x00 ∷ 0x01 ∷ 0x04 ∷ 0x01 ∷ replicate 1025 0) ≡ 4
-unfolding groupCause size rest behind behindBlock behindBlocks within longBook endOf laidOut planCause
+unfolding parties groupCause size rest behind behindBlock behindBlocks within longBook endOf laidOut planCause
 long-book = refl
 
 pub long-left-over : planCause (0x01 ∷ 0x00 ∷ 0x00 ∷ 0x00 ∷ 0x01 ∷ 0x04 ∷ 0x01 ∷ replicate 1026 0) ≡ 13
-unfolding groupCause size rest behind behindBlock behindBlocks within longBook endOf laidOut planCause
+unfolding parties groupCause size rest behind behindBlock behindBlocks within longBook endOf laidOut planCause
 long-left-over = refl
 
 pub long-faults : planCause (0x01 ∷ 0x01 ∷ 0x00 ∷ 0x00 ∷ 0x01 ∷ 0x04 ∷ 0x01 ∷ replicate 1025 0) ≡ 2
-unfolding groupCause planCause
+unfolding parties groupCause planCause
 long-faults = refl

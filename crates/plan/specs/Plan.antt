@@ -5,10 +5,9 @@ use mathlib.Core.List.{List}
 use Prim.Native.Nat.{ℕ, _+_, _-_}
 use lib.Dec.{ltb, eqb}
 use lib.ListN.{length}
-use Rattle.limits.specs.Limits.{maxMessage, maxPlan, groupCause}
+use Rattle.limits.specs.Limits.{maxMessage, maxPlan, parties, groupCause}
 use Rattle.buffer.specs.Given.{Given, gave, written}
 use Rattle.buffer.specs.declared.Written.the-variants.{Refused}
-use Rattle.merkle.specs.Shares.{parties}
 use Rattle.plan.specs.Layout.{under, packetFrom, longBook, nIn, tIn, hasRoot, hasBit, afterBit, goodIn, booksIn, firstIn, secondIn, laidOut}
 use Rattle.plan.specs.declared.Plan.{Plan}
 

@@ -10,7 +10,6 @@ ghost use Rattle.plan.specs.Plan.{planOf, bookOf, packetOf};
 ghost use Rattle.plan.specs.Private.{Ends, Lies, Headed, Rest, turnedAway};
 use buffer::Written;
 use limits::MAX_MESSAGE;
-use limits::MAX_PARTIES;
 use limits::MAX_PLAN;
 
 // A plan's parts: n, t, whether a root and a bit are given, the map of good parties, and where the books and the two exchanges start. The
@@ -65,10 +64,7 @@ pub fn read(plan: &[u8]) -> Plan
 pub fn book(books: &[u8], n: usize, good: usize, q: usize, out: &mut [u8]) -> Written
     ensures { λ r. ⌜ gave r (now (out .exit)) ≡ bookOf n good q (now (books .entry)) (now (out .entry)) ⌝ }
 {
-    if n < 1 {
-        return Written::Refused(1);
-    }
-    if MAX_PARTIES < n {
+    if !limits::parties(n) {
         return Written::Refused(1);
     }
     let found = under(books, 0, n, good, q);
@@ -79,10 +75,7 @@ pub fn book(books: &[u8], n: usize, good: usize, q: usize, out: &mut [u8]) -> Wr
 pub fn packet(exchange: &[u8], n: usize, good: usize, q: usize, i: usize, out: &mut [u8]) -> Written
     ensures { λ r. ⌜ gave r (now (out .exit)) ≡ packetOf n good q i (now (exchange .entry)) (now (out .entry)) ⌝ }
 {
-    if n < 1 {
-        return Written::Refused(1);
-    }
-    if MAX_PARTIES < n {
+    if !limits::parties(n) {
         return Written::Refused(1);
     }
     let found = packet_from(exchange, n, good, q, i);

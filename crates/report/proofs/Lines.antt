@@ -11,8 +11,7 @@ use Rattle.limits.specs.Limits.{maxMessage}
 use Rattle.buffer.specs.Splice.{spliced, putOf}
 use Rattle.buffer.specs.Given.{gave, written}
 use Rattle.buffer.specs.declared.Written.the-variants.{Refused}
-use Rattle.buffer.proofs.Splice.{put-fits, spliced-more, length-spliced}
-use Rattle.party.proofs.Kept.{take-spliced}
+use Rattle.buffer.proofs.Splice.{put-fits, spliced-more, length-spliced, take-spliced}
 use Rattle.report.specs.Output.{space, newline, decimal, hex, ending, line, sentLine, lineOf, sentLineOf, refusedLine, refusedLineOf}
 
 -- b behind a

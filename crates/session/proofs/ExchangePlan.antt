@@ -14,7 +14,7 @@ use lib.Seq.{drop-drop, drop-length}
 use Rattle.limits.specs.Limits.{maxParties, maxMessage, maxPlan, groupCause}
 use Rattle.limits.proofs.Group.{group-of}
 use Rattle.buffer.specs.Entries.{size, body, rest, bodies}
-use Rattle.buffer.proofs.Booleans.{both}
+use Rattle.limits.proofs.Booleans.{both}
 use Rattle.agreement.specs.Calls.{entry}
 use Rattle.plan.specs.Layout.{names, behind, under, within, behindBlock, behindBlocks, packetFrom, longBook, andThen, orEmpty, nIn, tIn, afterBit, goodIn, booksIn, firstIn, secondIn, laidOut}
 use Rattle.plan.specs.Plan.{planCause, planOf}

@@ -52,8 +52,8 @@ use Rattle.plan.specs.Layout.{unnamed, nIn, tIn, hasRoot, hasBit, rootIn, goodI
 use Rattle.plan.specs.Layout as layout
 use Rattle.plan.specs.Plan.{planCause}
 use Rattle.plan.proofs.Accepted.{Accepted, accepted as plan-taken, lowest-named, root-length, under-short, under-bytes}
-use Rattle.report.specs.Output.{line, sentLine}
-use Rattle.session.specs.Session.{maxPacket, maxOutbox, wroteIn, orNothing, isGood, messageOf, lowestGood, opened, agreedRoot, step2, agreedBit}
+use Rattle.report.specs.Output.{sentLine}
+use Rattle.session.specs.Session.{maxPacket, maxOutbox, wroteIn, orNothing, lineWith, isGood, messageOf, lowestGood, opened, agreedRoot, step2, agreedBit}
 use Rattle.session.specs.Session.{sameRoots, sameBits, unlawful, sessionCause, step3, firstFrom, firstInbox, step4, secondFrom, secondInbox, step5}
 use Rattle.session.specs.Session.{endsWith, sentOf, linesFrom, sentFrom, output, callsOf, goodParty, goodParties}
 use Rattle.session.proofs.Parties.{named, party-in, apart, bad-count, sum-of}
@@ -93,7 +93,7 @@ bit-of false = omega arith
 -- in the plan s, of k parties from p on, a line for each good one, all with the result R
 unfoldable pub linesOf : List ℕ → Result → ℕ → ℕ → List ℕ
 linesOf s R zero p = []
-linesOf s R (suc k) p = cond (isGood s p) (line p R) [] ++ linesOf s R k (p + 1)
+linesOf s R (suc k) p = cond (isGood s p) (lineWith p R) [] ++ linesOf s R k (p + 1)
 
 module _ (H : List ℕ → List ℕ) (wide : (x : List ℕ) → length (H x) ≡ 32) (s : List ℕ) (bytes : Bytes s) (ok : sessionCause H s ≡ 0) where
   abbrev n : ℕ
@@ -557,8 +557,8 @@ module _ (H : List ℕ → List ℕ) (wide : (x : List ℕ) → length (H x) ≡
   lines-same R f zero p l h = refl
   lines-same R f (suc k) p l h = ap₂ _++_ (go (way (isGood s p))) (lines-same R f k (p + 1) (omega arith) (omega arith))
     where
-      go : Way (isGood s p) → cond (isGood s p) (line p (endsWith H s p)) [] ≡ cond (isGood s p) (line p R) []
-      go (on g) = rw g (ap (line p) (f p l (omega arith) g))
+      go : Way (isGood s p) → cond (isGood s p) (lineWith p (endsWith H s p)) [] ≡ cond (isGood s p) (lineWith p R) []
+      go (on g) = rw g (ap (lineWith p) (f p l (omega arith) g))
       go (off g) = rw g
 
   -- and all lines give one result: that of the theorem, as is the figure behind them

@@ -15,11 +15,10 @@ use Rattle.buffer.specs.Splice.{spliced}
 use Rattle.buffer.specs.Given.{Given, gave, valueOf}
 use Rattle.buffer.specs.declared.Written.{Written}
 use Rattle.buffer.specs.declared.Written.the-variants.{Done}
-use Rattle.buffer.proofs.Splice.{length-spliced}
+use Rattle.buffer.proofs.Splice.{length-spliced, take-spliced}
 use Rattle.buffer.proofs.Given.{written-done}
 use Rattle.merkle.specs.Shares.{same}
 use Rattle.party.specs.Steps.{openOf}
-use Rattle.party.proofs.Kept.{take-spliced}
 use Rattle.plan.specs.Layout.{names, unnamed, lowest, nIn, tIn, hasRoot, hasBit, afterRoot, afterBit, rootIn, bitIn, goodIn, booksIn}
 use Rattle.plan.specs.Layout.{firstIn, secondIn, laidOut}
 use Rattle.plan.specs.Plan.{planCause, planOf, bookOf}

@@ -30,7 +30,7 @@ use Rattle.plan.specs.Layout.{nIn}
 use Rattle.plan.specs.Plan.{planCause, planOf}
 use Rattle.report.specs.Output.{digits, decimal, shown, line, sentLine, lineOf, sentLineOf}
 use Rattle.report.proofs.Hexes.{length-hex}
-use Rattle.session.specs.Session.{orNothing, isGood, agreedBit, step4, secondInbox, step5, endsWith, linesFrom, sentFrom}
+use Rattle.session.specs.Session.{orNothing, lineWith, isGood, agreedBit, step4, secondInbox, step5, endsWith, linesFrom, sentFrom}
 use Rattle.session.specs.Session.{unlawful, sessionCause, output, rehearseOf}
 use Rattle.session.specs.Private.{maxLine, lengthIn}
 
@@ -44,19 +44,18 @@ digits-short (suc k) x = go (ltb x 10) (digits-short k (x / 10))
     go true h = omega arith
     go false h = omega (arith, length-append (digits k (x / 10)) ((0x30 + x % 10) ∷ []))
 
-shown-short : (some : Bool) (m : List ℕ) → length m ≤ maxMessage → length (shown (cond some (settled m) nothing)) ≤ 2 + 2 * maxMessage
+shown-short : (some : Bool) (m : List ℕ) → length m ≤ maxMessage → length (shown some m) ≤ 2 + 2 * maxMessage
 shown-short false m h = omega arith
 shown-short true [] h = omega arith
 shown-short true (x ∷ m) h = omega (arith, length-hex (x ∷ m))
 
-pub line-short : (p : ℕ) (some : Bool) (m : List ℕ) → length m ≤ maxMessage → length (line p (cond some (settled m) nothing)) ≤ maxLine
+pub line-short : (p : ℕ) (some : Bool) (m : List ℕ) → length m ≤ maxMessage → length (line p some m) ≤ maxLine
 unfolding line
 line-short p some m h =
-    let r : Result = cond some (settled m) nothing in
     omega (
       arith,
-      length-append (decimal p) (0x20 ∷ (shown r ++ (0x0A ∷ []))),
-      length-append (shown r) (0x0A ∷ []),
+      length-append (decimal p) (0x20 ∷ (shown some m ++ (0x0A ∷ []))),
+      length-append (shown some m) (0x0A ∷ []),
       digits-short 20 p,
       shown-short some m h,
     )
@@ -65,8 +64,7 @@ pub sent-short : (x : ℕ) → length (sentLine x) ≤ maxLine
 unfolding sentLine
 sent-short x = omega (arith, length-append (decimal x) (0x0A ∷ []), digits-short 20 x)
 
-pub line-written : (p : ℕ) (some : Bool) (m out : List ℕ) → length m ≤ maxMessage
-    → lineOf p some m out ≡ written (line p (cond some (settled m) nothing)) out
+pub line-written : (p : ℕ) (some : Bool) (m out : List ℕ) → length m ≤ maxMessage → lineOf p some m out ≡ written (line p some m) out
 unfolding lineOf
 line-written p some m out h = rw (le-ltb maxMessage (length m) h)
 
@@ -101,15 +99,15 @@ module _ (H : List ℕ → List ℕ) (s : List ℕ) where
   lines-end k p e = rw e
 
   module _ (j k p : ℕ) (e : k ≡ suc j) where
-    lines-good : isGood s p ≡ true → linesFrom H s k p ≡ line p (endsWith H s p) ++ linesFrom H s j (p + 1)
+    lines-good : isGood s p ≡ true → linesFrom H s k p ≡ lineWith p (endsWith H s p) ++ linesFrom H s j (p + 1)
     unfolding linesFrom
     lines-good g = rw (e, g)
 
     -- a line more, behind those before it
-    pub lines-more : (o o' : List ℕ) (at r : ℕ) → isGood s p ≡ true → at ≤ length o → r ≡ length (line p (endsWith H s p))
-        → o' ≡ spliced o at (line p (endsWith H s p)) → take at o ++ linesFrom H s k p ≡ take (at + r) o' ++ linesFrom H s j (p + 1)
+    pub lines-more : (o o' : List ℕ) (at r : ℕ) → isGood s p ≡ true → at ≤ length o → r ≡ length (lineWith p (endsWith H s p))
+        → o' ≡ spliced o at (lineWith p (endsWith H s p)) → take at o ++ linesFrom H s k p ≡ take (at + r) o' ++ linesFrom H s j (p + 1)
     lines-more o o' at r g inside er eo =
-        let l : List ℕ = line p (endsWith H s p) in
+        let l : List ℕ = lineWith p (endsWith H s p) in
         ap (λ (x : List ℕ). take at o ++ x) (lines-good g) ∙ sym (append-assoc (take at o) l (linesFrom H s j (p + 1)))
         ∙ ap (λ (x : List ℕ). x ++ linesFrom H s j (p + 1)) (sym (take-behind o o' l at r inside er eo))
 

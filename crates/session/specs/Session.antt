@@ -1,6 +1,6 @@
 -- A plan played (document 01, "The rehearsal"): every good party is opened with its book and taken through its steps, on what the other good
 -- parties wrote and on what the plan says that bad ones send. The hash of the tree is a parameter H. Assumes nothing.
-use mathlib.Core.Bool.{Bool, true, cond, not, _&&_, _||_}
+use mathlib.Core.Bool.{Bool, true, false, cond, not, _&&_, _||_}
 use mathlib.Core.List.{List, [], _∷_, _++_}
 use mathlib.Core.Option.{Option, none, some}
 use Prim.Native.Nat.{ℕ, zero, suc, _+_, _-_, _*_}
@@ -13,7 +13,7 @@ use Rattle.buffer.specs.Given.{Given, gave, written}
 use Rattle.buffer.specs.declared.Written.the-variants.{Refused}
 use Rattle.merkle.specs.Shares.{same}
 use Rattle.packet.specs.Inbox.{inboxOf}
-use Rattle.party.specs.State.{Result, nothing}
+use Rattle.party.specs.State.{Result, nothing, settled}
 use Rattle.party.specs.Steps.{openOf, Ballot, agreeRootOf, Stepped, agreeBitOf, takeSharesOf, Ending, takeRelaysOf}
 use Rattle.party.specs.declared.Opened.{Opened}
 pub use Rattle.party.specs.Rooms.{maxPacket, maxOutbox}
@@ -30,6 +30,11 @@ wroteIn r = cond (eqb (r .cause) 0) (take (r .value) (r .buffer)) []
 abbrev pub orNothing : Option Result → Result
 orNothing none = nothing
 orNothing (some r) = r
+
+-- party p's line, with its result
+abbrev pub lineWith : ℕ → Result → List ℕ
+lineWith p nothing = line p false []
+lineWith p (settled m) = line p true m
 
 -- in the plan s: party p is good; its message; and the lowest-numbered good party
 abbrev pub isGood : List ℕ → ℕ → Bool
@@ -116,7 +121,7 @@ module _ (H : List ℕ → List ℕ) (s : List ℕ) where
   -- of k parties from p on, the good ones' lines, and what they sent
   unfoldable pub linesFrom : ℕ → ℕ → List ℕ
   linesFrom zero p = []
-  linesFrom (suc k) p = cond (isGood s p) (line p (endsWith p)) [] ++ linesFrom k (p + 1)
+  linesFrom (suc k) p = cond (isGood s p) (lineWith p (endsWith p)) [] ++ linesFrom k (p + 1)
 
   unfoldable pub sentFrom : ℕ → ℕ → ℕ
   sentFrom zero p = 0

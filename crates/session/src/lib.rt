@@ -11,12 +11,11 @@ ghost use Rattle.buffer.specs.Splice.{spliced};
 ghost use Rattle.buffer.specs.Entries.{bodies};
 ghost use Rattle.buffer.specs.Given.{causeOf, valueOf, gave};
 ghost use Rattle.packet.specs.Format.{entryOf};
-ghost use Rattle.party.specs.State.{nothing, settled};
 ghost use Rattle.party.specs.Steps.{voted, bitIn, stepped, resultGiven, ended};
 ghost use Rattle.agreement.specs.Calls.{lengths};
 ghost use Rattle.plan.specs.Layout.{names, unnamed, lowest, nIn};
 ghost use Rattle.report.specs.Output.{line};
-ghost use Rattle.session.specs.Session.{maxPacket, maxOutbox, wroteIn, orNothing, isGood, opened, agreedRoot, step2, agreedBit};
+ghost use Rattle.session.specs.Session.{maxPacket, maxOutbox, wroteIn, orNothing, lineWith, isGood, opened, agreedRoot, step2, agreedBit};
 ghost use Rattle.session.specs.Session.{sameRoots, sameBits, unlawful, step3, firstFrom, firstInbox, step4, secondFrom, secondInbox};
 ghost use Rattle.session.specs.Session.{step5, endsWith, sentOf, linesFrom, sentFrom, output, rehearseOf, printOf};
 ghost use Rattle.session.specs.Private.{Ready, maxEntry, maxInbox, maxLine, maxText, Slots, Dealt, Relayed, Sizes, lengthIn};
@@ -200,8 +199,8 @@ fn put_line(
     requires { ⌜ Ready (now bytes) parts × (now root ≡ agreedRoot sha256 (now bytes)) × (bit ≡ agreedBit sha256 (now bytes))
         × Dealt (now bytes) (now boxes) (now lens) × Relayed (now bytes) (now relays) (now sizes)
         × (1 ≤ q) × (q ≤ nIn (now bytes)) × (at + maxLine ≤ length (now text)) ⌝ }
-    ensures { λ r. ⌜ (r ≡ length (line q (endsWith sha256 (now (bytes .entry)) q))) × (r ≤ maxLine)
-        × (now (text .exit) ≡ spliced (now (text .entry)) at (line q (endsWith sha256 (now (bytes .entry)) q))) ⌝ }
+    ensures { λ r. ⌜ (r ≡ length (lineWith q (endsWith sha256 (now (bytes .entry)) q))) × (r ≤ maxLine)
+        × (now (text .exit) ≡ spliced (now (text .entry)) at (lineWith q (endsWith sha256 (now (bytes .entry)) q))) ⌝ }
 {
     let mut message = [0u8; MAX_MESSAGE];
     let result = result_of(
@@ -251,8 +250,8 @@ fn result_of(
 // A line at a place; its length.
 fn write_line(q: usize, some: bool, message: &[u8], text: &mut [u8], at: usize) -> usize
     requires { ⌜ (length (now message) ≤ maxMessage) × (at + maxLine ≤ length (now text)) ⌝ }
-    ensures { λ r. ⌜ (r ≡ length (line q (cond some (settled (now (message .entry))) nothing))) × (r ≤ maxLine)
-        × (now (text .exit) ≡ spliced (now (text .entry)) at (line q (cond some (settled (now (message .entry))) nothing))) ⌝ }
+    ensures { λ r. ⌜ (r ≡ length (line q some (now (message .entry)))) × (r ≤ maxLine)
+        × (now (text .exit) ≡ spliced (now (text .entry)) at (line q some (now (message .entry)))) ⌝ }
 {
     length_of(report::line(q, some, message, &mut text[at..]))
 }

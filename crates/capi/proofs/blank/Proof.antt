@@ -1,6 +1,6 @@
 -- `capi::blank` meets its contract: an opening with n 0 is refused, and gives the blank state. Assumes nothing.
 use mathlib.Core.Path.{ap}
-use Rattle.limits.specs.Limits.{groupCause}
+use Rattle.limits.specs.Limits.{parties, groupCause}
 use Rattle.party.specs.Steps.{openCause, openOf}
 use Rattle.party.specs.declared.Opened.{Opened}
 use borrow.Author.Needs.{needs}
@@ -14,7 +14,7 @@ open-requires : tie.Need-open-requires
 open-requires c κs = search needs
 
 returns : tie.Need-returns
-unfolding openOf openCause groupCause
+unfolding openOf openCause parties groupCause
 returns c = ap (λ (r : Opened). r .state) (c .before .«open» .ensures)
 
 pub blank-spec : {M : Type 1} → statement M

@@ -1,23 +1,31 @@
 -- `merkle::root` meets its contract: each way out is an outcome of the definition. Assumes nothing.
 use mathlib.Core.Path.{sym, _∙_}
+use Prim.Native.Nat.{_≤_}
 use native.Mathlib.Omega.{arith}
 use borrow.Author.Needs.{needs}
+use Rattle.limits.specs.Limits.{maxParties}
+use Rattle.limits.proofs.Booleans.{denied}
+use Rattle.limits.proofs.Ranges.{parties-told}
 use Rattle.sha256.specs.Sha256.{sha256}
-use Rattle.merkle.proofs.Outcomes.{root-none, root-many, root-top}
+use Rattle.merkle.proofs.Outcomes.{root-parties, root-top}
 use Rattle.merkle.proofs.root.Statement.{statement}
 use Rattle.merkle.proofs.root.Tie as tie
 
-returns : tie.Need-returns
-returns c = sym (root-none sha256 _ _ (omega arith))
+-- n is within its range
+range : (e : tie.Else1) → let a = e .before .before .args in (1 ≤ a .n) × (a .n ≤ maxParties)
+range e = parties-told _ (e .before .parties .ensures) (e .if1 .left)
 
-returns-2 : tie.Need-returns-2
-returns-2 c = sym (root-many sha256 _ _ (omega arith) (omega arith))
+parties-requires : tie.Need-parties-requires
+parties-requires c κs = search needs
+
+returns : tie.Need-returns
+returns c = sym (root-parties sha256 _ _ (denied (c .before .parties .ensures) (c .if1 .taken)))
 
 top-hash-requires : tie.Need-top-hash-requires
-top-hash-requires c κs = search needs
+top-hash-requires c κs = let r = range c in (r .0, omega (arith, r))
 
-returns-3 : tie.Need-returns-3
-returns-3 c = c .top-hash .ensures ∙ sym (root-top sha256 _ _ (omega arith) (omega arith))
+returns-2 : tie.Need-returns-2
+returns-2 c = let r = range (c .before) in c .top-hash .ensures ∙ sym (root-top sha256 _ _ (r .0) (r .1))
 
 pub root-spec : {M : Type 1} → statement M
-root-spec = tie.close (tie.spec returns returns-2 top-hash-requires returns-3)
+root-spec = tie.close (tie.spec parties-requires returns top-hash-requires returns-2)

@@ -1,35 +1,43 @@
 -- `merkle::shares_cause` meets its contract: each return is one outcome of the definition. Assumes nothing.
 use mathlib.Core.Path.{sym}
+use Prim.Native.Nat.{_≤_}
 use native.Mathlib.Omega.{arith}
 use borrow.Author.Needs.{needs}
-use Rattle.merkle.proofs.Judged.{cause-none, cause-many, cause-long, cause-uneven, cause-fine}
+use Rattle.limits.specs.Limits.{maxParties}
+use Rattle.limits.proofs.Booleans.{denied}
+use Rattle.limits.proofs.Ranges.{parties-told}
+use Rattle.merkle.proofs.Judged.{cause-parties, cause-long, cause-uneven, cause-fine}
 use Rattle.merkle.proofs.shares_cause.Statement.{statement}
 use Rattle.merkle.proofs.shares_cause.Tie as tie
 
+-- n is within its range
+range : (e : tie.Else1) → let a = e .before .before .args in (1 ≤ a .n) × (a .n ≤ maxParties)
+range e = parties-told _ (e .before .parties .ensures) (e .if1 .left)
+
+parties-requires : tie.Need-parties-requires
+parties-requires c κs = search needs
+
 returns : tie.Need-returns
-returns c = sym (cause-none _ _ (omega arith))
+returns c = sym (cause-parties _ _ (denied (c .before .parties .ensures) (c .if1 .taken)))
+
+sub-if2 : tie.Need-sub-if2
+sub-if2 c = search needs
+
+div-if2 : tie.Need-div-if2
+div-if2 c = omega (arith, range c)
 
 returns-2 : tie.Need-returns-2
-returns-2 c = sym (cause-many _ _ (omega arith) (omega arith))
+returns-2 c = let r = range (c .before) in sym (cause-long _ _ (r .0) (r .1) (omega arith))
 
-sub-if3 : tie.Need-sub-if3
-sub-if3 c = search needs
-
-div-if3 : tie.Need-div-if3
-div-if3 c = search needs
+rem-if3 : tie.Need-rem-if3
+rem-if3 c = omega (arith, range (c .before))
 
 returns-3 : tie.Need-returns-3
-returns-3 c = sym (cause-long _ _ (omega arith) (omega arith) (omega arith))
-
-rem-if4 : tie.Need-rem-if4
-rem-if4 c = search needs
+returns-3 c = let r = range (c .before .before) in sym (cause-uneven _ _ (r .0) (r .1) (omega arith) (c .if3 .taken))
 
 returns-4 : tie.Need-returns-4
-returns-4 c = sym (cause-uneven _ _ (omega arith) (omega arith) (omega arith) (c .if4 .taken))
-
-returns-5 : tie.Need-returns-5
-returns-5 c = sym (cause-fine _ _ (omega arith) (omega arith) (omega arith) (c .if4 .left))
+returns-4 c = let r = range (c .before .before) in sym (cause-fine _ _ (r .0) (r .1) (omega arith) (c .if3 .left))
 
 pub shares-cause-spec : {M : Type 1} → statement M
 shares-cause-spec =
-    tie.close (tie.spec returns returns-2 sub-if3 div-if3 returns-3 rem-if4 returns-4 returns-5)
+    tie.close (tie.spec parties-requires returns sub-if2 div-if2 returns-2 rem-if3 returns-3 returns-4)

@@ -5,8 +5,8 @@ use mathlib.Core.List.{List}
 use Prim.Native.Nat.{ℕ, _+_, _-_, _*_, _≤_}
 use native.Mathlib.Omega.{arith}
 use lib.ListN.{length, drop, length-drop}
-use Rattle.limits.specs.Limits.{maxPath}
-use Rattle.merkle.specs.Shares.{numbered, sidesOf}
+use Rattle.limits.specs.Limits.{maxPath, numbered}
+use Rattle.merkle.specs.Shares.{sidesOf}
 use Rattle.merkle.proofs.Descend.{sides-fit}
 use Rattle.packet.specs.Format.{numberIn, lengthIn, countIn}
 use Rattle.packet.specs.Answer.{placed}

@@ -1,23 +1,30 @@
 -- `plan::book` meets its contract: cause 1, or the bytes that were found. Assumes nothing.
 use mathlib.Core.Path.{sym, ap, _∙_}
 use mathlib.Core.List.{List}
-use Prim.Native.Nat.{ℕ}
-use native.Mathlib.Omega.{arith}
+use Prim.Native.Nat.{ℕ, _≤_}
+use Rattle.limits.specs.Limits.{maxParties}
+use Rattle.limits.proofs.Booleans.{denied}
+use Rattle.limits.proofs.Ranges.{parties-told}
 use Rattle.buffer.specs.Given.{written}
-use Rattle.plan.proofs.Given.{book-none, book-many, book-given}
+use Rattle.plan.proofs.Given.{book-parties, book-given}
 use borrow.Author.Needs.{needs}
 use Rattle.plan.proofs.book.Statement.{statement}
 use Rattle.plan.proofs.book.Tie as tie
 
+-- the function's entry, from where n is found to be within its range
+abbrev Entry : tie.Else1 → tie.Start
+Entry e = e .before .before .before .before
+
+range : (e : tie.Else1) → let a = Entry e .args in (1 ≤ a .n) × (a .n ≤ maxParties)
+range e = parties-told _ (e .before .parties .ensures) (e .if1 .left)
+
+parties-requires : tie.Need-parties-requires
+parties-requires c κs = search needs
+
 returns : tie.Need-returns
 returns c =
-    let a = c .before .before .before .args in
-    sym (book-none (a .n) (a .good) (a .q) (a .books .now) (a .out .now) (omega arith))
-
-returns-2 : tie.Need-returns-2
-returns-2 c =
     let a = c .before .before .before .before .args in
-    sym (book-many (a .n) (a .good) (a .q) (a .books .now) (a .out .now) (omega arith) (omega arith))
+    sym (book-parties (a .n) (a .good) (a .q) (a .books .now) (a .out .now) (denied (c .before .parties .ensures) (c .if1 .taken)))
 
 under-requires : tie.Need-under-requires
 under-requires c κs = search needs
@@ -28,14 +35,16 @@ give-requires c κs = search needs
 same-length : tie.Need-same-length
 same-length c = search needs
 
-returns-3 : tie.Need-returns-3
-returns-3 c =
+returns-2 : tie.Need-returns-2
+returns-2 c =
     let g = c .before .before in
     let u = g .before .before in
-    let a = u .before .before .before .before .before .args in
+    let e = u .before in
+    let a = Entry e .args in
+    let r = range e in
     g .give .ensures ∙ ap (λ (b : List ℕ). written b (a .out .now)) (sym (u .under .ensures .are))
-    ∙ sym (book-given (a .n) (a .good) (a .q) (a .books .now) (a .out .now) (omega arith) (omega arith))
+    ∙ sym (book-given (a .n) (a .good) (a .q) (a .books .now) (a .out .now) (r .0) (r .1))
 
 pub book-spec : {M : Type 1} → statement M
 book-spec =
-    tie.close (tie.spec returns returns-2 under-requires give-requires same-length returns-3)
+    tie.close (tie.spec parties-requires returns under-requires give-requires same-length returns-2)

@@ -10,8 +10,7 @@ use Rattle.buffer.specs.Splice.{spliced}
 use Rattle.party.specs.State.{Result}
 use Rattle.party.specs.Steps.{resultGiven}
 use Rattle.party.specs.declared.Settled.{Settled}
-use Rattle.report.specs.Output.{line}
-use Rattle.session.specs.Session.{orNothing}
+use Rattle.session.specs.Session.{orNothing, lineWith}
 use Rattle.session.specs.Private.{lengthIn}
 use Rattle.session.proofs.Text.{no-message}
 use borrow.Author.Needs.{needs}
@@ -64,9 +63,9 @@ returns c =
     let a = Entry r .args in
     let e = sym (no-message (r .result-of .result) (O r) (k .match .keys2)) ∙ r .result-of .ensures .1 in
     let y = w .write-line .ensures in (
-      y .0 ∙ ap (λ (x : Result). length (line (a .q) x)) e,
+      y .0 ∙ ap (λ (x : Result). length (lineWith (a .q) x)) e,
       y .1,
-      y .2 ∙ ap (λ (x : Result). spliced (a .text .now) (a .at) (line (a .q) x)) e,
+      y .2 ∙ ap (λ (x : Result). spliced (a .text .now) (a .at) (lineWith (a .q) x)) e,
     )
 
 array-share-prefix-message : tie.Need-array-share-prefix-message
@@ -94,9 +93,9 @@ returns-2 c =
     let a = Entry r .args in
     let e = sym (ap (λ (x : Settled). orNothing (resultGiven x (O r))) (k .result .given .1)) ∙ r .result-of .ensures .1 in
     let y = w .write-line2 .ensures in (
-      y .0 ∙ ap (λ (x : Result). length (line (a .q) x)) e,
+      y .0 ∙ ap (λ (x : Result). length (lineWith (a .q) x)) e,
       y .1,
-      y .2 ∙ ap (λ (x : Result). spliced (a .text .now) (a .at) (line (a .q) x)) e,
+      y .2 ∙ ap (λ (x : Result). spliced (a .text .now) (a .at) (lineWith (a .q) x)) e,
     )
 
 pub put-line-spec : {M : Type 1} → statement M

@@ -1,11 +1,9 @@
 -- `session::write_line` meets its contract: the text has room for the line, so it stands at its place. Assumes nothing.
 use mathlib.Core.Path.{_∙_}
-use mathlib.Core.Bool.{cond}
 use mathlib.Core.List.{List}
 use Prim.Native.Nat.{ℕ, _-_}
 use native.Mathlib.Omega.{arith}
 use lib.ListN.{length, take, drop}
-use Rattle.party.specs.State.{nothing, settled}
 use Rattle.report.specs.Output.{line}
 use Rattle.session.proofs.Text.{line-short, line-written, given-at}
 use borrow.Author.Needs.{needs}
@@ -38,7 +36,7 @@ returns c =
     let o = a .text .now in
     let m = a .message .now in
     let short = line-short (a .q) (a .some) m (st .pre .0) in
-    let w : List ℕ = line (a .q) (cond (a .some) (settled m) nothing) in
+    let w : List ℕ = line (a .q) (a .some) m in
     let g = given-at o w (a .at) (f .line .result) _ (omega (arith, short, st .pre .1))
     (f .line .ensures ∙ line-written (a .q) (a .some) m (take (length o - a .at) (drop (a .at) o)) (st .pre .0)) in
     (c .length-of .ensures ∙ g .0, omega (arith, c .length-of .ensures, g .0, short), g .1)

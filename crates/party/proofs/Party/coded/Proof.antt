@@ -8,9 +8,10 @@ use Rattle.limits.specs.Limits.{maxParties, maxMessage, maxShare}
 use Rattle.buffer.specs.Splice.{spliced}
 use Rattle.buffer.specs.Given.{Given, gave}
 use Rattle.buffer.specs.declared.Written.the-variants.{Done}
+use Rattle.buffer.proofs.Splice.{take-spliced}
 use Rattle.erasure.specs.Coding.{shareLength, encodeOf}
 use Rattle.party.specs.State.{messageIn}
-use Rattle.party.proofs.Kept.{length-message, take-spliced}
+use Rattle.party.proofs.Kept.{length-message}
 use Rattle.party.proofs.Shared.{shares-bound, encoded, one-of, sharesIn, all-shares}
 use Rattle.party.proofs.Outcomes.{not-done}
 use borrow.Author.Needs.{needs}
