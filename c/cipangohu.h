@@ -1,4 +1,4 @@
-/* The interface of libcipangohu.a, which library/build makes: one party of a session, step by step, and the tools beside it. The header is
+/* The interface of libcipangohu.a, which scripts/build-library makes: one party of a session, step by step, and the tools beside it. The header is
  * C99 and C++; the archive is for x86-64 Linux.
  *
  * The host keeps a party's state, CIPANGOHU_STATE bytes, and hands it to every step. Layout, numbers big-endian here and in all entries:

@@ -1,5 +1,5 @@
 /* A sitting in one process: boxes 1 and 2 have the book "AB", box 3 has another one and rebuilds theirs. Prints each box's result.
- *     library/build && gcc -Idist c/example.c dist/libcipangohu.a -o example && ./example */
+ *     scripts/build-library && gcc -Idist c/example.c dist/libcipangohu.a -o example && ./example */
 #include <stdio.h>
 #include <stdlib.h>
 #include <string.h>

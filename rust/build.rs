@@ -1,6 +1,6 @@
 //! Finds libcipangohu.a: in the folder that CIPANGOHU_LIB names, else in ../dist, where
-//! `library/build` puts it. Where it is not found the build ends here, with the reason: the linker
-//! would not give it.
+//! `scripts/build-library` puts it. Where it is not found the build ends here, with the reason: the
+//! linker would not give it.
 
 use std::env;
 use std::path::{Path, PathBuf};
@@ -26,7 +26,7 @@ fn archive(folder: &Path) -> Result<PathBuf, String> {
     match archive.is_file() {
         true => Ok(archive),
         false => Err(format!(
-            "{} is missing: run library/build, or name its folder in CIPANGOHU_LIB",
+            "{} is missing: run scripts/build-library, or name its folder in CIPANGOHU_LIB",
             archive.display()
         )),
     }
