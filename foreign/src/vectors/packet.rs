@@ -1,50 +1,37 @@
-//! Writes the third vector file, of packets and inboxes, to standard output.
+//! The packets and the inboxes.
 //!
-//! The file is a sequence of cases, read front to back; numbers are big-endian. A case
-//! starts with one byte, its kind:
-//!
-//! - 0: end of the file, nothing after it.
-//! - 1: a reading: n (2 bytes), length (2), answer (1: 0 silence, 1 share, else 100 and the
-//!   cause), the bytes; then, for answer 1 only, number (1), share length (2), count of
-//!   hashes (1). The share lies at byte 4, the path right behind it.
-//! - 2: a standing: n (2), j (2), root (32), length (2), answer (1: 0 silent, 1 valid,
-//!   2 faulty, else 100 and the cause), the bytes. A valid packet's share lies as above.
-//! - 3: an inbox: n (1), length (4), answer (1: 1 laid out well, 0 not), the bytes.
-//! - 4: a packet written: n (2), number (2), share length (2), count of hashes (1), room
-//!   (2), answer (1: 0 written, else 100 and the cause), value (2: the bytes written, the
-//!   length needed for cause 9, else 0), the share, the hashes (32 each) and, for answer 0
-//!   only, the packet. The buffer lent has as many bytes 0xA5 as the room says; what is not
-//!   written over stays.
+//! - Reads: n (2 bytes), the packet. What is read of it, twice: the answer (0 silence, 1 a share),
+//!   and the share's number, place and length and the count of hashes (8 each, 0 without a share).
+//!   The share lies at byte 4, the path right behind it.
+//! - Judgements: n (2), j (2), the root (32), the packet. As above, with answer 0 for a silent,
+//!   1 for a valid and 2 for a faulty packet, and 0 for the number.
+//! - Inboxes: n (1), the inbox. 1 if it is laid out well, else 0 (1).
+//! - Writes: n (2), the number (2), the count of hashes (1), the length of the buffer lent (2), the
+//!   first four hashes, those that are not there of bytes 0xEE, the share. The answer, and the
+//!   buffer, in which what is not written over is untouched; then the same of the packet's entry,
+//!   for which the buffer has two bytes more.
 //!
 //! Packets handed in have at most 1,159 bytes, inboxes 2,400; a written packet has at most
-//! 1,158 bytes, its share handed in 1,027, at most 5 hashes are handed in, and the room is at
-//! most 1,300.
+//! 1,158 bytes, its share handed in 1,027, at most 5 hashes are counted, and the buffer has at
+//! most 1,300 bytes.
 
-use std::collections::BTreeMap;
+use super::{Answer, Case, Kind, Part, UNTOUCHED};
+use crate::inbox::{laid_out, lay_out};
+use crate::packet::{self, classify, write_into, Reading, Standing, HEADER, LONGEST_SHARE};
+use crate::random::Random;
+use crate::sha256::{hash, Hash};
+use crate::tree::{self, leaf_string, node, path_length, MOST_HASHES};
 
-use foreign::inbox::{laid_out, lay_out};
-use foreign::packet::{self, classify, write_into, Reading, Standing, HEADER, LONGEST_SHARE};
-use foreign::random::Random;
-use foreign::sha256::{hash, Hash};
-use foreign::tree::{self, leaf_string, node, path_length, MOST_HASHES};
-use foreign::writer::Writer;
-
-const SILENCE: usize = 0;
-const SHARE: usize = 1;
-const SILENT: usize = 0;
-const VALID: usize = 1;
-const FAULTY: usize = 2;
-const WRITTEN: usize = 0;
-const UNREADABLE: usize = refused(10);
-const LENT: u8 = 0xA5;
+const SILENCE: Answer = Answer::Done(0);
+const SHARE: Answer = Answer::Done(1);
+const SILENT: Answer = Answer::Done(0);
+const VALID: Answer = Answer::Done(1);
+const FAULTY: Answer = Answer::Done(2);
+const UNREADABLE: Answer = Answer::Refused(10);
+const UNSTORED: Hash = [0xEE; 32];
 const LONGEST_PACKET: usize = HEADER + LONGEST_SHARE + 32 * MOST_HASHES;
 const LARGEST_INBOX: usize = 2_400;
 const MOST_ROOM: usize = 1_300;
-
-/// The answer of a refusal.
-const fn refused(cause: usize) -> usize {
-    100 + cause
-}
 
 /// The party counts tried.
 const CHOSEN: [usize; 5] = [1, 2, 3, 5, 16];
@@ -113,19 +100,20 @@ impl Call {
     }
 }
 
-/// The file so far, its cases counted by kind and answer, and the source of randomness.
+/// The cases so far, and the source of randomness.
 struct File {
-    out: Writer,
-    answers: BTreeMap<(u8, usize), usize>,
+    out: Vec<Case>,
     random: Random,
 }
 
-impl File {
-    fn start(&mut self, kind: u8, answer: usize) {
-        self.out.start(kind);
-        *self.answers.entry((kind, answer)).or_default() += 1;
-    }
+/// What is told of a packet: the answer, and the share's number, its place and length, and the
+/// count of hashes.
+fn told(answer: Answer, share: [usize; 4]) -> Part {
+    let number = |part: Part, number: usize| part.eight(number as u64);
+    share.into_iter().fold(Part::new().answer(answer), number)
+}
 
+impl File {
     /// Packet j of n over random shares of this length.
     fn good(&mut self, n: usize, j: usize, length: usize) -> Good {
         let shares: Vec<Vec<u8>> = (0..n).map(|_| self.random.bytes(length)).collect();
@@ -145,70 +133,66 @@ impl File {
     }
 
     /// Reads the bytes and writes that as a case; gives the answer.
-    fn tried(&mut self, n: usize, bytes: &[u8]) -> usize {
+    fn tried(&mut self, n: usize, bytes: &[u8]) -> Answer {
         assert!(bytes.len() <= LONGEST_PACKET + 1);
-        let reading = packet::read(n, bytes);
-        let answer = match reading {
-            Reading::Refused(cause) => refused(cause as usize),
-            Reading::Silence => SILENCE,
-            Reading::Share { .. } => SHARE,
+        let (answer, share) = match packet::read(n, bytes) {
+            Reading::Refused(cause) => (Answer::Refused(cause), [0; 4]),
+            Reading::Silence => (SILENCE, [0; 4]),
+            Reading::Share {
+                number,
+                share,
+                path,
+            } => {
+                let behind = HEADER + share.len();
+                assert_eq!(bytes[HEADER..behind], share);
+                assert_eq!(bytes[behind..], path.concat());
+                (SHARE, [number, HEADER, share.len(), path.len()])
+            }
         };
-        self.start(1, answer);
-        self.out.two(n);
-        self.out.two(bytes.len());
-        self.out.one(answer);
-        self.out.bytes(bytes);
-        if let Reading::Share {
-            number,
-            share,
-            path,
-        } = reading
-        {
-            let behind = HEADER + share.len();
-            assert_eq!(bytes[HEADER..behind], share);
-            assert_eq!(bytes[behind..], path.concat());
-            self.out.one(number);
-            self.out.two(share.len());
-            self.out.one(path.len());
-        }
+        let Part(once) = told(answer, share);
+        self.out.push(Case {
+            kind: Kind::Reads,
+            given: Part::new().two(n).bytes(bytes),
+            expected: Part([&once[..], &once].concat()),
+        });
         answer
     }
 
     /// A reading whose answer is known beforehand.
-    fn read(&mut self, n: usize, bytes: &[u8], answer: usize) {
+    fn read(&mut self, n: usize, bytes: &[u8], answer: Answer) {
         assert_eq!(self.tried(n, bytes), answer, "n {n}, bytes {bytes:?}");
     }
 
     /// Finds the standing of the bytes and writes it as a case; gives the answer.
-    fn stood(&mut self, n: usize, j: usize, root: Hash, bytes: &[u8]) -> usize {
+    fn stood(&mut self, n: usize, j: usize, root: Hash, bytes: &[u8]) -> Answer {
         assert!(bytes.len() <= LONGEST_PACKET + 1);
-        let answer = match classify(n, j, root, bytes) {
-            Ok(Standing::Silent) => SILENT,
+        let (answer, share) = match classify(n, j, root, bytes) {
+            Ok(Standing::Silent) => (SILENT, [0; 4]),
             Ok(Standing::Valid(share)) => {
-                assert_eq!(bytes[HEADER..HEADER + share.len()], share);
-                VALID
+                let behind = HEADER + share.len();
+                assert_eq!(bytes[HEADER..behind], share);
+                let hashes = (bytes.len() - behind) / 32;
+                (VALID, [0, HEADER, share.len(), hashes])
             }
-            Ok(Standing::Faulty) => FAULTY,
-            Err(cause) => refused(cause as usize),
+            Ok(Standing::Faulty) => (FAULTY, [0; 4]),
+            Err(cause) => (Answer::Refused(cause), [0; 4]),
         };
-        self.start(2, answer);
-        self.out.two(n);
-        self.out.two(j);
-        self.out.bytes(&root);
-        self.out.two(bytes.len());
-        self.out.one(answer);
-        self.out.bytes(bytes);
+        self.out.push(Case {
+            kind: Kind::Judgements,
+            given: Part::new().two(n).two(j).bytes(&root).bytes(bytes),
+            expected: told(answer, share),
+        });
         answer
     }
 
     /// A standing that is known beforehand.
-    fn stands(&mut self, n: usize, j: usize, root: Hash, bytes: &[u8], answer: usize) {
+    fn stands(&mut self, n: usize, j: usize, root: Hash, bytes: &[u8], answer: Answer) {
         let found = self.stood(n, j, root, bytes);
         assert_eq!(found, answer, "n {n}, j {j}, bytes {bytes:?}");
     }
 
     /// Bytes that came instead of a good packet, read and then held against its number.
-    fn instead(&mut self, good: &Good, bytes: &[u8], reading: usize, standing: usize) {
+    fn instead(&mut self, good: &Good, bytes: &[u8], reading: Answer, standing: Answer) {
         self.read(good.n, bytes, reading);
         self.stands(good.n, good.j, good.root, bytes, standing);
     }
@@ -222,11 +206,11 @@ impl File {
     fn judged(&mut self, n: usize, bytes: &[u8]) -> bool {
         assert!(bytes.len() <= LARGEST_INBOX);
         let well = laid_out(n, bytes);
-        self.start(3, usize::from(well));
-        self.out.one(n);
-        self.out.four(bytes.len());
-        self.out.one(usize::from(well));
-        self.out.bytes(bytes);
+        self.out.push(Case {
+            kind: Kind::Inboxes,
+            given: Part::new().one(n).bytes(bytes),
+            expected: Part::new().one(well.into()),
+        });
         well
     }
 
@@ -235,30 +219,34 @@ impl File {
         assert_eq!(self.judged(n, bytes), well, "n {n}, bytes {bytes:?}");
     }
 
-    /// Writes a packet, and that as a case; the answer and its value are known beforehand.
-    fn write(&mut self, call: &Call, answer: usize, value: usize) {
+    /// Writes a packet, and that as a case; the answer is known beforehand.
+    fn write(&mut self, call: &Call, answer: Answer) {
         assert!(call.share.len() <= LONGEST_SHARE + 1 && call.path.len() <= MOST_HASHES + 1);
         assert!(call.room <= MOST_ROOM);
-        let mut out = vec![LENT; call.room];
+        let mut out = vec![UNTOUCHED; call.room];
         let parties = (call.n, call.number);
-        let found = match write_into(parties, &call.share, &call.path, &mut out) {
-            Ok(length) => (WRITTEN, length),
-            Err((cause, needed)) => (refused(cause as usize), needed),
+        let (found, written) = match write_into(parties, &call.share, &call.path, &mut out) {
+            Ok(length) => (Answer::Done(length), length),
+            Err((9, needed)) => (Answer::Short(needed), 0),
+            Err((cause, _)) => (Answer::Refused(cause), 0),
         };
-        assert_eq!(found, (answer, value), "n {}, j {}", call.n, call.number);
-        let written = if answer == WRITTEN { value } else { 0 };
-        assert!(out[written..].iter().all(|&x| x == LENT));
-        self.start(4, answer);
-        self.out.two(call.n);
-        self.out.two(call.number);
-        self.out.two(call.share.len());
-        self.out.one(call.path.len());
-        self.out.two(call.room);
-        self.out.one(answer);
-        self.out.two(value);
-        self.out.bytes(&call.share);
-        self.out.bytes(&call.path.concat());
-        self.out.bytes(&out[..written]);
+        assert_eq!(found, answer, "n {}, j {}", call.n, call.number);
+        assert!(out[written..].iter().all(|&x| x == UNTOUCHED));
+        let (entry, front) = match found {
+            Answer::Done(length) => (Answer::Done(length + 2), (length as u16).to_be_bytes()),
+            Answer::Short(needed) => (Answer::Short(needed + 2), [UNTOUCHED; 2]),
+            other => (other, [UNTOUCHED; 2]),
+        };
+        let mut path = call.path.clone();
+        path.resize(MOST_HASHES, UNSTORED);
+        let numbers = Part::new().two(call.n).two(call.number);
+        let lengths = numbers.one(call.path.len()).two(call.room);
+        let alone = Part::new().answer(found).bytes(&out);
+        self.out.push(Case {
+            kind: Kind::Writes,
+            given: lengths.bytes(&path.concat()).bytes(&call.share),
+            expected: alone.answer(entry).bytes(&front).bytes(&out),
+        });
     }
 }
 
@@ -479,11 +467,11 @@ fn bad_sizes(file: &mut File) {
         let good = file.good(n, 1, 2);
         for bad in [0, 17, 18, 255, 256, 256 + n, 65_535] {
             for bytes in [&b""[..], &[0], &[0, 0], &[7], &good.bytes] {
-                file.read(bad, bytes, refused(1));
+                file.read(bad, bytes, Answer::Refused(1));
             }
             for (j, bytes) in [(1, &good.bytes[..]), (0, b""), (bad + place, &[0])] {
                 let j = j.min(65_535);
-                file.stands(bad, j, good.root, bytes, refused(1));
+                file.stands(bad, j, good.root, bytes, Answer::Refused(1));
             }
         }
     }
@@ -499,13 +487,13 @@ fn demands(file: &mut File) {
                 file.stands(n, j, good.root, &good.bytes, standing);
             }
             for j in [0, n + 1, 255, 256, 256 + number, 65_535] {
-                file.stands(n, j, good.root, &good.bytes, refused(3));
+                file.stands(n, j, good.root, &good.bytes, Answer::Refused(3));
             }
         }
         let root = file.random_hash();
         for j in [0, n + 1, 65_535] {
             for bytes in [&b""[..], &[0], &[0, 0], &[7]] {
-                file.stands(n, j, root, bytes, refused(3));
+                file.stands(n, j, root, bytes, Answer::Refused(3));
             }
         }
     }
@@ -641,7 +629,7 @@ fn written(file: &mut File) {
     for n in CHOSEN {
         for j in 1..=n {
             let good = file.good(n, j, 1 + (n * j) % 5);
-            file.write(&good.call(), WRITTEN, good.bytes.len());
+            file.write(&good.call(), Answer::Done(good.bytes.len()));
         }
         for j in ends(n) {
             let good = file.good(n, j, 3);
@@ -651,9 +639,9 @@ fn written(file: &mut File) {
     for n in [1, 16] {
         let good = file.good(n, n.div_ceil(2), LONGEST_SHARE);
         let needed = good.bytes.len();
-        file.write(&good.call(), WRITTEN, needed);
+        file.write(&good.call(), Answer::Done(needed));
         let call = good.call().with(|call| call.room -= 1);
-        file.write(&call, refused(9), needed);
+        file.write(&call, Answer::Short(needed));
     }
 }
 
@@ -662,11 +650,11 @@ fn rooms(file: &mut File, good: &Good) {
     let needed = good.bytes.len();
     for room in [needed, needed + 1, MOST_ROOM] {
         let call = good.call().with(|call| call.room = room);
-        file.write(&call, WRITTEN, needed);
+        file.write(&call, Answer::Done(needed));
     }
     for room in [needed - 1, needed - good.share.len(), 1, 0] {
         let call = good.call().with(|call| call.room = room);
-        file.write(&call, refused(9), needed);
+        file.write(&call, Answer::Short(needed));
     }
 }
 
@@ -676,20 +664,20 @@ fn unwritten(file: &mut File) {
         for j in ends(n) {
             let good = file.good(n, j, 2).call();
             for n in [0, 17, 255, 256, 256 + n, 65_535] {
-                file.write(&good.with(|call| call.n = n), refused(1), 0);
+                file.write(&good.with(|call| call.n = n), Answer::Refused(1));
             }
             for number in [0, n + 1, 255, 256, 256 + j, 65_535] {
-                file.write(&good.with(|call| call.number = number), refused(3), 0);
+                file.write(&good.with(|call| call.number = number), Answer::Refused(3));
             }
             let roomy = good.with(|call| call.room = MOST_ROOM);
-            file.write(&roomy.with(|call| call.share.clear()), refused(10), 0);
+            file.write(&roomy.with(|call| call.share.clear()), Answer::Refused(10));
             for count in (0..=MOST_HASHES + 1).filter(|&count| count != good.path.len()) {
                 let path = (0..count).map(|_| file.random_hash()).collect();
-                file.write(&roomy.with(|call| call.path = path), refused(10), 0);
+                file.write(&roomy.with(|call| call.path = path), Answer::Refused(10));
             }
         }
         let long = file.good(n, n, LONGEST_SHARE + 1);
-        file.write(&long.call(), refused(10), 0);
+        file.write(&long.call(), Answer::Refused(10));
     }
 }
 
@@ -702,7 +690,7 @@ fn several_causes(file: &mut File) {
         }
         for number in [0, n + 1] {
             let call = good.with(|call| call.number = number);
-            file.write(&call.with(|call| call.room -= 1), refused(3), 0);
+            file.write(&call.with(|call| call.room -= 1), Answer::Refused(3));
             no_packets(file, &call, 3);
         }
         no_packets(file, &good.with(|call| call.room -= 1), 10);
@@ -714,33 +702,38 @@ fn under_cause_one(file: &mut File, call: &Call) {
     let numbers = [0, call.n, 65_535];
     for number in numbers {
         let call = call.with(|call| call.number = number);
-        file.write(&call, refused(1), 0);
-        file.write(&call.with(|call| call.room -= 1), refused(1), 0);
+        file.write(&call, Answer::Refused(1));
+        file.write(&call.with(|call| call.room -= 1), Answer::Refused(1));
     }
-    file.write(&call.with(|call| call.room -= 1), refused(1), 0);
+    file.write(&call.with(|call| call.room -= 1), Answer::Refused(1));
     let call = call.with(|call| call.share.clear());
-    file.write(&call, refused(1), 0);
+    file.write(&call, Answer::Refused(1));
     let all = call.with(|call| (call.number, call.room) = (0, 0));
-    file.write(&all, refused(1), 0);
+    file.write(&all, Answer::Refused(1));
 }
 
 /// A call that is bad already, now with a share or a path that no packet has, in as much
 /// room as it had, in much and in none.
-fn no_packets(file: &mut File, call: &Call, cause: usize) {
+fn no_packets(file: &mut File, call: &Call, cause: u32) {
     for room in [call.room, MOST_ROOM, 0] {
         let call = call.with(|call| call.room = room);
-        file.write(&call.with(|call| call.share.clear()), refused(cause), 0);
+        file.write(
+            &call.with(|call| call.share.clear()),
+            Answer::Refused(cause),
+        );
         file.write(
             &call.with(|call| call.path.push([9; 32])),
-            refused(cause),
-            0,
+            Answer::Refused(cause),
         );
         if !call.path.is_empty() {
-            file.write(&call.with(|call| call.path.truncate(0)), refused(cause), 0);
+            file.write(
+                &call.with(|call| call.path.truncate(0)),
+                Answer::Refused(cause),
+            );
         }
     }
     let long = vec![5; LONGEST_SHARE + 1];
-    file.write(&call.with(|call| call.share = long), refused(cause), 0);
+    file.write(&call.with(|call| call.share = long), Answer::Refused(cause));
 }
 
 /// All cases of readings and standings.
@@ -760,10 +753,9 @@ fn packet_cases(file: &mut File) {
     other_roots(file);
 }
 
-fn main() {
+pub fn cases() -> Vec<Case> {
     let mut file = File {
-        out: Writer::new(4),
-        answers: BTreeMap::new(),
+        out: Vec::new(),
         random: Random::new(180),
     };
     packet_cases(&mut file);
@@ -774,8 +766,5 @@ fn main() {
     written(&mut file);
     unwritten(&mut file);
     several_causes(&mut file);
-    file.out.finish();
-    for ((kind, answer), count) in &file.answers {
-        eprintln!("kind {kind}, answer {answer}: {count}");
-    }
+    file.out
 }

@@ -1,35 +1,22 @@
-//! Writes the second vector file, of the hash and the tree, to standard output.
+//! The hash and the tree.
 //!
-//! The file is a sequence of cases, read front to back; numbers are big-endian. A case
-//! starts with one byte, its kind:
+//! - Hashes: the string. The cause (1 byte: 0 or 4) and the digest (32, zero if refused).
+//! - Trees: n (1), the n shares. The cause (1), the root (32), and for each leaf 1 to n the answer
+//!   to its path's length, and the path as four hashes, those past its length zero.
+//! - Checks: n (2), j (2), the count told to the check (1), the root's length (1), the path as four
+//!   hashes, those that are not stored of bytes 0xEE, the root, the share. The answer: 0 no, 1 yes.
+//! - Path lengths: n (1). The answer for each leaf 1 to n.
 //!
-//! - 0: end of the file, nothing after it.
-//! - 1: a hash: length (4 bytes), cause (1: 0 or 4), the string and, for cause 0 only, the
-//!   digest (32).
-//! - 2: a tree: n (1), share length (2), the n shares, the root (32), then for each leaf
-//!   1 to n the count of its path (1) and the path's hashes (32 each, from the leaf upward).
-//! - 3: a check: n (2), j (2), share length (4), count told to the check (1), hashes stored
-//!   (1: 0 to 4), root length (1), answer (1: 0 no, 1 yes, else 100 and the cause), the
-//!   share, the stored hashes, the root. The path handed in is an array of four hashes: the
-//!   stored ones, then hashes of bytes 0xEE.
-//! - 4: path lengths: n (1), then n bytes, one for each leaf 1 to n.
-//!
-//! Strings have at most 65,536 bytes, shares of a tree 65, shares of a check 65,534, roots
-//! 33.
+//! Strings have at most 65,536 bytes, shares of a tree 65, shares of a check 65,534, roots 33.
 
-use foreign::random::Random;
-use foreign::sha256::{hash, Hash, LONGEST_STRING};
-use foreign::tree::{self, judge, MOST_HASHES};
-use foreign::writer::Writer;
+use super::{Answer, Case, Kind, Part};
+use crate::random::Random;
+use crate::sha256::{hash, Hash, LONGEST_STRING};
+use crate::tree::{self, judge, MOST_HASHES};
 
 const UNSTORED: Hash = [0xEE; 32];
-const NO: usize = 0;
-const YES: usize = 1;
-
-/// The answer of a refusal.
-const fn refused(cause: usize) -> usize {
-    100 + cause
-}
+const NO: Answer = Answer::Done(0);
+const YES: Answer = Answer::Done(1);
 
 /// The party counts whose checks are tried leaf by leaf.
 const CHOSEN: [usize; 8] = [1, 2, 3, 5, 7, 8, 11, 16];
@@ -60,64 +47,61 @@ fn right(shares: &Shares, j: usize) -> Call {
     }
 }
 
-/// The file so far, its checks counted by answer, and the source of randomness.
+/// The cases so far, and the source of randomness.
 struct File {
-    out: Writer,
-    answers: [usize; 108],
+    out: Vec<Case>,
     random: Random,
 }
 
 impl File {
     fn hash(&mut self, string: &[u8]) {
-        self.out.start(1);
-        self.out.four(string.len());
-        let allowed = string.len() <= LONGEST_STRING;
-        self.out.one(if allowed { 0 } else { 4 });
-        self.out.bytes(string);
-        if allowed {
-            self.out.bytes(&hash(string));
-        }
+        let (cause, digest) = match string.len() <= LONGEST_STRING {
+            true => (0, hash(string)),
+            false => (4, [0; 32]),
+        };
+        self.out.push(Case {
+            kind: Kind::Hashes,
+            given: Part::new().bytes(string),
+            expected: Part::new().one(cause).bytes(&digest),
+        });
     }
 
     fn tree(&mut self, shares: &Shares) {
-        self.out.start(2);
-        self.out.one(shares.len());
-        self.out.two(shares[0].len());
-        self.out.bytes(&shares.concat());
-        self.out.bytes(&tree::root(shares));
+        let mut expected = Part::new().one(0).bytes(&tree::root(shares));
         for j in 1..=shares.len() {
-            let path = tree::path(shares, j);
-            self.out.one(path.len());
-            self.out.bytes(&path.concat());
+            let mut path = tree::path(shares, j);
+            expected = expected.answer(Answer::Done(path.len()));
+            path.resize(MOST_HASHES, [0; 32]);
+            expected = expected.bytes(&path.concat());
         }
+        self.out.push(Case {
+            kind: Kind::Trees,
+            given: Part::new().one(shares.len()).bytes(&shares.concat()),
+            expected,
+        });
     }
 
     /// Runs one check and writes it as a case; gives the answer.
-    fn tried(&mut self, call: &Call) -> usize {
+    fn tried(&mut self, call: &Call) -> Answer {
         let mut path = [UNSTORED; MOST_HASHES];
         path[..call.path.len()].copy_from_slice(&call.path);
         let parties = (call.n, call.j);
         let answer = match judge(parties, &call.share, &path, call.count, &call.root) {
-            Ok(passes) => usize::from(passes),
-            Err(cause) => refused(cause as usize),
+            Ok(passes) => Answer::Done(passes.into()),
+            Err(cause) => Answer::Refused(cause),
         };
-        self.out.start(3);
-        self.out.two(call.n);
-        self.out.two(call.j);
-        self.out.four(call.share.len());
-        self.out.one(call.count);
-        self.out.one(call.path.len());
-        self.out.one(call.root.len());
-        self.out.one(answer);
-        self.out.bytes(&call.share);
-        self.out.bytes(&call.path.concat());
-        self.out.bytes(&call.root);
-        self.answers[answer] += 1;
+        let numbers = Part::new().two(call.n).two(call.j).one(call.count);
+        let root = numbers.one(call.root.len()).bytes(&path.concat());
+        self.out.push(Case {
+            kind: Kind::Checks,
+            given: root.bytes(&call.root).bytes(&call.share),
+            expected: Part::new().answer(answer),
+        });
         answer
     }
 
     /// A check whose answer is known beforehand.
-    fn check(&mut self, call: &Call, answer: usize) {
+    fn check(&mut self, call: &Call, answer: Answer) {
         let (n, j, count) = (call.n, call.j, call.count);
         assert_eq!(self.tried(call), answer, "n {n}, j {j}, count {count}");
     }
@@ -169,11 +153,12 @@ fn hash_cases(file: &mut File) {
 /// Every number of leaves, with all paths and their lengths.
 fn tree_cases(file: &mut File) {
     for n in 1..=16 {
-        file.out.start(4);
-        file.out.one(n);
-        for j in 1..=n {
-            file.out.one(tree::path_length(n, j));
-        }
+        let lengths = (1..=n).map(|j| Answer::Done(tree::path_length(n, j)));
+        file.out.push(Case {
+            kind: Kind::PathLengths,
+            given: Part::new().one(n),
+            expected: lengths.fold(Part::new(), Part::answer),
+        });
     }
     for n in 1..=16 {
         for length in [1, 2, 31, 65] {
@@ -352,26 +337,26 @@ fn refusals(file: &mut File) {
         let shares = file.shares(n, 3);
         let good = right(&shares, n);
         for j in [0, n + 1, 255, 256, 256 + n, 65_535] {
-            file.check(&Call { j, ..good.clone() }, refused(3));
+            file.check(&Call { j, ..good.clone() }, Answer::Refused(3));
         }
         for root in [&good.root[..0], &good.root[..31], &good.root[1..]] {
             let mut call = good.clone();
             call.root = root.to_vec();
-            file.check(&call, refused(7));
+            file.check(&call, Answer::Refused(7));
         }
         let mut call = good.clone();
         call.root.push(0);
-        file.check(&call, refused(7));
+        file.check(&call, Answer::Refused(7));
         call.count = 5;
-        file.check(&call, refused(7));
+        file.check(&call, Answer::Refused(7));
     }
     let shares = file.shares(3, 3);
     let good = right(&shares, 2);
     for n in [17, 18, 255, 256, 256 + 3, 65_535] {
-        file.check(&Call { n, ..good.clone() }, refused(1));
+        file.check(&Call { n, ..good.clone() }, Answer::Refused(1));
     }
     let shares = file.shares(1, LONGEST_STRING - 1);
-    file.check(&right(&shares, 1), refused(4));
+    file.check(&right(&shares, 1), Answer::Refused(4));
 }
 
 /// Several causes at once; the lowest is given.
@@ -386,30 +371,29 @@ fn several(file: &mut File) {
     };
     let whole = &good.root[..];
     for (n, j) in [(0, 0), (0, 1), (17, 0), (17, 18), (65_535, 0)] {
-        file.check(&with(n, j, whole), refused(1));
-        file.check(&with(n, j, &whole[1..]), refused(1));
+        file.check(&with(n, j, whole), Answer::Refused(1));
+        file.check(&with(n, j, &whole[1..]), Answer::Refused(1));
     }
     for n in [17, 65_535] {
-        file.check(&with(n, 2, &whole[1..]), refused(1));
-        file.check(&with(n, 2, b""), refused(1));
+        file.check(&with(n, 2, &whole[1..]), Answer::Refused(1));
+        file.check(&with(n, 2, b""), Answer::Refused(1));
     }
     for j in [0, 4, 65_535] {
-        file.check(&with(3, j, &whole[1..]), refused(3));
-        file.check(&with(3, j, b""), refused(3));
+        file.check(&with(3, j, &whole[1..]), Answer::Refused(3));
+        file.check(&with(3, j, b""), Answer::Refused(3));
     }
     let shares = file.shares(1, LONGEST_STRING - 1);
     let mut call = right(&shares, 1);
     call.j = 2;
-    file.check(&call, refused(3));
+    file.check(&call, Answer::Refused(3));
     call.j = 1;
     call.root.pop();
-    file.check(&call, refused(4));
+    file.check(&call, Answer::Refused(4));
 }
 
-fn main() {
+pub fn cases() -> Vec<Case> {
     let mut file = File {
-        out: Writer::new(4),
-        answers: [0; 108],
+        out: Vec::new(),
         random: Random::new(6962),
     };
     hash_cases(&mut file);
@@ -419,13 +403,5 @@ fn main() {
     share_lengths(&mut file);
     refusals(&mut file);
     several(&mut file);
-    file.out.finish();
-    for (answer, count) in file
-        .answers
-        .iter()
-        .enumerate()
-        .filter(|(_, &count)| count > 0)
-    {
-        eprintln!("checks answered {answer}: {count}");
-    }
+    file.out
 }

@@ -1,52 +1,40 @@
-//! Writes the fourth vector file, of calls on one party, to standard output.
+//! Calls on one party.
 //!
-//! The file is a sequence of cases, read front to back; numbers are big-endian. The reader
-//! carries a party's state and an inbox from case to case, both zero at the start; a call
-//! takes the state that the last one gave back, so that the calls from one opening to the
-//! next are a list. A case starts with one byte, its kind:
+//! The reader carries a party's state and an inbox from case to case, both zero at the start; a
+//! call takes the state that the last one gave back, so that the calls from one opening to the
+//! next are a list.
 //!
-//! - 0: end of the file, nothing after it.
-//! - 1: an opening: n, t and own (8 bytes each), the message's length (2), the root (32,
-//!   zero if refused), the verdict, the message.
-//! - 2: step 2: the agreed root's length (1), the verdict, the root.
-//! - 3: step 3: the agreed bit (1), the room (2), the verdict.
-//! - 4, 5: steps 4 and 5: how many bytes of the inbox are handed in (2), the room (2), the
-//!   verdict.
-//! - 6: a number put into the state: where (1: 0 n, 1 t, 2 own, 3 len, 4 held), the number (8).
-//! - 7: another stage: which (1: 0 root, 1 bit, 2 first, 3 second, 4 ended with nothing, 5 with
-//!   a message), that message's length (8).
-//! - 8: bytes put in: where (1: 0 message, 1 root, 2 share, 3 the inbox), from which place (2),
-//!   how many (2), the bytes.
+//! - Openings: n, t and own (8 bytes each), the message. The verdict, and the root (32, zero if
+//!   refused).
+//! - Agreed roots, step 2: the root. The verdict.
+//! - Agreed bits, step 3: the bit (2), the length of the buffer lent (2). The verdict.
+//! - First and second inboxes, steps 4 and 5: how many bytes of the inbox are handed in (2), the
+//!   length of the buffer lent (2). The verdict.
+//! - Numbers changed: where (1: 0 n, 1 t, 2 own, 3 len, 4 held), the number (8). Nothing.
+//! - Stages changed: which (1: 0 root, 1 bit, 2 first, 3 second, 4 ended with nothing, 5 with a
+//!   message), that message's length (8). Nothing.
+//! - Bytes changed: where (1: 0 message, 1 root, 2 share, 3 the inbox), from which place (2), the
+//!   bytes. Nothing.
 //!
-//! The verdict: the answer (1: 0 accepted, 1 accepted with the result nothing, else 100 and the
-//! cause), its value (2: the bit, the bytes written, the length needed for cause 9, else 0), and
-//! SHA-256 (32) of the state with SHA-256 of the out buffer behind it. The buffer lent has as
-//! many bytes 0xA5 as the room says; without a room it is empty. The state's bytes: n, t, own (8
-//! each), stage as in 7 (9), len, held (8 each), root, message, share.
+//! The verdict: the answer, and SHA-256 (32) of the state with SHA-256 of the out buffer behind it,
+//! which is empty where none is lent. The state's bytes: n, t, own (8 each), stage as above (9),
+//! len, held (8 each), root, message, share.
 //!
-//! Messages handed in have at most 1,026 bytes, inboxes 8,000, and the room is at most 6,000.
+//! Messages handed in have at most 1,026 bytes, inboxes 8,000, and the buffer at most 6,000.
 
 use std::collections::BTreeMap;
 
-use foreign::coder::{frame_of, share_length, shares_of, LONGEST_MESSAGE, MOST_PARTIES};
-use foreign::inbox::lay_out;
-use foreign::packet::{self, LONGEST_SHARE};
-use foreign::party::{Given, Outcome, Refusal, Stage, State};
-use foreign::random::Random;
-use foreign::sha256::{hash, Hash};
-use foreign::tree;
-use foreign::writer::Writer;
+use super::{Answer, Answer::*, Case, Kind, Part, UNTOUCHED};
+use crate::coder::{frame_of, share_length, shares_of, LONGEST_MESSAGE, MOST_PARTIES};
+use crate::inbox::lay_out;
+use crate::packet::{self, LONGEST_SHARE};
+use crate::party::{Given, Outcome, Refusal, Stage, State};
+use crate::random::Random;
+use crate::sha256::{hash, Hash};
+use crate::tree;
 
-const ACCEPTED: usize = 0;
-const NOTHING: usize = 1;
-const LENT: u8 = 0xA5;
 const LARGEST_INBOX: usize = 8_000;
 const MOST_ROOM: usize = 6_000;
-
-/// The answer of a refusal.
-const fn refused(cause: u32) -> usize {
-    100 + cause as usize
-}
 
 /// A step and what it is handed, but for the room.
 #[derive(Clone)]
@@ -133,21 +121,31 @@ fn digest(state: &State, out: &[u8]) -> Hash {
     hash(&text)
 }
 
-/// What a step gave: the state, the answer's number and its value.
-fn told<T>(given: Given<T>, accepted: impl FnOnce(T) -> (usize, usize)) -> (State, usize, usize) {
+/// What a step gave: the state and the answer.
+fn told<T>(given: Given<T>, accepted: impl FnOnce(T) -> Answer) -> (State, Answer) {
     let (state, answer) = given;
-    let (answer, value) = match answer {
+    let answer = match answer {
         Ok(answer) => accepted(answer),
-        Err(Refusal { cause, needed }) => (refused(cause), needed),
+        Err(Refusal { cause: 9, needed }) => Short(needed),
+        Err(Refusal { cause, .. }) => Refused(cause),
     };
-    (state, answer, value)
+    (state, answer)
 }
 
-/// The file so far, its cases counted by kind and answer, the source of randomness, and what
+/// The answer whatever its value.
+fn valueless(answer: Answer) -> Answer {
+    match answer {
+        Done(_) => Done(0),
+        Short(_) => Short(0),
+        other => other,
+    }
+}
+
+/// The cases so far, their calls counted by kind and answer, the source of randomness, and what
 /// the reader carries.
 struct File {
-    out: Writer,
-    answers: BTreeMap<(u8, usize), usize>,
+    out: Vec<Case>,
+    answers: BTreeMap<(Kind, Answer), usize>,
     random: Random,
     state: State,
     inbox: Vec<u8>,
@@ -158,7 +156,7 @@ struct File {
 impl File {
     fn new() -> File {
         File {
-            out: Writer::new(8),
+            out: Vec::new(),
             answers: BTreeMap::new(),
             random: Random::new(0x9A47),
             state: State::blank(),
@@ -167,53 +165,56 @@ impl File {
         }
     }
 
-    fn start(&mut self, kind: u8, answer: usize) {
-        self.out.start(kind);
-        *self.answers.entry((kind, answer)).or_default() += 1;
+    /// A change, of which nothing comes.
+    fn change(&mut self, kind: Kind, given: Part) {
+        let expected = Part::new();
+        self.out.push(Case {
+            kind,
+            given,
+            expected,
+        });
     }
 
-    fn verdict(&mut self, answer: usize, value: usize, out: &[u8]) {
-        self.out.one(answer);
-        self.out.two(value);
-        self.out.bytes(&digest(&self.state, out));
+    /// A call that gave the state that stands, with the buffer lent and what follows the verdict.
+    fn called(&mut self, kind: Kind, given: Part, answer: Answer, out: &[u8], more: &[u8]) {
+        *self.answers.entry((kind, valueless(answer))).or_default() += 1;
+        let verdict = Part::new().answer(answer).bytes(&digest(&self.state, out));
+        self.out.push(Case {
+            kind,
+            given,
+            expected: verdict.bytes(more),
+        });
     }
 
     fn open(&mut self, n: u64, t: u64, own: u64, message: &[u8]) {
         let (state, answer) = State::open(n, t, own, message);
         let (answer, root) = match answer {
-            Ok(root) => (ACCEPTED, root),
-            Err(refusal) => (refused(refusal.cause), [0; 32]),
+            Ok(root) => (Done(0), root),
+            Err(refusal) => (Refused(refusal.cause), [0; 32]),
         };
         self.state = state;
-        self.start(1, answer);
-        for number in [n, t, own] {
-            self.out.eight(number);
-        }
-        self.out.two(message.len());
-        self.out.bytes(&root);
-        self.verdict(answer, 0, &[]);
-        self.out.bytes(message);
+        let given = Part::new().eight(n).eight(t).eight(own).bytes(message);
+        self.called(Kind::Openings, given, answer, &[], &root);
     }
 
     /// What the call would give; the state stays.
-    fn tried(&self, call: &Call, out: &mut [u8]) -> (State, usize, usize) {
+    fn tried(&self, call: &Call, out: &mut [u8]) -> (State, Answer) {
         let state = self.state.clone();
-        let written = |length| (ACCEPTED, length);
         match call {
-            Call::Root(root) => told(state.agree_root(root), |happy| (ACCEPTED, happy.into())),
-            Call::Bit(bit) => told(state.agree_bit(*bit, out), written),
-            Call::Shares(inbox) => told(state.take_shares(inbox, out), written),
+            Call::Root(root) => told(state.agree_root(root), |happy| Done(happy.into())),
+            Call::Bit(bit) => told(state.agree_bit(*bit, out), Done),
+            Call::Shares(inbox) => told(state.take_shares(inbox, out), Done),
             Call::Relays(inbox) => told(state.take_relays(inbox, out), |found| {
-                found.map_or((NOTHING, 0), written)
+                found.map_or(Nothing, Done)
             }),
         }
     }
 
     /// The bytes that the call would write.
     fn needed(&self, call: &Call) -> usize {
-        match (call, self.tried(call, &mut [LENT; MOST_ROOM])) {
+        match (call, self.tried(call, &mut [UNTOUCHED; MOST_ROOM])) {
             (Call::Root(_), _) => 0,
-            (_, (_, ACCEPTED, length)) => length,
+            (_, (_, Done(length))) => length,
             _ => 0,
         }
     }
@@ -224,25 +225,19 @@ impl File {
             Call::Root(_) => 0,
             _ => room,
         };
-        let mut out = vec![LENT; room];
-        let (state, answer, value) = self.tried(call, &mut out);
+        let mut out = vec![UNTOUCHED; room];
+        let (state, answer) = self.tried(call, &mut out);
         self.state = state;
         if let Call::Shares(inbox) | Call::Relays(inbox) = call {
             self.put_inbox(inbox);
         }
-        self.start(kind(call), answer);
-        match call {
-            Call::Root(root) => self.out.one(root.len()),
-            Call::Bit(bit) => self.out.one((*bit).into()),
-            Call::Shares(inbox) | Call::Relays(inbox) => self.out.two(inbox.len()),
-        }
-        if !matches!(call, Call::Root(_)) {
-            self.out.two(room);
-        }
-        self.verdict(answer, value, &out);
-        if let Call::Root(root) = call {
-            self.out.bytes(root);
-        }
+        let (kind, given) = match call {
+            Call::Root(root) => (Kind::AgreedRoots, Part::new().bytes(root)),
+            Call::Bit(bit) => (Kind::AgreedBits, Part::new().two((*bit).into()).two(room)),
+            Call::Shares(inbox) => (Kind::FirstInboxes, Part::new().two(inbox.len()).two(room)),
+            Call::Relays(inbox) => (Kind::SecondInboxes, Part::new().two(inbox.len()).two(room)),
+        };
+        self.called(kind, given, answer, &out, &[]);
     }
 
     /// Has the reader's inbox start with these bytes; only what differs is written.
@@ -263,11 +258,8 @@ impl File {
             Place::Inbox => &mut self.inbox[..],
         };
         whole[at..at + bytes.len()].copy_from_slice(bytes);
-        self.start(8, ACCEPTED);
-        self.out.one(place as usize);
-        self.out.two(at);
-        self.out.two(bytes.len());
-        self.out.bytes(bytes);
+        let given = Part::new().one(place as usize).two(at).bytes(bytes);
+        self.change(Kind::BytesChanged, given);
     }
 
     fn number(&mut self, number: Number) -> &mut u64 {
@@ -282,28 +274,16 @@ impl File {
 
     /// Sets a number of the state, and gives the one that stood there.
     fn set(&mut self, number: Number, value: u64) -> u64 {
-        self.start(6, ACCEPTED);
-        self.out.one(number as usize);
-        self.out.eight(value);
+        let given = Part::new().one(number as usize).eight(value);
+        self.change(Kind::NumbersChanged, given);
         std::mem::replace(self.number(number), value)
     }
 
     fn set_stage(&mut self, stage: Stage) {
         let (number, length) = stage_number(stage);
         self.state.stage = stage;
-        self.start(7, ACCEPTED);
-        self.out.one(number.into());
-        self.out.eight(length);
-    }
-}
-
-/// The kind of a step's cases.
-fn kind(call: &Call) -> u8 {
-    match call {
-        Call::Root(_) => 2,
-        Call::Bit(_) => 3,
-        Call::Shares(_) => 4,
-        Call::Relays(_) => 5,
+        let given = Part::new().one(number.into()).eight(length);
+        self.change(Kind::StagesChanged, given);
     }
 }
 
@@ -1008,15 +988,37 @@ fn worked(file: &mut File) {
 }
 
 /// The answers that the calls of each kind are to have had, each several times.
-const WANTED: [(u8, &[usize]); 5] = [
-    (1, &[ACCEPTED, 101, 102, 103, 104]),
-    (2, &[ACCEPTED, 105, 106, 107]),
-    (3, &[ACCEPTED, 105, 106, 107, 109]),
-    (4, &[ACCEPTED, 105, 106, 108, 109]),
-    (5, &[ACCEPTED, NOTHING, 105, 106, 108, 109]),
+const WANTED: [(Kind, &[Answer]); 5] = [
+    (
+        Kind::Openings,
+        &[Done(0), Refused(1), Refused(2), Refused(3), Refused(4)],
+    ),
+    (
+        Kind::AgreedRoots,
+        &[Done(0), Refused(5), Refused(6), Refused(7)],
+    ),
+    (
+        Kind::AgreedBits,
+        &[Done(0), Refused(5), Refused(6), Refused(7), Short(0)],
+    ),
+    (
+        Kind::FirstInboxes,
+        &[Done(0), Refused(5), Refused(6), Refused(8), Short(0)],
+    ),
+    (
+        Kind::SecondInboxes,
+        &[
+            Done(0),
+            Nothing,
+            Refused(5),
+            Refused(6),
+            Refused(8),
+            Short(0),
+        ],
+    ),
 ];
 
-fn main() {
+pub fn cases() -> Vec<Case> {
     let mut file = File::new();
     worked(&mut file);
     openings(&mut file);
@@ -1028,18 +1030,22 @@ fn main() {
     swapped(&mut file);
     forged(&mut file);
     wander(&mut file);
-    file.out.finish();
-    eprintln!("by kind and answer: {:?}", file.answers);
-    let calls: usize = file
-        .answers
-        .range((2, 0)..(6, 0))
-        .map(|(_, times)| times)
-        .sum();
-    assert!(calls >= LEAST_CALLS, "{calls} calls");
-    for (kind, answers) in WANTED {
-        for &answer in answers {
-            let times = file.answers.get(&(kind, answer)).copied();
-            assert!(times >= Some(5), "kind {kind}, answer {answer}: {times:?}");
+    file.well_mixed();
+    file.out
+}
+
+impl File {
+    /// Stops the run unless there are calls enough of each kind and answer.
+    fn well_mixed(&self) {
+        let opening = |kind: &Kind| *kind == Kind::Openings;
+        let steps = self.answers.iter().filter(|((kind, _), _)| !opening(kind));
+        let calls: usize = steps.map(|(_, times)| times).sum();
+        assert!(calls >= LEAST_CALLS, "{calls} calls");
+        for (kind, answers) in WANTED {
+            for &answer in answers {
+                let times = self.answers.get(&(kind, answer)).copied();
+                assert!(times >= Some(5), "{kind:?}, {answer:?}: {times:?}");
+            }
         }
     }
 }
