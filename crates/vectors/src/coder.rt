@@ -4,11 +4,13 @@
 // 2, inverses: nothing. The 256 inverses of 0 to 255.
 // 3, powers: a (1), k (8). The power (1).
 // 4, encode, and 5, rebuild: n (2), t (2), the length of the buffer lent (4), the bytes. The answer, and the buffer.
+use crate::KINDS;
 use crate::answer;
 use crate::answer::ANSWER;
 use crate::answer::MALFORMED;
 use crate::answer::number_at;
 use buffer::Written;
+use stream::Tally;
 
 // The greatest length of a buffer lent.
 const MAX_ROOM: usize = 20_000;
@@ -78,4 +80,14 @@ fn call(encodes: bool, n: usize, t: usize, input: &[u8], out: &mut [u8]) -> Writ
     } else {
         erasure::rebuild(n, t, input, out)
     }
+}
+
+// A line for each kind that had cases.
+pub fn print(tallies: [Tally; KINDS], before: u64) -> u64 {
+    let mut failed = before;
+    failed = stream::print_tally(b"products", tallies[0], failed);
+    failed = stream::print_tally(b"inverses", tallies[1], failed);
+    failed = stream::print_tally(b"powers", tallies[2], failed);
+    failed = stream::print_tally(b"encode", tallies[3], failed);
+    stream::print_tally(b"rebuild", tallies[4], failed)
 }

@@ -19,7 +19,6 @@ use crate::steps::World;
 use session::MAX_TEXT;
 use stream::MAX_CASES;
 use stream::Next;
-use stream::Part;
 use stream::Tally;
 
 // The greatest length of what is handed in: several times the plan that is taken.
@@ -89,10 +88,7 @@ fn run(
         world = next;
         tallies[kind - 1] = tally;
         if !read {
-            return Outcome {
-                tallies,
-                whole: false,
-            };
+            left = 0;
         }
     }
     Outcome {
@@ -194,27 +190,10 @@ fn count_bytes(tally: Tally, out: &[u8], expected: &[u8]) -> Tally
 // A line for each kind that had cases, and the end.
 fn print(outcome: Outcome) {
     let tallies = outcome.tallies;
-    let mut failed = stream::print_tally(b"products", tallies[0], 0);
-    failed = stream::print_tally(b"inverses", tallies[1], failed);
-    failed = stream::print_tally(b"powers", tallies[2], failed);
-    failed = stream::print_tally(b"encode", tallies[3], failed);
-    failed = stream::print_tally(b"rebuild", tallies[4], failed);
-    failed = stream::print_tally(b"hashes", tallies[5], failed);
-    failed = stream::print_tally(b"trees", tallies[6], failed);
-    failed = stream::print_tally(b"checks", tallies[7], failed);
-    failed = stream::print_tally(b"path lengths", tallies[8], failed);
-    failed = stream::print_tally(b"reads", tallies[9], failed);
-    failed = stream::print_tally(b"judgements", tallies[10], failed);
-    failed = stream::print_tally(b"inboxes", tallies[11], failed);
-    failed = stream::print_tally(b"writes", tallies[12], failed);
-    failed = stream::print_tally(b"openings", tallies[13], failed);
-    failed = stream::print_tally(b"agreed roots", tallies[14], failed);
-    failed = stream::print_tally(b"agreed bits", tallies[15], failed);
-    failed = stream::print_tally(b"first inboxes", tallies[16], failed);
-    failed = stream::print_tally(b"second inboxes", tallies[17], failed);
-    failed = stream::print_tally(b"numbers changed", tallies[18], failed);
-    failed = stream::print_tally(b"stages changed", tallies[19], failed);
-    failed = stream::print_tally(b"bytes changed", tallies[20], failed);
+    let mut failed = coder::print(tallies, 0);
+    failed = tree::print(tallies, failed);
+    failed = packets::print(tallies, failed);
+    failed = steps::print(tallies, failed);
     failed = stream::print_tally(b"plans", tallies[21], failed);
     stream::print_end(failed, outcome.whole);
 }

@@ -6,6 +6,7 @@
 // 3, inboxes: n (1), the inbox. 1 if it is well laid out, else 0 (1).
 // 4, writes: n (2), the number (2), the count of hashes (1), the length of the buffer lent (2), the path's four hashes, the share. The
 // answer, and the buffer; then the same of the packet's entry, for which the buffer has two bytes more.
+use crate::KINDS;
 use crate::answer;
 use crate::answer::ANSWER;
 use crate::answer::Answer;
@@ -15,6 +16,7 @@ use crate::answer::spelled;
 use limits::MAX_PATH;
 use packet::Judged;
 use packet::Packet;
+use stream::Tally;
 
 // The length of what is told of a packet that is read.
 const TOLD: usize = ANSWER + 32;
@@ -161,4 +163,13 @@ fn writing(input: &[u8], out: &mut [u8]) -> usize {
     let entry = packet::write_entry(n, number, share, path, count, &mut out[from..end]);
     answer::put(out, behind, answer::written(entry));
     end
+}
+
+// A line for each kind that had cases.
+pub fn print(tallies: [Tally; KINDS], before: u64) -> u64 {
+    let mut failed = before;
+    failed = stream::print_tally(b"reads", tallies[9], failed);
+    failed = stream::print_tally(b"judgements", tallies[10], failed);
+    failed = stream::print_tally(b"inboxes", tallies[11], failed);
+    stream::print_tally(b"writes", tallies[12], failed)
 }

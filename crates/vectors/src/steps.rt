@@ -13,6 +13,7 @@
 // The verdict: the answer, and SHA-256 (32) of the state given back with SHA-256 of the buffer behind it, which is empty where none is
 // lent. The state for it: n, t, own (8 each), the stage as in 7 (1) with its message's length or 0 (8), len, held (8 each), the root,
 // the message's 1,024 bytes and the share's 1,026.
+use crate::KINDS;
 use crate::answer;
 use crate::answer::ANSWER;
 use crate::answer::Answer;
@@ -29,6 +30,7 @@ use party::Stage;
 use party::Step;
 use party::Vote;
 use party::Voted;
+use stream::Tally;
 
 const MAX_INBOX: usize = 8_000;
 
@@ -61,10 +63,16 @@ pub struct Moved {
     pub len: usize,
 }
 
-// What a call gave: the state, and the verdict on it.
+// The state that a call or a change gives, and how many bytes came of it.
 struct Called {
     state: Party,
-    verdict: [u8; VERDICT],
+    len: usize,
+}
+
+// What a step gave.
+struct Stepped {
+    state: Party,
+    answer: Answer,
 }
 
 // What the first case finds.
@@ -86,47 +94,63 @@ pub fn blank() -> World {
 }
 
 pub fn run(kind: usize, world: World, input: &[u8], out: &mut [u8]) -> Moved {
-    if kind == 1 {
-        return opening(world, input, out);
+    let mut inbox = world.inbox;
+    if kind == 8 && number_at(input, 0, 1) == 3 {
+        let len = put_bytes(&mut inbox, input);
+        let state = world.state;
+        return Moved {
+            world: World { state, inbox },
+            len,
+        };
     }
-    if kind == 2 {
-        return agreed_root(world, input, out);
+    let Called { state, len } = call(kind, world.state, &inbox, input, out);
+    Moved {
+        world: World { state, inbox },
+        len,
     }
-    if kind <= 5 {
-        let inbox = world.inbox;
-        return lent(kind, world, &inbox, input, out);
-    }
-    if kind == 6 {
-        return new_number(world, number_at(input, 0, 1), number_at(input, 1, 8));
-    }
-    if kind == 7 {
-        return new_stage(world, number_at(input, 0, 1), number_at(input, 1, 8));
-    }
-    new_bytes(world, input)
 }
 
-fn malformed(world: World) -> Moved {
-    Moved {
-        world,
+// What changes the state alone.
+fn call(kind: usize, state: Party, inbox: &[u8], input: &[u8], out: &mut [u8]) -> Called {
+    if kind == 1 {
+        return opening(state, input, out);
+    }
+    if kind == 2 {
+        return agreed_root(state, input, out);
+    }
+    if kind <= 5 {
+        return lent(kind, state, inbox, input, out);
+    }
+    if kind == 6 {
+        return new_number(state, number_at(input, 0, 1), number_at(input, 1, 8));
+    }
+    if kind == 7 {
+        return new_stage(state, number_at(input, 0, 1), number_at(input, 1, 8));
+    }
+    new_bytes(state, input)
+}
+
+fn malformed(state: Party) -> Called {
+    Called {
+        state,
         len: MALFORMED,
     }
 }
 
-fn opening(world: World, input: &[u8], out: &mut [u8]) -> Moved {
+fn opening(before: Party, input: &[u8], out: &mut [u8]) -> Called {
     if input.len() < 24 {
-        return malformed(world);
+        return malformed(before);
     }
     let n = number_at(input, 0, 8);
     let t = number_at(input, 8, 8);
     let own = number_at(input, 16, 8);
     let Opened { state, cause, root } = Party::open(n, t, own, &input[24..]);
     buffer::put(out, VERDICT, &root);
-    gives(
-        world,
-        with_verdict(state, opened(cause), b""),
-        VERDICT + 32,
-        out,
-    )
+    buffer::put(out, 0, &verdict(state, opened(cause), b""));
+    Called {
+        state,
+        len: VERDICT + 32,
+    }
 }
 
 fn opened(cause: u8) -> Answer {
@@ -136,21 +160,13 @@ fn opened(cause: u8) -> Answer {
     answer::refused(cause)
 }
 
-// A call's state goes on, and its verdict stands at the start of what came.
-fn gives(world: World, called: Called, len: usize, out: &mut [u8]) -> Moved {
-    let Called { state, verdict } = called;
-    let inbox = world.inbox;
-    buffer::put(out, 0, &verdict);
-    Moved {
-        world: World { state, inbox },
-        len,
-    }
-}
-
-fn agreed_root(world: World, root: &[u8], out: &mut [u8]) -> Moved {
-    let before = world.state;
+fn agreed_root(before: Party, root: &[u8], out: &mut [u8]) -> Called {
     let Voted { state, answer } = before.agree_root(root);
-    gives(world, with_verdict(state, voted(answer), b""), VERDICT, out)
+    buffer::put(out, 0, &verdict(state, voted(answer), b""));
+    Called {
+        state,
+        len: VERDICT,
+    }
 }
 
 fn voted(vote: Vote) -> Answer {
@@ -161,41 +177,55 @@ fn voted(vote: Vote) -> Answer {
 }
 
 // A step that a buffer is lent to, which lies behind the verdict.
-fn lent(kind: usize, world: World, inbox: &[u8], input: &[u8], out: &mut [u8]) -> Moved {
+fn lent(kind: usize, before: Party, inbox: &[u8], input: &[u8], out: &mut [u8]) -> Called {
     let given = number_at(input, 0, 2);
     if inbox.len() < given {
-        return malformed(world);
+        return malformed(before);
     }
     let room = number_at(input, 2, 2);
     if MAX_ROOM < room {
-        return malformed(world);
+        return malformed(before);
     }
     let end = VERDICT + room;
     if out.len() < end {
-        return malformed(world);
+        return malformed(before);
     }
-    let called = step(
+    let Stepped { state, answer } = step(
         kind,
-        world.state,
+        before,
         given,
         &inbox[0..given],
         &mut out[VERDICT..end],
     );
-    gives(world, called, VERDICT, out)
+    let bytes = verdict(state, answer, &out[VERDICT..end]);
+    buffer::put(out, 0, &bytes);
+    Called {
+        state,
+        len: VERDICT,
+    }
 }
 
 // Step 3 with a bit, or step 4 or 5 with an inbox.
-fn step(kind: usize, before: Party, bit: usize, inbox: &[u8], out: &mut [u8]) -> Called {
+fn step(kind: usize, before: Party, bit: usize, inbox: &[u8], out: &mut [u8]) -> Stepped {
     if kind == 3 {
-        let Step { state, answer } = before.agree_bit((bit % 256) as u8, out);
-        return with_verdict(state, answer::written(answer), out);
+        return written(before.agree_bit((bit % 256) as u8, out));
     }
     if kind == 4 {
-        let Step { state, answer } = before.take_shares(inbox, out);
-        return with_verdict(state, answer::written(answer), out);
+        return written(before.take_shares(inbox, out));
     }
     let Ended { state, answer } = before.take_relays(inbox, out);
-    with_verdict(state, settled(answer), out)
+    Stepped {
+        state,
+        answer: settled(answer),
+    }
+}
+
+fn written(step: Step) -> Stepped {
+    let Step { state, answer } = step;
+    Stepped {
+        state,
+        answer: answer::written(answer),
+    }
 }
 
 fn settled(answer: Settled) -> Answer {
@@ -207,13 +237,11 @@ fn settled(answer: Settled) -> Answer {
     }
 }
 
-// A call with its verdict.
-fn with_verdict(state: Party, answer: Answer, out: &[u8]) -> Called {
-    let mut verdict = [0u8; VERDICT];
-    let digest = digest_of(state, out);
-    answer::put(&mut verdict, 0, answer);
-    buffer::put(&mut verdict, ANSWER, &digest);
-    Called { state, verdict }
+fn verdict(state: Party, answer: Answer, out: &[u8]) -> [u8; VERDICT] {
+    let mut bytes = [0u8; VERDICT];
+    answer::put(&mut bytes, 0, answer);
+    buffer::put(&mut bytes, ANSWER, &digest_of(state, out));
+    bytes
 }
 
 // The digest that a verdict gives.
@@ -281,17 +309,16 @@ fn stage_of(number: usize, len: usize) -> Stage {
     }
 }
 
-// A change's case: nothing comes of it, if it can be made.
-fn changed(state: Party, inbox: [u8; MAX_INBOX], good: bool) -> Moved {
-    Moved {
-        world: World { state, inbox },
-        len: if good { 0 } else { MALFORMED },
+// A change: nothing comes of it, if it can be made.
+fn changed(state: Party, good: bool) -> Called {
+    if good {
+        return Called { state, len: 0 };
     }
+    malformed(state)
 }
 
-fn new_number(world: World, place: usize, number: usize) -> Moved {
-    let mut state = world.state;
-    let inbox = world.inbox;
+fn new_number(old: Party, place: usize, number: usize) -> Called {
+    let mut state = old;
     match place {
         0 => state.n = number,
         1 => state.t = number,
@@ -299,12 +326,10 @@ fn new_number(world: World, place: usize, number: usize) -> Moved {
         3 => state.len = number,
         _ => state.held = number,
     }
-    changed(state, inbox, place <= 4)
+    changed(state, place <= 4)
 }
 
-fn new_stage(world: World, number: usize, len: usize) -> Moved {
-    let old = world.state;
-    let inbox = world.inbox;
+fn new_stage(old: Party, number: usize, len: usize) -> Called {
     let message = old.message;
     let root = old.root;
     let share = old.share;
@@ -319,51 +344,67 @@ fn new_stage(world: World, number: usize, len: usize) -> Moved {
         share,
         held: old.held,
     };
-    changed(state, inbox, number <= 5)
+    changed(state, number <= 5)
 }
 
-// Bytes put into the state or the inbox.
-fn new_bytes(world: World, input: &[u8]) -> Moved {
-    if input.len() < 3 {
-        return malformed(world);
-    }
+fn new_bytes(state: Party, input: &[u8]) -> Called {
     let place = number_at(input, 0, 1);
-    let at = number_at(input, 1, 2);
-    let state = world.state;
-    let mut inbox = world.inbox;
     if place == 0 {
-        return new_message(state, inbox, at, &input[3..]);
+        return new_message(state, input);
     }
     if place == 1 {
-        return new_root(state, inbox, at, &input[3..]);
+        return new_root(state, input);
     }
     if place == 2 {
-        return new_share(state, inbox, at, &input[3..]);
+        return new_share(state, input);
     }
-    let fits = buffer::put(&mut inbox, at, &input[3..]);
-    changed(state, inbox, fits && place == 3)
+    malformed(state)
 }
 
-fn new_message(old: Party, inbox: [u8; MAX_INBOX], at: usize, bytes: &[u8]) -> Moved {
+fn new_message(old: Party, input: &[u8]) -> Called {
     let mut state = old;
     let mut message = old.message;
-    let fits = buffer::put(&mut message, at, bytes);
+    let len = put_bytes(&mut message, input);
     state.message = message;
-    changed(state, inbox, fits)
+    Called { state, len }
 }
 
-fn new_root(old: Party, inbox: [u8; MAX_INBOX], at: usize, bytes: &[u8]) -> Moved {
+fn new_root(old: Party, input: &[u8]) -> Called {
     let mut state = old;
     let mut root = old.root;
-    let fits = buffer::put(&mut root, at, bytes);
+    let len = put_bytes(&mut root, input);
     state.root = root;
-    changed(state, inbox, fits)
+    Called { state, len }
 }
 
-fn new_share(old: Party, inbox: [u8; MAX_INBOX], at: usize, bytes: &[u8]) -> Moved {
+fn new_share(old: Party, input: &[u8]) -> Called {
     let mut state = old;
     let mut share = old.share;
-    let fits = buffer::put(&mut share, at, bytes);
+    let len = put_bytes(&mut share, input);
     state.share = share;
-    changed(state, inbox, fits)
+    Called { state, len }
+}
+
+// Changes bytes from a place on.
+fn put_bytes(bytes: &mut [u8], input: &[u8]) -> usize {
+    if input.len() < 3 {
+        return MALFORMED;
+    }
+    if buffer::put(bytes, number_at(input, 1, 2), &input[3..]) {
+        return 0;
+    }
+    MALFORMED
+}
+
+// A line for each kind that had cases.
+pub fn print(tallies: [Tally; KINDS], before: u64) -> u64 {
+    let mut failed = before;
+    failed = stream::print_tally(b"openings", tallies[13], failed);
+    failed = stream::print_tally(b"agreed roots", tallies[14], failed);
+    failed = stream::print_tally(b"agreed bits", tallies[15], failed);
+    failed = stream::print_tally(b"first inboxes", tallies[16], failed);
+    failed = stream::print_tally(b"second inboxes", tallies[17], failed);
+    failed = stream::print_tally(b"numbers changed", tallies[18], failed);
+    failed = stream::print_tally(b"stages changed", tallies[19], failed);
+    stream::print_tally(b"bytes changed", tallies[20], failed)
 }

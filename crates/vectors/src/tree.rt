@@ -7,6 +7,7 @@
 // answer: done with 1 for yes and 0 for no.
 // 4, path lengths: n (1). For each leaf the answer to its path's length.
 ghost use Prim.Native.Nat.{_≤_};
+use crate::KINDS;
 use crate::answer;
 use crate::answer::ANSWER;
 use crate::answer::Answer;
@@ -17,6 +18,7 @@ use limits::MAX_PATH;
 use merkle::Checked;
 use merkle::Counted;
 use merkle::Hash;
+use stream::Tally;
 
 // The length of a path's hashes, and the same with the answer to its length.
 const PATH: usize = MAX_PATH * 32;
@@ -143,4 +145,13 @@ fn path_lengths(n: usize, out: &mut [u8]) -> usize {
         answer::put(out, at, counted(merkle::path_length(n, j)));
     }
     n * ANSWER
+}
+
+// A line for each kind that had cases.
+pub fn print(tallies: [Tally; KINDS], before: u64) -> u64 {
+    let mut failed = before;
+    failed = stream::print_tally(b"hashes", tallies[5], failed);
+    failed = stream::print_tally(b"trees", tallies[6], failed);
+    failed = stream::print_tally(b"checks", tallies[7], failed);
+    stream::print_tally(b"path lengths", tallies[8], failed)
 }

@@ -49,17 +49,20 @@ mul-tallies c = search needs
 array-set-from-tallies : tie.Need-array-set-from-tallies Inv-loop μ-loop
 array-set-from-tallies c = search needs
 
-returns-2 : tie.Need-returns-2 Inv-loop μ-loop
-returns-2 c = search needs
-
 loop-less : tie.Need-loop-less Inv-loop μ-loop
 loop-less c = search needs
 
 loop-again : tie.Need-loop-again Inv-loop μ-loop
 loop-again c = search needs
 
-returns-3 : tie.Need-returns-3 Inv-loop μ-loop
-returns-3 c = search needs
+loop-less-2 : tie.Need-loop-less-2 Inv-loop μ-loop
+loop-less-2 c = search needs
+
+loop-again-2 : tie.Need-loop-again-2 Inv-loop μ-loop
+loop-again-2 c = search needs
+
+returns-2 : tie.Need-returns-2 Inv-loop μ-loop
+returns-2 c = search needs
 
 pub run-spec : {M : Type 1} → statement M
 run-spec =
@@ -80,7 +83,8 @@ run-spec =
     sub-tallies
     mul-tallies
     array-set-from-tallies
-    returns-2
     loop-less
     loop-again
-    returns-3)
+    loop-less-2
+    loop-again-2
+    returns-2)
