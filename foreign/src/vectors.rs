@@ -44,7 +44,7 @@ pub enum Kind {
 /// The value of each byte of a lent buffer before a call.
 pub const UNTOUCHED: u8 = 0xA5;
 
-#[derive(Clone)]
+#[derive(Clone, PartialEq, Eq)]
 pub struct Case {
     pub kind: Kind,
     pub given: Part,
@@ -123,24 +123,37 @@ pub fn all() -> impl Iterator<Item = Case> {
         .chain(plans::cases(None, 1))
 }
 
-/// A few cases of the kind with this number, of which the second, or the only one, is told a
-/// wrong outcome. The calls on a party stand behind all that come before them.
-pub fn wrong(number: u8) -> Vec<Case> {
-    let mut cases = match number {
+/// The calls on a party, which need all that come before them.
+const CALLS: std::ops::RangeInclusive<u8> = Kind::Openings as u8..=Kind::BytesChanged as u8;
+
+/// The cases among which those of the kind with this number stand.
+fn around(number: u8) -> Vec<Case> {
+    match number {
         1..=5 => coder::cases(),
         6..=9 => tree::cases(),
         10..=13 => packet::cases(),
         14..=21 => party::cases(),
         _ => plans::cases(Some(3), 1).collect(),
-    };
+    }
+}
+
+/// A short stream's cases, of which the second of the kind with this number, or the only one, is
+/// told a wrong outcome.
+pub fn wrong(number: u8) -> Vec<Case> {
+    spoilt(number, around(number))
+}
+
+/// Up to three of the cases with this number, one of them spoilt; calls on a party behind all that
+/// come before them.
+fn spoilt(number: u8, mut cases: Vec<Case>) -> Vec<Case> {
     let numbered = |case: &Case| case.kind as u8 == number;
-    if !(14..=21).contains(&number) {
+    if !CALLS.contains(&number) {
         cases.retain(numbered);
     }
-    let places: Vec<usize> = (0..cases.len()).filter(|&k| numbered(&cases[k])).collect();
-    let last = places.len().min(3) - 1;
-    cases.truncate(places[last] + 1);
-    let Part(expected) = &mut cases[places[last.min(1)]].expected;
+    let places = (0..cases.len()).filter(|&place| numbered(&cases[place]));
+    let places: Vec<usize> = places.take(3).collect();
+    cases.truncate(places.last().expect("a kind") + 1);
+    let Part(expected) = &mut cases[places[places.len().min(2) - 1]].expected;
     match expected.last_mut() {
         Some(byte) => *byte ^= 1,
         None => expected.push(0),
@@ -158,4 +171,36 @@ pub fn write(cases: impl IntoIterator<Item = Case>, out: &mut impl Write) -> Res
         }
     }
     out.write_all(&[0])
+}
+
+#[cfg(test)]
+mod tests {
+    use super::*;
+
+    #[test]
+    fn one_case_is_wrong() {
+        for numbers in [1..=5, 6..=9, 10..=13, 14..=21, 22..=22] {
+            let cases = around(*numbers.start());
+            for number in numbers {
+                let right = |case: &Case| cases.contains(case);
+                let spoilt = spoilt(number, cases.clone());
+                let wrong: Vec<&Case> = spoilt.iter().filter(|case| !right(case)).collect();
+                assert_eq!(wrong.len(), 1);
+                assert_eq!(wrong[0].kind as u8, number);
+            }
+        }
+    }
+
+    #[test]
+    fn a_stream_is_its_cases_and_a_zero() {
+        let case = Case {
+            kind: Kind::Powers,
+            given: Part::new().one(2).eight(3),
+            expected: Part::new().one(8),
+        };
+        let mut stream = Vec::new();
+        write([case], &mut stream).expect("a vector takes all");
+        let given = [0, 0, 0, 9, 2, 0, 0, 0, 0, 0, 0, 0, 3];
+        assert_eq!(stream, [&[3][..], &given, &[0, 0, 0, 1, 8], &[0]].concat());
+    }
 }
