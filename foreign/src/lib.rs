@@ -14,4 +14,4 @@ pub mod rehearsal;
 pub mod sha256;
 pub mod tally;
 pub mod tree;
-pub mod writer;
+pub mod vectors;

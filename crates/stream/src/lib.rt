@@ -1,13 +1,17 @@
-// What the programs that run test vectors share: they read a stream of cases from standard input, count them and print the counts.
+// A stream of test cases on standard input: its kinds and parts are read, its cases counted, and the counts printed.
+//
+// The stream is a sequence of cases, read front to back; numbers are big-endian. A case is its kind (1 byte, from 1 on) and two parts:
+// what is handed in, and what must come of it. A part is its length (4 bytes) and as many bytes. Byte 0 stands at the end, with nothing
+// after it.
 //
 // No contract can say what is read or written.
 ghost use mathlib.Core.Path.{_≡_};
-ghost use mathlib.Core.Bool.{true, false, _&&_};
+ghost use mathlib.Core.Bool.{true, _&&_};
 ghost use Prim.Native.Nat.{_≤_, _<_};
 ghost use lib.Dec.{eqb};
 ghost use lib.ListN.{length, drop, replicate};
 ghost use Rattle.stream.specs.Number.{spelled};
-ghost use Rattle.stream.specs.Tally.{_⊞_, countedOf, cutOf};
+ghost use Rattle.stream.specs.Tally.{_⊞_, countedOf};
 use std::num::wrapping_add_u64;
 
 // The descriptors of standard input and output.
@@ -15,29 +19,27 @@ const IN: i32 = 0;
 
 const OUT: i32 = 1;
 
-// A program's loop over cases needs a bound; a stream with more of them counts as broken.
+// The loop over cases needs a bound; a stream with more of them counts as broken.
 pub const MAX_CASES: usize = 1_000_000;
 
 // The numbers below this have room for one more byte behind them.
 const ROOMY: usize = 1 << 56;
 
-// The cases of one kind: how many agreed and failed, the running number of the first that failed, and whether one was broken off.
+// The cases of one kind: how many agreed and failed, and the running number of the first that failed.
 pub struct Tally {
     pub agreed: u64,
     pub failed: u64,
     pub first: u64,
-    pub broken: bool,
 }
 
 impl Tally {
     pub fn none() -> Tally
-        ensures { λ r. ⌜ r ≡ record { agreed = 0; failed = 0; first = 0; broken = false } ⌝ }
+        ensures { λ r. ⌜ r ≡ record { agreed = 0; failed = 0; first = 0 } ⌝ }
     {
         Tally {
             agreed: 0,
             failed: 0,
             first: 0,
-            broken: false,
         }
     }
 
@@ -56,15 +58,6 @@ impl Tally {
         }
         tally
     }
-
-    // With a case that the stream does not give as it should.
-    pub fn cut(self) -> Tally
-        ensures { λ r. ⌜ r ≡ cutOf self ⌝ }
-    {
-        let mut tally = self;
-        tally.broken = true;
-        tally
-    }
 }
 
 // The kind of the next case. 0: there is none, and `whole` tells whether the stream ended there as it should.
@@ -73,7 +66,7 @@ pub struct Next {
     pub whole: bool,
 }
 
-// Reads the byte that each case starts with. Kinds are numbered from 1; byte 0 stands at the end, with nothing after it.
+// Reads the byte that a case starts with, or that the stream ends with.
 pub fn read_kind(kinds: usize) -> Next
     ensures { λ r. ⌜ (r .kind ≤ kinds) × (0 < r .kind → r .whole ≡ true) ⌝ }
 {
@@ -105,22 +98,40 @@ fn at_end() -> bool {
 }
 
 // Fills a buffer from the stream; tells whether the stream had as many bytes.
-pub fn read(buffer: &mut [u8]) -> bool
+fn read(buffer: &mut [u8]) -> bool
     ensures { λ _. ⌜ length (now (buffer .exit)) ≡ length (now (buffer .entry)) ⌝ }
 {
     let got = io::read_full(IN, buffer);
     got == buffer.len()
 }
 
-// Fills the first bytes of a buffer from the stream and leaves the others; tells whether the buffer and the stream had as many.
-pub fn read_start(buffer: &mut [u8], len: usize) -> bool
-    ensures { λ _. ⌜ (length (now (buffer .exit)) ≡ length (now (buffer .entry)))
-        × (drop len (now (buffer .exit)) ≡ drop len (now (buffer .entry))) ⌝ }
+// A part of a case, at the start of a buffer: its length, and whether the buffer and the stream had as many bytes.
+pub struct Part {
+    pub len: usize,
+    pub whole: bool,
+}
+
+// Reads a part, and leaves the bytes of the buffer behind it.
+pub fn read_part(buffer: &mut [u8]) -> Part
+    ensures { λ r. ⌜ (r .len ≤ length (now (buffer .exit))) × (length (now (buffer .exit)) ≡ length (now (buffer .entry)))
+        × (drop (r .len) (now (buffer .exit)) ≡ drop (r .len) (now (buffer .entry))) ⌝ }
 {
-    if buffer.len() < len {
-        return false;
+    let mut front = [0u8; 4];
+    if !read(&mut front) {
+        return Part {
+            len: 0,
+            whole: false,
+        };
     }
-    read(&mut buffer[..len])
+    let len = number(&front);
+    if buffer.len() < len {
+        return Part {
+            len: 0,
+            whole: false,
+        };
+    }
+    let whole = read(&mut buffer[..len]);
+    Part { len, whole }
 }
 
 // Sets each byte of a buffer to a value.
@@ -154,17 +165,24 @@ pub fn wide(x: u8) -> usize
     x as usize
 }
 
-// Prints how many cases of a kind agreed and, if any failed, which was the first. Gives a number of failed cases with those of this kind.
+// Prints the cases of a kind, if there were any. Gives a number of failed cases with those of this kind.
 pub fn print_tally(name: &[u8], tally: Tally, failed: u64) -> u64
     ensures { λ r. ⌜ r ≡ failed ⊞ tally .failed ⌝ }
 {
+    if tally.agreed != 0 || tally.failed != 0 {
+        print_counts(name, tally);
+    }
+    wrapping_add_u64(failed, tally.failed)
+}
+
+// Prints how many cases of a kind agreed and, if any failed, which was the first.
+fn print_counts(name: &[u8], tally: Tally) {
     io::write_all(OUT, name);
     print_line(b" ", tally.agreed);
     if tally.failed != 0 {
         io::write_all(OUT, name);
         print_line(b" failed first at case ", tally.first);
     }
-    wrapping_add_u64(failed, tally.failed)
 }
 
 // Prints how many cases failed, and whether the stream was broken. Tells whether all was well.

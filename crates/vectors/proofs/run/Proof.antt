@@ -1,18 +1,20 @@
--- `vectors::run` is safe and ends: the measure is the number of cases that are left to the budget, and the buffers keep their lengths. Assumes nothing.
-use mathlib.Core.Path.{_≡_}
-use lib.ListN.{length}
+-- `vectors::run` is safe and ends: the measure is the number of cases that are left to the budget. Assumes nothing.
+use Prim.Native.Nat.{_≤_}
 use borrow.Author.Needs.{needs}
 use Rattle.vectors.proofs.run.Statement.{statement}
 use Rattle.vectors.proofs.run.Tie as tie
 
 abbrev Inv-loop : tie.InvT-loop
-Inv-loop input₀ expected₀ out₀ tallies₀ left₀ input expected out tallies left = (length input ≡ length input₀) × (length expected ≡ length expected₀) × (length out ≡ length out₀)
+Inv-loop input₀ expected₀ out₀ tallies₀ world₀ left₀ input expected out tallies world left = left ≤ 1000000
 
 abbrev μ-loop : tie.MeasureT-loop
-μ-loop input₀ expected₀ out₀ tallies₀ left₀ input expected out tallies left = left
+μ-loop input₀ expected₀ out₀ tallies₀ world₀ left₀ input expected out tallies world left = left
 
 none-requires : tie.Need-none-requires Inv-loop μ-loop
 none-requires c κs = search needs
+
+blank-requires : tie.Need-blank-requires Inv-loop μ-loop
+blank-requires c κs = search needs
 
 loop-holds : tie.Need-loop-holds Inv-loop μ-loop
 loop-holds c = search needs
@@ -22,15 +24,6 @@ sub-left c = search needs
 
 read-kind-requires : tie.Need-read-kind-requires Inv-loop μ-loop
 read-kind-requires c κs = search needs
-
-same-length : tie.Need-same-length Inv-loop μ-loop
-same-length c = search needs
-
-same-length-2 : tie.Need-same-length-2 Inv-loop μ-loop
-same-length-2 c = search needs
-
-same-length-3 : tie.Need-same-length-3 Inv-loop μ-loop
-same-length-3 c = search needs
 
 returns : tie.Need-returns Inv-loop μ-loop
 returns c = search needs
@@ -56,35 +49,20 @@ mul-tallies c = search needs
 array-set-from-tallies : tie.Need-array-set-from-tallies Inv-loop μ-loop
 array-set-from-tallies c = search needs
 
-same-length-4 : tie.Need-same-length-4 Inv-loop μ-loop
-same-length-4 c = search needs
-
-same-length-5 : tie.Need-same-length-5 Inv-loop μ-loop
-same-length-5 c = search needs
-
-same-length-6 : tie.Need-same-length-6 Inv-loop μ-loop
-same-length-6 c = search needs
-
-returns-2 : tie.Need-returns-2 Inv-loop μ-loop
-returns-2 c = search needs
-
 loop-less : tie.Need-loop-less Inv-loop μ-loop
 loop-less c = search needs
 
 loop-again : tie.Need-loop-again Inv-loop μ-loop
 loop-again c = search needs
 
-same-length-7 : tie.Need-same-length-7 Inv-loop μ-loop
-same-length-7 c = search needs
+loop-less-2 : tie.Need-loop-less-2 Inv-loop μ-loop
+loop-less-2 c = search needs
 
-same-length-8 : tie.Need-same-length-8 Inv-loop μ-loop
-same-length-8 c = search needs
+loop-again-2 : tie.Need-loop-again-2 Inv-loop μ-loop
+loop-again-2 c = search needs
 
-same-length-9 : tie.Need-same-length-9 Inv-loop μ-loop
-same-length-9 c = search needs
-
-returns-3 : tie.Need-returns-3 Inv-loop μ-loop
-returns-3 c = search needs
+returns-2 : tie.Need-returns-2 Inv-loop μ-loop
+returns-2 c = search needs
 
 pub run-spec : {M : Type 1} → statement M
 run-spec =
@@ -93,12 +71,10 @@ run-spec =
     Inv-loop
     μ-loop
     none-requires
+    blank-requires
     loop-holds
     sub-left
     read-kind-requires
-    same-length
-    same-length-2
-    same-length-3
     returns
     sub-run-case
     mul-run-case
@@ -107,13 +83,8 @@ run-spec =
     sub-tallies
     mul-tallies
     array-set-from-tallies
-    same-length-4
-    same-length-5
-    same-length-6
-    returns-2
     loop-less
     loop-again
-    same-length-7
-    same-length-8
-    same-length-9
-    returns-3)
+    loop-less-2
+    loop-again-2
+    returns-2)

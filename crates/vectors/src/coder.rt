@@ -1,0 +1,93 @@
+// The field and the erasure code.
+//
+// 1, products: a (1 byte). Its 256 products with 0 to 255.
+// 2, inverses: nothing. The 256 inverses of 0 to 255.
+// 3, powers: a (1), k (8). The power (1).
+// 4, encode, and 5, rebuild: n (2), t (2), the length of the buffer lent (4), the bytes. The answer, and the buffer.
+use crate::KINDS;
+use crate::answer;
+use crate::answer::ANSWER;
+use crate::answer::MALFORMED;
+use crate::answer::number_at;
+use buffer::Written;
+use stream::Tally;
+
+// The greatest length of a buffer lent.
+const MAX_ROOM: usize = 20_000;
+
+// The bytes in front of what is encoded or rebuilt.
+const FRONT: usize = 8;
+
+pub fn run(kind: usize, input: &[u8], out: &mut [u8]) -> usize {
+    if kind == 1 {
+        return row(true, number_at(input, 0, 1), out);
+    }
+    if kind == 2 {
+        return row(false, 0, out);
+    }
+    if kind == 3 {
+        return power(number_at(input, 0, 1), number_at(input, 1, 8), out);
+    }
+    coding(kind == 4, input, out)
+}
+
+// The products of a number, or the inverses.
+fn row(products: bool, number: usize, out: &mut [u8]) -> usize {
+    let a = (number % 256) as u8;
+    let mut bytes = [0u8; 256];
+    let mut i: usize = 0;
+    while i < 256 {
+        let b = (i % 256) as u8;
+        bytes[i] = if products {
+            gf256::mul(a, b)
+        } else {
+            gf256::inv(b)
+        };
+        i += 1;
+    }
+    buffer::put(out, 0, &bytes);
+    256
+}
+
+fn power(number: usize, k: usize, out: &mut [u8]) -> usize {
+    let a = (number % 256) as u8;
+    answer::put_byte(out, gf256::pow(a, k))
+}
+
+// One call of the erasure code.
+fn coding(encodes: bool, input: &[u8], out: &mut [u8]) -> usize {
+    if input.len() < FRONT {
+        return MALFORMED;
+    }
+    let room = number_at(input, 4, 4);
+    if MAX_ROOM < room {
+        return MALFORMED;
+    }
+    let end = ANSWER + room;
+    if out.len() < end {
+        return MALFORMED;
+    }
+    let n = number_at(input, 0, 2);
+    let t = number_at(input, 2, 2);
+    let got = call(encodes, n, t, &input[FRONT..], &mut out[ANSWER..end]);
+    answer::put(out, 0, answer::written(got));
+    end
+}
+
+fn call(encodes: bool, n: usize, t: usize, input: &[u8], out: &mut [u8]) -> Written {
+    if encodes {
+        erasure::encode(n, t, input, out)
+    } else {
+        erasure::rebuild(n, t, input, out)
+    }
+}
+
+// A line for each kind that had cases.
+pub fn print(tallies: [Tally; KINDS], before: u64) -> u64 {
+    let mut failed = before;
+    failed = stream::print_tally(b"products", tallies[0], failed);
+    failed = stream::print_tally(b"inverses", tallies[1], failed);
+    failed = stream::print_tally(b"powers", tallies[2], failed);
+    failed = stream::print_tally(b"encode", tallies[3], failed);
+    stream::print_tally(b"rebuild", tallies[4], failed)
+}

@@ -1,0 +1,175 @@
+// The packets and the inbox layout.
+//
+// 1, reads: n (2 bytes), the packet. What is read of the packet, and of the packet at place 0 of the bytes: each the answer (done with 1
+// for a share and 0 for silence), and the share's number, place and length and the count of hashes (8 each, 0 where there is no share).
+// 2, judgements: n (2), j (2), the root (32), the packet. The same, with answer 2 for a faulty packet and no number.
+// 3, inboxes: n (1), the inbox. 1 if it is well laid out, else 0 (1).
+// 4, writes: n (2), the number (2), the count of hashes (1), the length of the buffer lent (2), the path's four hashes, the share. The
+// answer, and the buffer; then the same of the packet's entry, for which the buffer has two bytes more.
+use crate::KINDS;
+use crate::answer;
+use crate::answer::ANSWER;
+use crate::answer::Answer;
+use crate::answer::MALFORMED;
+use crate::answer::number_at;
+use crate::answer::spelled;
+use limits::MAX_PATH;
+use packet::Judged;
+use packet::Packet;
+use stream::Tally;
+
+// The length of what is told of a packet that is read.
+const TOLD: usize = ANSWER + 32;
+
+// The bytes of a judgement in front of its packet.
+const JUDGED: usize = 36;
+
+// The bytes of a writing in front of its path and of its share.
+const AT_PATH: usize = 7;
+
+const AT_SHARE: usize = AT_PATH + MAX_PATH * 32;
+
+// The greatest length of a buffer lent.
+const MAX_ROOM: usize = 2_000;
+
+pub fn run(kind: usize, input: &[u8], out: &mut [u8]) -> usize {
+    if kind == 1 {
+        return reading(input, out);
+    }
+    if kind == 2 {
+        return judgement(input, out);
+    }
+    if kind == 3 {
+        return inbox(input, out);
+    }
+    writing(input, out)
+}
+
+fn reading(input: &[u8], out: &mut [u8]) -> usize {
+    if input.len() < 2 {
+        return MALFORMED;
+    }
+    let n = number_at(input, 0, 2);
+    put_told(read(packet::read(&input[2..], n)), 0, out);
+    put_told(read(packet::read_at(n, &input[2..], 0)), TOLD, out);
+    2 * TOLD
+}
+
+// What is told of a packet.
+struct Told {
+    answer: Answer,
+    number: usize,
+    from: usize,
+    len: usize,
+    count: usize,
+}
+
+// The same of one without a share.
+fn shareless(answer: Answer) -> Told {
+    Told {
+        answer,
+        number: 0,
+        from: 0,
+        len: 0,
+        count: 0,
+    }
+}
+
+fn read(got: Packet) -> Told {
+    match got {
+        Packet::Refused(cause) => shareless(answer::refused(cause)),
+        Packet::Silence => shareless(answer::done(0)),
+        Packet::Share {
+            number,
+            from,
+            len,
+            count,
+        } => Told {
+            answer: answer::done(1),
+            number,
+            from,
+            len,
+            count,
+        },
+    }
+}
+
+fn put_told(told: Told, at: usize, out: &mut [u8]) {
+    let mut bytes = [0u8; TOLD];
+    answer::put(&mut bytes, 0, told.answer);
+    buffer::put(&mut bytes, 9, &spelled(told.number));
+    buffer::put(&mut bytes, 17, &spelled(told.from));
+    buffer::put(&mut bytes, 25, &spelled(told.len));
+    buffer::put(&mut bytes, 33, &spelled(told.count));
+    buffer::put(out, at, &bytes);
+}
+
+fn judgement(input: &[u8], out: &mut [u8]) -> usize {
+    if input.len() < JUDGED {
+        return MALFORMED;
+    }
+    let n = number_at(input, 0, 2);
+    let j = number_at(input, 2, 2);
+    let got = packet::judge(n, j, &input[4..JUDGED], &input[JUDGED..]);
+    put_told(judged(got), 0, out);
+    TOLD
+}
+
+fn judged(got: Judged) -> Told {
+    match got {
+        Judged::Refused(cause) => shareless(answer::refused(cause)),
+        Judged::Silent => shareless(answer::done(0)),
+        Judged::Faulty => shareless(answer::done(2)),
+        Judged::Valid { from, len, count } => Told {
+            answer: answer::done(1),
+            number: 0,
+            from,
+            len,
+            count,
+        },
+    }
+}
+
+fn inbox(input: &[u8], out: &mut [u8]) -> usize {
+    if input.len() < 1 {
+        return MALFORMED;
+    }
+    let n = number_at(input, 0, 1);
+    let well = buffer::laid_out(&input[1..], n);
+    answer::put_byte(out, if well { 1 } else { 0 })
+}
+
+fn writing(input: &[u8], out: &mut [u8]) -> usize {
+    if input.len() < AT_SHARE {
+        return MALFORMED;
+    }
+    let room = number_at(input, 5, 2);
+    if MAX_ROOM < room {
+        return MALFORMED;
+    }
+    let behind = ANSWER + room;
+    let from = behind + ANSWER;
+    let end = from + room + 2;
+    if out.len() < end {
+        return MALFORMED;
+    }
+    let n = number_at(input, 0, 2);
+    let number = number_at(input, 2, 2);
+    let count = number_at(input, 4, 1);
+    let path = packet::path_at(input, AT_PATH, MAX_PATH);
+    let share = &input[AT_SHARE..];
+    let got = packet::write(n, number, share, path, count, &mut out[ANSWER..behind]);
+    answer::put(out, 0, answer::written(got));
+    let entry = packet::write_entry(n, number, share, path, count, &mut out[from..end]);
+    answer::put(out, behind, answer::written(entry));
+    end
+}
+
+// A line for each kind that had cases.
+pub fn print(tallies: [Tally; KINDS], before: u64) -> u64 {
+    let mut failed = before;
+    failed = stream::print_tally(b"reads", tallies[9], failed);
+    failed = stream::print_tally(b"judgements", tallies[10], failed);
+    failed = stream::print_tally(b"inboxes", tallies[11], failed);
+    stream::print_tally(b"writes", tallies[12], failed)
+}

@@ -1,0 +1,637 @@
+//! The field and the erasure code.
+//!
+//! - Products: a (1 byte). Its 256 products with 0 to 255.
+//! - Inverses: nothing. The 256 inverses of 0 to 255 (0 for 0).
+//! - Powers: a (1), k (8). The power (1).
+//! - Encode, and rebuild: n (2), t (2), the length of the buffer lent (4), the message or the
+//!   entries. The answer, and the buffer, in which every byte past those written is untouched.
+//!
+//! Messages and entries have at most 70,000 bytes, buffers 20,000.
+
+use super::{Case, Kind, Part, UNTOUCHED};
+use crate::coder::{self, frame_of, share_length, shares_of, Answer, Answer::*};
+use crate::field;
+use crate::random::Random;
+
+const MOST_INPUT: usize = 70_000;
+const MOST_ROOM: usize = 20_000;
+
+/// Pairs n, t on which wrongly made frames are tried.
+const CHOSEN: [(usize, usize); 10] = [
+    (1, 0),
+    (2, 0),
+    (3, 0),
+    (3, 1),
+    (4, 1),
+    (5, 2),
+    (8, 3),
+    (9, 4),
+    (16, 0),
+    (16, 7),
+];
+
+type Shares = Vec<Vec<u8>>;
+type Call = fn(usize, usize, &[u8], &mut [u8]) -> Answer;
+
+/// The cases so far, and the source of randomness.
+struct File {
+    out: Vec<Case>,
+    random: Random,
+}
+
+impl File {
+    /// Runs one call and writes it as a case; gives the answer and what was written.
+    fn case(
+        &mut self,
+        kind: Kind,
+        (n, t): (usize, usize),
+        input: &[u8],
+        room: usize,
+    ) -> (Answer, Vec<u8>) {
+        assert!(input.len() <= MOST_INPUT && room <= MOST_ROOM);
+        let call: Call = if kind == Kind::Encode {
+            coder::encode
+        } else {
+            coder::rebuild
+        };
+        let mut out = vec![UNTOUCHED; room];
+        let answer = call(n, t, input, &mut out);
+        let (told, written) = match answer {
+            Refused(cause) => (super::Answer::Refused(cause), 0),
+            Short(length) => (super::Answer::Short(length), 0),
+            Done(length) => (super::Answer::Done(length), length),
+        };
+        assert!(out[written..].iter().all(|&x| x == UNTOUCHED));
+        self.out.push(Case {
+            kind,
+            given: Part::new().two(n).two(t).four(room).bytes(input),
+            expected: Part::new().answer(told).bytes(&out),
+        });
+        out.truncate(written);
+        (answer, out)
+    }
+
+    /// An encode case whose answer is known beforehand.
+    fn encode(&mut self, parties: (usize, usize), message: &[u8], room: usize, answer: Answer) {
+        assert_eq!(
+            self.case(Kind::Encode, parties, message, room).0,
+            answer,
+            "{parties:?}"
+        );
+    }
+
+    /// A rebuild case whose answer is known beforehand.
+    fn rebuild(&mut self, parties: (usize, usize), entries: &[u8], room: usize, answer: Answer) {
+        assert_eq!(
+            self.case(Kind::Rebuild, parties, entries, room).0,
+            answer,
+            "{parties:?}"
+        );
+    }
+
+    /// A rebuild case that must give `message`.
+    fn found(&mut self, parties: (usize, usize), shares: &Shares, room: usize, message: &[u8]) {
+        let (answer, out) = self.case(Kind::Rebuild, parties, &join(shares), room);
+        assert_eq!(answer, Done(message.len()), "{parties:?}");
+        assert_eq!(out, message);
+    }
+
+    /// A rebuild case of b shares of `frame`, which must be refused with cause 12.
+    fn wrong_frame(&mut self, (n, t): (usize, usize), frame: &[u8], room: usize) {
+        let present = self.random.choice(n, n - t);
+        let shares = keep(&shares_of(n, n - t, frame), present);
+        self.rebuild((n, t), &join(&shares), room, Refused(12));
+    }
+
+    /// A message of up to 60 random bytes.
+    fn message(&mut self) -> Vec<u8> {
+        let length = self.random.below(61);
+        self.random.bytes(length)
+    }
+}
+
+/// The entries of n shares, an empty one standing for a missing one.
+fn join(shares: &Shares) -> Vec<u8> {
+    let mut entries = Vec::new();
+    for share in shares {
+        entries.extend((share.len() as u16).to_be_bytes());
+        entries.extend(share);
+    }
+    entries
+}
+
+/// The shares whose bit stands in `map`, the others missing.
+fn keep(shares: &Shares, map: u32) -> Shares {
+    let there = |place: usize| (map >> place) & 1 == 1;
+    let pick =
+        |(place, share): (usize, &Vec<u8>)| if there(place) { share.clone() } else { vec![] };
+    shares.iter().enumerate().map(pick).collect()
+}
+
+/// The shares of a message.
+fn coded((n, t): (usize, usize), message: &[u8]) -> Shares {
+    shares_of(n, n - t, &frame_of(n - t, message))
+}
+
+/// A frame of `size` bytes saying `length`, whatever the body has.
+fn framed(length: usize, body: &[u8], size: usize) -> Vec<u8> {
+    let mut frame = (length as u16).to_be_bytes().to_vec();
+    frame.extend(body);
+    frame.resize(size, 0);
+    frame
+}
+
+/// Every n and t within the limits, n from `first` to `last`.
+fn pairs(first: usize, last: usize) -> Vec<(usize, usize)> {
+    (first..=last)
+        .flat_map(|n| (0..n.div_ceil(2)).map(move |t| (n, t)))
+        .collect()
+}
+
+fn field_cases(file: &mut File) {
+    for a in 0..=255u8 {
+        let row: Vec<u8> = (0..=255).map(|b| field::mul(a, b)).collect();
+        file.out.push(Case {
+            kind: Kind::Products,
+            given: Part::new().bytes(&[a]),
+            expected: Part(row),
+        });
+    }
+    file.out.push(Case {
+        kind: Kind::Inverses,
+        given: Part::new(),
+        expected: Part((0..=255).map(field::inv).collect()),
+    });
+    for a in 0..=255u8 {
+        let any = file.random.word();
+        for k in [0, 1, 2, 3, 254, 255, any] {
+            power(file, a, k);
+        }
+    }
+    let far = [
+        256,
+        509,
+        510,
+        511,
+        765,
+        65_535,
+        65_536,
+        1 << 32,
+        (1 << 32) - 1,
+        1 << 63,
+    ];
+    for a in [0, 1, 2, 3, 0x10, 0x53, 0x80, 0xFE, 0xFF] {
+        for k in far {
+            power(file, a, k);
+        }
+        for less in [0, 1, 2, 254, 255, 256] {
+            power(file, a, u64::MAX - less);
+        }
+    }
+}
+
+fn power(file: &mut File, a: u8, k: u64) {
+    file.out.push(Case {
+        kind: Kind::Powers,
+        given: Part::new().bytes(&[a]).eight(k),
+        expected: Part(vec![field::pow(a, k)]),
+    });
+}
+
+/// The cases that the scope document works out.
+fn worked_cases(file: &mut File) {
+    let three = [0x41, 0x40, 0x82, 0x86, 0xC3, 0xC4];
+    assert_eq!(
+        file.case(Kind::Encode, (3, 1), b"AB", 6),
+        (Done(6), three.to_vec())
+    );
+    let (answer, five) = file.case(Kind::Encode, (5, 2), b"AB", 10);
+    assert_eq!(
+        (answer, &five[6..]),
+        (Done(10), &[0x1F, 0x11, 0x5E, 0x53][..])
+    );
+    let two = [0x41, 0x01, 0x82, 0x01];
+    assert_eq!(
+        file.case(Kind::Encode, (2, 0), b"A", 4),
+        (Done(4), two.to_vec())
+    );
+    assert_eq!(
+        file.case(Kind::Encode, (3, 1), b"", 3),
+        (Done(3), vec![0; 3])
+    );
+    file.found(
+        (3, 1),
+        &vec![vec![], vec![0x82, 0x86], vec![0xC3, 0xC4]],
+        2,
+        b"AB",
+    );
+    file.found((3, 1), &vec![vec![0]; 3], 0, b"");
+}
+
+fn encode_cases(file: &mut File) {
+    for (n, t) in pairs(1, 16) {
+        for length in [0, 1, 2, 100] {
+            let needed = n * share_length(n - t, length);
+            let message = file.random.bytes(length);
+            file.encode((n, t), &message, needed, Done(needed));
+            file.encode((n, t), &message, needed + 1, Done(needed));
+            file.encode((n, t), &vec![0xFF; length], needed, Done(needed));
+            if length < 100 {
+                file.encode((n, t), &message, needed - 1, Short(needed));
+            }
+        }
+        let needed = n * share_length(n - t, 1024);
+        let message = file.random.bytes(1024);
+        file.encode((n, t), &message, needed, Done(needed));
+    }
+    for (n, t) in [(1, 0), (3, 1), (16, 7)] {
+        let needed = n * share_length(n - t, 1024);
+        file.encode((n, t), &[0xFF; 1024], needed, Done(needed));
+        file.encode((n, t), &[0xFF; 1024], needed - 1, Short(needed));
+        file.encode((n, t), &[0xFF; 1024], 0, Short(needed));
+        file.encode((n, t), b"AB", MOST_ROOM, Done(n * share_length(n - t, 2)));
+    }
+}
+
+/// Causes 1, 2 and 4 of encode.
+fn encode_refusals(file: &mut File) {
+    let long = file.random.bytes(1025);
+    for n in [0, 17, 18, 255, 256, 257, 65_535] {
+        file.encode((n, 0), b"AB", 100, Refused(1));
+    }
+    for parties in [
+        (1, 1),
+        (2, 1),
+        (3, 2),
+        (4, 2),
+        (7, 4),
+        (15, 8),
+        (16, 8),
+        (16, 9),
+    ] {
+        file.encode(parties, b"AB", 100, Refused(2));
+        file.encode(parties, &long, 100, Refused(2));
+        file.encode(parties, b"AB", 0, Refused(2));
+    }
+    for t in [127, 128, 129, 255, 256, 32_767, 32_768, 32_769, 65_535] {
+        file.encode((3, t), b"AB", 100, Refused(2));
+        file.encode((16, t), b"AB", 100, Refused(2));
+    }
+    let huge = file.random.bytes(65_536);
+    file.encode((3, 1), &huge, 4000, Refused(4));
+}
+
+/// Several causes of encode at once; the lowest is given.
+fn encode_several(file: &mut File) {
+    let long = file.random.bytes(1025);
+    for parties in [
+        (0, 0),
+        (0, 1),
+        (17, 9),
+        (17, 65_535),
+        (18, 9),
+        (65_535, 32_768),
+    ] {
+        file.encode(parties, b"AB", 100, Refused(1));
+    }
+    for parties in [(0, 0), (17, 0), (17, 8), (65_535, 65_535)] {
+        file.encode(parties, &long, 100, Refused(1));
+        file.encode(parties, b"AB", 0, Refused(1));
+    }
+    for parties in [(1, 0), (2, 0), (3, 1), (16, 0), (16, 7)] {
+        file.encode(parties, &long, 4000, Refused(4));
+        file.encode(parties, &long, 0, Refused(4));
+        let needed = parties.0 * share_length(parties.0 - parties.1, 0);
+        file.encode(parties, b"", 0, Short(needed));
+    }
+}
+
+/// Rebuilds that succeed, from exactly b shares and from more.
+fn rebuild_choices(file: &mut File) {
+    for (n, t) in pairs(1, 8) {
+        for map in (1..1u32 << n).filter(|map| map.count_ones() as usize == n - t) {
+            let message = file.message();
+            let room = message.len() + file.random.below(3);
+            file.found((n, t), &keep(&coded((n, t), &message), map), room, &message);
+        }
+        let message = file.message();
+        file.found((n, t), &coded((n, t), &message), message.len(), &message);
+    }
+    for (n, t) in pairs(9, 16) {
+        for _ in 0..6 {
+            let message = file.message();
+            let count = n - t + file.random.below(t + 1);
+            let map = file.random.choice(n, count);
+            let room = message.len() + file.random.below(3);
+            file.found((n, t), &keep(&coded((n, t), &message), map), room, &message);
+        }
+    }
+    for (n, t) in [(1, 0), (2, 0), (3, 1), (15, 7), (16, 0), (16, 7)] {
+        let message = file.random.bytes(1024);
+        let map = file.random.choice(n, n - t);
+        let shares = keep(&coded((n, t), &message), map);
+        file.found((n, t), &shares, 1024, &message);
+        file.rebuild((n, t), &join(&shares), 1023, Short(1024));
+        file.found((n, t), &shares, MOST_ROOM, &message);
+    }
+}
+
+/// Shares beyond the b lowest present ones hold rubbish, and it does not matter.
+fn rebuild_ignoring(file: &mut File) {
+    for (n, t) in pairs(3, 16).into_iter().filter(|&(_, t)| t > 0) {
+        let message = file.message();
+        let shares = coded((n, t), &message);
+        let count = n - t + 1 + file.random.below(t);
+        let map = file.random.choice(n, count);
+        let mut kept = keep(&shares, map);
+        let places: Vec<usize> = (0..n).filter(|place| (map >> place) & 1 == 1).collect();
+        for &place in &places[n - t..] {
+            let length = 1 + file.random.below(40);
+            kept[place] = file.random.bytes(length);
+        }
+        file.found((n, t), &kept, message.len(), &message);
+    }
+    let mut shares = coded((3, 1), b"AB");
+    for length in [1, 2, 3, 1026, 1027, 65_535] {
+        shares[2] = file.random.bytes(length);
+        file.found((3, 1), &shares, 2, b"AB");
+    }
+}
+
+/// Room one short, exact, and none for the empty message.
+fn rebuild_room(file: &mut File) {
+    for (n, t) in CHOSEN {
+        for length in [1, 2, 3, 30] {
+            let message = file.random.bytes(length);
+            let shares = coded((n, t), &message);
+            file.rebuild((n, t), &join(&shares), length - 1, Short(length));
+            file.rebuild((n, t), &join(&shares), 0, Short(length));
+            file.found((n, t), &shares, length, &message);
+        }
+        file.found((n, t), &coded((n, t), b""), 0, b"");
+        file.found((n, t), &coded((n, t), b""), 5, b"");
+    }
+}
+
+/// Causes 1 and 2, alone and together with later ones.
+fn rebuild_parties(file: &mut File) {
+    let good = join(&coded((3, 1), b"AB"));
+    let seventeen = join(&shares_of(17, 17, &frame_of(17, b"AB")));
+    file.rebuild((17, 0), &seventeen, 100, Refused(1));
+    file.rebuild((17, 8), &seventeen, 0, Refused(1));
+    file.rebuild((0, 0), b"", 100, Refused(1));
+    for parties in [
+        (0, 0),
+        (0, 5),
+        (17, 9),
+        (18, 9),
+        (256, 0),
+        (259, 1),
+        (65_535, 65_535),
+    ] {
+        file.rebuild(parties, &good, 100, Refused(1));
+        file.rebuild(parties, b"", 0, Refused(1));
+    }
+    for t in [
+        2, 3, 127, 128, 129, 255, 256, 257, 32_767, 32_768, 32_769, 65_535,
+    ] {
+        file.rebuild((3, t), &good, 100, Refused(2));
+        file.rebuild((3, t), b"", 0, Refused(2));
+        file.rebuild((3, t), &[0; 6], 100, Refused(2));
+        file.rebuild((3, t), &good[..good.len() - 1], 100, Refused(2));
+    }
+    let sixteen = join(&coded((16, 7), b"AB"));
+    file.rebuild((16, 7), &sixteen, 2, Done(2));
+    file.rebuild((16, 8), &sixteen, 2, Refused(2));
+    file.rebuild((16, 9), &sixteen, 2, Refused(2));
+    file.rebuild((2, 1), &join(&coded((2, 0), b"AB")), 2, Refused(2));
+    file.rebuild((1, 1), &join(&coded((1, 0), b"AB")), 2, Refused(2));
+}
+
+/// Cause 8, alone and together with 11, 12 and 9.
+fn rebuild_layout(file: &mut File) {
+    for (n, t) in CHOSEN {
+        let message = file.random.bytes(20);
+        let shares = coded((n, t), &message);
+        let good = join(&shares);
+        let last = good.len() - shares[n - 1].len() - 1;
+        for room in [20, 0] {
+            file.rebuild((n, t), &good[..good.len() - 1], room, Refused(8));
+            file.rebuild((n, t), &[&good[..], &[0]].concat(), room, Refused(8));
+            file.rebuild((n, t), &[&good[..], &[0, 0]].concat(), room, Refused(8));
+            file.rebuild((n, t), &good[..last - 1], room, Refused(8));
+            file.rebuild((n, t), &good[..last], room, Refused(8));
+        }
+        for length in [good[last] + 1, good[last] - 1, 0, 255] {
+            let mut lying = good.clone();
+            lying[last] = length;
+            file.rebuild((n, t), &lying, 20, Refused(8));
+        }
+        let mut lying = good.clone();
+        lying[last - 1..=last].fill(0xFF);
+        file.rebuild((n, t), &lying, 20, Refused(8));
+        for count in [0, 1, 2 * n - 1, 2 * n + 1, 2 * n + 2] {
+            file.rebuild((n, t), &vec![0; count], 20, Refused(8));
+        }
+        lying = join(&vec![vec![1]; n]);
+        lying.push(7);
+        file.rebuild((n, t), &lying, 20, Refused(8));
+    }
+    let long = file.random.bytes(65_535 + 2);
+    file.rebuild(
+        (1, 0),
+        &[&[0xFF, 0xFF], &long[..65_534]].concat(),
+        9,
+        Refused(8),
+    );
+}
+
+/// Cause 11, alone and together with 12 and 9.
+fn rebuild_too_few(file: &mut File) {
+    for (n, t) in pairs(1, 16) {
+        let b = n - t;
+        let message = file.random.bytes(10);
+        let map = file.random.choice(n, b - 1);
+        let mut shares = keep(&coded((n, t), &message), map);
+        file.rebuild((n, t), &join(&shares), 10, Refused(11));
+        file.rebuild((n, t), &join(&shares), 0, Refused(11));
+        file.rebuild((n, t), &vec![0; 2 * n], 10, Refused(11));
+        file.rebuild((n, t), &vec![0; 2 * n], 0, Refused(11));
+        if let Some(share) = shares.iter_mut().find(|share| !share.is_empty()) {
+            share.push(0);
+            file.rebuild((n, t), &join(&shares), 10, Refused(11));
+        }
+    }
+    file.rebuild((3, 1), &[0, 0, 0, 1, 9, 0, 0], 10, Refused(11));
+}
+
+/// Cause 12 by used shares of unequal lengths.
+fn rebuild_unequal(file: &mut File) {
+    for (n, t) in pairs(2, 16) {
+        let b = n - t;
+        let message = file.random.bytes(3 * b);
+        let map = file.random.choice(n, b);
+        let shares = keep(&coded((n, t), &message), map);
+        let places: Vec<usize> = (0..n).filter(|place| (map >> place) & 1 == 1).collect();
+        for place in [places[0], places[b - 1]] {
+            let mut changed = shares.clone();
+            changed[place].push(0);
+            file.rebuild((n, t), &join(&changed), 60, Refused(12));
+            changed[place] = shares[place][1..].to_vec();
+            file.rebuild((n, t), &join(&changed), 0, Refused(12));
+        }
+        let mut swapped = shares.clone();
+        let byte = swapped[places[0]].pop().unwrap();
+        swapped[places[1]].push(byte);
+        file.rebuild((n, t), &join(&swapped), 60, Refused(12));
+    }
+    for lengths in [(1, 1027), (1027, 1), (1026, 1027), (2, 258), (257, 1)] {
+        let shares = vec![vec![0; lengths.0], vec![], vec![0; lengths.1]];
+        file.rebuild((3, 1), &join(&shares), 10, Refused(12));
+    }
+}
+
+/// Every small share length against every length a frame of it may say.
+fn rebuild_lengths(file: &mut File) {
+    for byte in [0, 1, 255] {
+        file.rebuild((1, 0), &[0, 1, byte], 10, Refused(12));
+        file.rebuild((1, 0), &[0, 1, byte], 0, Refused(12));
+    }
+    for (n, t) in CHOSEN {
+        let b = n - t;
+        for s in 1..=3 {
+            for length in 0..b * s + 3 {
+                if b * s < 2 {
+                    continue;
+                }
+                let body = file.random.bytes(length.min(b * s - 2));
+                let frame = framed(length, &body, b * s);
+                if b * (s - 1) < length + 2 && length + 2 <= b * s {
+                    let map = file.random.choice(n, b);
+                    file.found((n, t), &keep(&shares_of(n, b, &frame), map), length, &body);
+                } else {
+                    file.wrong_frame((n, t), &frame, 60);
+                }
+            }
+        }
+    }
+}
+
+/// Cause 12 by the length the frame says, all else right where it can be, and room or none.
+fn rebuild_over(file: &mut File) {
+    for (n, t) in CHOSEN {
+        let b = n - t;
+        let body = file.random.bytes(1025);
+        let right = framed(1025, &body, b * share_length(b, 1025));
+        file.wrong_frame((n, t), &right, 2000);
+        file.wrong_frame((n, t), &right, 0);
+        let tight = framed(1025, &body[..1024], b * share_length(b, 1024));
+        file.wrong_frame((n, t), &tight, 2000);
+        let large = framed(1024, &body[..1024], b * (share_length(b, 1024) + 1));
+        file.wrong_frame((n, t), &large, 2000);
+        let size = b * (share_length(b, 1024) - 1);
+        file.wrong_frame((n, t), &framed(1024, &body[..size - 2], size), 2000);
+        for length in [1025, 1026, 256 * 40, 32_768, 65_534, 65_535] {
+            file.wrong_frame((n, t), &framed(length, &body[..b * 2], b * 4), 2000);
+            file.wrong_frame((n, t), &framed(length, &body[..b * 2], b * 4), 0);
+        }
+    }
+}
+
+/// Cause 12 by a non-zero byte at each place of the filling; room or none.
+fn rebuild_filling(file: &mut File) {
+    for (n, t) in CHOSEN.into_iter().filter(|&(n, t)| n - t > 1) {
+        let b = n - t;
+        let length = 3 * b - 1;
+        let body = file.random.bytes(length);
+        let good = framed(length, &body, 4 * b);
+        for place in length + 2..4 * b {
+            let mut frame = good.clone();
+            frame[place] = 1 << file.random.below(8);
+            file.wrong_frame((n, t), &frame, [60, 0][place % 2]);
+        }
+        let mut frame = framed(0, &[], b);
+        for place in [2, b - 1]
+            .into_iter()
+            .filter(|&place| place >= 2 && place < b)
+        {
+            frame[2..].fill(0);
+            frame[place] = 0x80;
+            file.wrong_frame((n, t), &frame, 0);
+        }
+    }
+}
+
+/// Cause 12 by used shares longer than any message gives.
+fn rebuild_long_shares(file: &mut File) {
+    for (n, t) in [(1, 0), (2, 0), (3, 1), (16, 7)] {
+        let size = 1027 * (n - t);
+        let body = file.random.bytes(1024);
+        file.wrong_frame((n, t), &framed(1024, &body, size), 2000);
+        file.wrong_frame((n, t), &vec![0; size], 2000);
+        file.wrong_frame((n, t), &framed(1025, &body, size), 0);
+    }
+    let body = file.random.bytes(2000);
+    file.wrong_frame((1, 0), &framed(1024, &body[..1024], 1028), 2000);
+    file.wrong_frame((2, 0), &framed(2000, &body, 2 * 1026), MOST_ROOM);
+    let body = file.random.bytes(65_535);
+    file.wrong_frame((1, 0), &framed(65_533, &body[..65_533], 65_535), MOST_ROOM);
+    file.wrong_frame((2, 0), &framed(65_535, &body, 65_538), MOST_ROOM);
+}
+
+/// Entries with one bit flipped, cut short or lengthened, whatever comes of it.
+fn rebuild_random(file: &mut File) {
+    let all = pairs(1, 16);
+    for round in 0..330 {
+        let (n, t) = all[file.random.below(all.len())];
+        let message = file.message();
+        let count = n - t + file.random.below(t + 1);
+        let map = file.random.choice(n, count);
+        let mut entries = join(&keep(&coded((n, t), &message), map));
+        match round % 6 {
+            0..=3 => {
+                let place = file.random.below(entries.len());
+                entries[place] ^= 1 << file.random.below(8);
+            }
+            4 => entries.truncate(file.random.below(entries.len())),
+            _ => {
+                let more = 1 + file.random.below(5);
+                entries.extend(file.random.bytes(more));
+            }
+        }
+        let room = [80, 80, file.random.below(61)][round % 3];
+        file.case(Kind::Rebuild, (n, t), &entries, room);
+    }
+}
+
+/// The parts, in order.
+const PARTS: [fn(&mut File); 17] = [
+    field_cases,
+    worked_cases,
+    encode_cases,
+    encode_refusals,
+    encode_several,
+    rebuild_choices,
+    rebuild_ignoring,
+    rebuild_room,
+    rebuild_parties,
+    rebuild_layout,
+    rebuild_too_few,
+    rebuild_unequal,
+    rebuild_lengths,
+    rebuild_over,
+    rebuild_filling,
+    rebuild_long_shares,
+    rebuild_random,
+];
+
+pub fn cases() -> Vec<Case> {
+    let mut file = File {
+        out: Vec::new(),
+        random: Random::new(2024),
+    };
+    for part in PARTS {
+        part(&mut file);
+    }
+    file.out
+}

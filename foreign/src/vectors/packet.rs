@@ -1,0 +1,770 @@
+//! The packets and the inboxes.
+//!
+//! - Reads: n (2 bytes), the packet. What is read of it, twice: the answer (0 silence, 1 a share),
+//!   and the share's number, place and length and the count of hashes (8 each, 0 without a share).
+//!   The share lies at byte 4, the path right behind it.
+//! - Judgements: n (2), j (2), the root (32), the packet. As above, with answer 0 for a silent,
+//!   1 for a valid and 2 for a faulty packet, and 0 for the number.
+//! - Inboxes: n (1), the inbox. 1 if it is laid out well, else 0 (1).
+//! - Writes: n (2), the number (2), the count of hashes (1), the length of the buffer lent (2), the
+//!   first four hashes, those that are not there of bytes 0xEE, the share. The answer, and the
+//!   buffer, in which what is not written over is untouched; then the same of the packet's entry,
+//!   for which the buffer has two bytes more.
+//!
+//! Packets handed in have at most 1,159 bytes, inboxes 2,400; a written packet has at most
+//! 1,158 bytes, its share handed in 1,027, at most 5 hashes are counted, and the buffer has at
+//! most 1,300 bytes.
+
+use super::{Answer, Case, Kind, Part, UNTOUCHED};
+use crate::inbox::{laid_out, lay_out};
+use crate::packet::{self, classify, write_into, Reading, Standing, HEADER, LONGEST_SHARE};
+use crate::random::Random;
+use crate::sha256::{hash, Hash};
+use crate::tree::{self, leaf_string, node, path_length, MOST_HASHES};
+
+const SILENCE: Answer = Answer::Done(0);
+const SHARE: Answer = Answer::Done(1);
+const SILENT: Answer = Answer::Done(0);
+const VALID: Answer = Answer::Done(1);
+const FAULTY: Answer = Answer::Done(2);
+const UNREADABLE: Answer = Answer::Refused(10);
+const UNSTORED: Hash = [0xEE; 32];
+const LONGEST_PACKET: usize = HEADER + LONGEST_SHARE + 32 * MOST_HASHES;
+const LARGEST_INBOX: usize = 2_400;
+const MOST_ROOM: usize = 1_300;
+
+/// The party counts tried.
+const CHOSEN: [usize; 5] = [1, 2, 3, 5, 16];
+
+/// Party counts with a number whose packet is tried in many ways.
+const PAIRS: [(usize, usize); 8] = [
+    (1, 1),
+    (2, 1),
+    (2, 2),
+    (3, 1),
+    (3, 3),
+    (5, 1),
+    (5, 5),
+    (16, 16),
+];
+
+/// The lowest and the highest number of n, which may be one.
+fn ends(n: usize) -> Vec<usize> {
+    if n == 1 {
+        vec![1]
+    } else {
+        vec![1, n]
+    }
+}
+
+/// A good packet, what it was made of, and the root it passes under.
+#[derive(Clone)]
+struct Good {
+    n: usize,
+    j: usize,
+    root: Hash,
+    share: Vec<u8>,
+    path: Vec<Hash>,
+    bytes: Vec<u8>,
+}
+
+/// What the writer is called with.
+#[derive(Clone)]
+struct Call {
+    n: usize,
+    number: usize,
+    share: Vec<u8>,
+    path: Vec<Hash>,
+    room: usize,
+}
+
+impl Good {
+    /// The call that writes this packet into a buffer of its length.
+    fn call(&self) -> Call {
+        Call {
+            n: self.n,
+            number: self.j,
+            share: self.share.clone(),
+            path: self.path.clone(),
+            room: self.bytes.len(),
+        }
+    }
+}
+
+impl Call {
+    /// The call with something changed.
+    fn with(&self, change: impl FnOnce(&mut Call)) -> Call {
+        let mut call = self.clone();
+        change(&mut call);
+        call
+    }
+}
+
+/// The cases so far, and the source of randomness.
+struct File {
+    out: Vec<Case>,
+    random: Random,
+}
+
+/// What is told of a packet: the answer, and the share's number, its place and length, and the
+/// count of hashes.
+fn told(answer: Answer, share: [usize; 4]) -> Part {
+    let number = |part: Part, number: usize| part.eight(number as u64);
+    share.into_iter().fold(Part::new().answer(answer), number)
+}
+
+impl File {
+    /// Packet j of n over random shares of this length.
+    fn good(&mut self, n: usize, j: usize, length: usize) -> Good {
+        let shares: Vec<Vec<u8>> = (0..n).map(|_| self.random.bytes(length)).collect();
+        let path = tree::path(&shares, j);
+        Good {
+            n,
+            j,
+            root: tree::root(&shares),
+            bytes: packet::write(j, &shares[j - 1], &path),
+            share: shares[j - 1].clone(),
+            path,
+        }
+    }
+
+    fn random_hash(&mut self) -> Hash {
+        hash(&self.random.bytes(8))
+    }
+
+    /// Reads the bytes and writes that as a case; gives the answer.
+    fn tried(&mut self, n: usize, bytes: &[u8]) -> Answer {
+        assert!(bytes.len() <= LONGEST_PACKET + 1);
+        let (answer, share) = match packet::read(n, bytes) {
+            Reading::Refused(cause) => (Answer::Refused(cause), [0; 4]),
+            Reading::Silence => (SILENCE, [0; 4]),
+            Reading::Share {
+                number,
+                share,
+                path,
+            } => {
+                let behind = HEADER + share.len();
+                assert_eq!(bytes[HEADER..behind], share);
+                assert_eq!(bytes[behind..], path.concat());
+                (SHARE, [number, HEADER, share.len(), path.len()])
+            }
+        };
+        let Part(once) = told(answer, share);
+        self.out.push(Case {
+            kind: Kind::Reads,
+            given: Part::new().two(n).bytes(bytes),
+            expected: Part([&once[..], &once].concat()),
+        });
+        answer
+    }
+
+    /// A reading whose answer is known beforehand.
+    fn read(&mut self, n: usize, bytes: &[u8], answer: Answer) {
+        assert_eq!(self.tried(n, bytes), answer, "n {n}, bytes {bytes:?}");
+    }
+
+    /// Finds the standing of the bytes and writes it as a case; gives the answer.
+    fn stood(&mut self, n: usize, j: usize, root: Hash, bytes: &[u8]) -> Answer {
+        assert!(bytes.len() <= LONGEST_PACKET + 1);
+        let (answer, share) = match classify(n, j, root, bytes) {
+            Ok(Standing::Silent) => (SILENT, [0; 4]),
+            Ok(Standing::Valid(share)) => {
+                let behind = HEADER + share.len();
+                assert_eq!(bytes[HEADER..behind], share);
+                let hashes = (bytes.len() - behind) / 32;
+                (VALID, [0, HEADER, share.len(), hashes])
+            }
+            Ok(Standing::Faulty) => (FAULTY, [0; 4]),
+            Err(cause) => (Answer::Refused(cause), [0; 4]),
+        };
+        self.out.push(Case {
+            kind: Kind::Judgements,
+            given: Part::new().two(n).two(j).bytes(&root).bytes(bytes),
+            expected: told(answer, share),
+        });
+        answer
+    }
+
+    /// A standing that is known beforehand.
+    fn stands(&mut self, n: usize, j: usize, root: Hash, bytes: &[u8], answer: Answer) {
+        let found = self.stood(n, j, root, bytes);
+        assert_eq!(found, answer, "n {n}, j {j}, bytes {bytes:?}");
+    }
+
+    /// Bytes that came instead of a good packet, read and then held against its number.
+    fn instead(&mut self, good: &Good, bytes: &[u8], reading: Answer, standing: Answer) {
+        self.read(good.n, bytes, reading);
+        self.stands(good.n, good.j, good.root, bytes, standing);
+    }
+
+    /// Bytes that cannot be read, in place of a good packet.
+    fn unreadable(&mut self, good: &Good, bytes: &[u8]) {
+        self.instead(good, bytes, UNREADABLE, FAULTY);
+    }
+
+    /// Judges an inbox's layout and writes that as a case; gives the answer.
+    fn judged(&mut self, n: usize, bytes: &[u8]) -> bool {
+        assert!(bytes.len() <= LARGEST_INBOX);
+        let well = laid_out(n, bytes);
+        self.out.push(Case {
+            kind: Kind::Inboxes,
+            given: Part::new().one(n).bytes(bytes),
+            expected: Part::new().one(well.into()),
+        });
+        well
+    }
+
+    /// An inbox whose layout is known beforehand.
+    fn inbox(&mut self, n: usize, bytes: &[u8], well: bool) {
+        assert_eq!(self.judged(n, bytes), well, "n {n}, bytes {bytes:?}");
+    }
+
+    /// Writes a packet, and that as a case; the answer is known beforehand.
+    fn write(&mut self, call: &Call, answer: Answer) {
+        assert!(call.share.len() <= LONGEST_SHARE + 1 && call.path.len() <= MOST_HASHES + 1);
+        assert!(call.room <= MOST_ROOM);
+        let mut out = vec![UNTOUCHED; call.room];
+        let parties = (call.n, call.number);
+        let (found, written) = match write_into(parties, &call.share, &call.path, &mut out) {
+            Ok(length) => (Answer::Done(length), length),
+            Err((9, needed)) => (Answer::Short(needed), 0),
+            Err((cause, _)) => (Answer::Refused(cause), 0),
+        };
+        assert_eq!(found, answer, "n {}, j {}", call.n, call.number);
+        assert!(out[written..].iter().all(|&x| x == UNTOUCHED));
+        let (entry, front) = match found {
+            Answer::Done(length) => (Answer::Done(length + 2), (length as u16).to_be_bytes()),
+            Answer::Short(needed) => (Answer::Short(needed + 2), [UNTOUCHED; 2]),
+            other => (other, [UNTOUCHED; 2]),
+        };
+        let mut path = call.path.clone();
+        path.resize(MOST_HASHES, UNSTORED);
+        let numbers = Part::new().two(call.n).two(call.number);
+        let lengths = numbers.one(call.path.len()).two(call.room);
+        let alone = Part::new().answer(found).bytes(&out);
+        self.out.push(Case {
+            kind: Kind::Writes,
+            given: lengths.bytes(&path.concat()).bytes(&call.share),
+            expected: alone.answer(entry).bytes(&front).bytes(&out),
+        });
+    }
+}
+
+/// Every number with a short share, and one number with the longest.
+fn good_packets(file: &mut File) {
+    for n in CHOSEN {
+        for j in 1..=n {
+            let good = file.good(n, j, 1 + (n + j) % 5);
+            file.instead(&good, &good.bytes, SHARE, VALID);
+        }
+        let good = file.good(n, n.div_ceil(2), LONGEST_SHARE);
+        file.instead(&good, &good.bytes, SHARE, VALID);
+    }
+    for length in 1..=5 {
+        let good = file.good(1, 1, length);
+        file.instead(&good, &good.bytes, SHARE, VALID);
+    }
+    for length in [255, 256, 257, 512] {
+        let good = file.good(1, 1, length);
+        file.read(1, &good.bytes, SHARE);
+    }
+}
+
+/// Paths that belong to no tree of shares: the check asks only whether they fold.
+fn made_up_paths(file: &mut File) {
+    for n in CHOSEN {
+        let share = file.random.bytes(3);
+        let path: Vec<Hash> = (0..path_length(n, 1)).map(|_| file.random_hash()).collect();
+        let leaf = hash(&leaf_string(1, &share));
+        let root = path.iter().fold(leaf, |below, &right| node(below, right));
+        let bytes = packet::write(1, &share, &path);
+        file.stands(n, 1, root, &bytes, VALID);
+        if n > 1 {
+            let turned = path.iter().fold(leaf, |below, &left| node(left, below));
+            file.stands(n, 1, turned, &bytes, FAULTY);
+        }
+    }
+}
+
+/// Packets cut off at every byte, and with one byte more behind or one fewer in front.
+/// Cuts inside a long path are read, but not all held against the number.
+fn cuts(file: &mut File) {
+    for (n, j) in PAIRS {
+        let good = file.good(n, j, 2);
+        let whole = good.bytes.len();
+        file.instead(&good, b"", SILENCE, SILENT);
+        for length in 1..whole {
+            let bytes = &good.bytes[..length];
+            file.read(n, bytes, UNREADABLE);
+            let missing = whole - length;
+            if good.path.len() < 3 || length <= HEADER + 2 || [0, 1, 31].contains(&(missing % 32)) {
+                file.stands(n, j, good.root, bytes, FAULTY);
+            }
+        }
+        file.unreadable(&good, &good.bytes[1..]);
+        for more in [0, 7, 255] {
+            file.unreadable(&good, &[&good.bytes[..], &[more]].concat());
+        }
+    }
+    let good = file.good(16, 9, LONGEST_SHARE);
+    file.unreadable(&good, &good.bytes[..LONGEST_PACKET - 1]);
+    file.unreadable(&good, &[&good.bytes[..], &[0]].concat());
+}
+
+/// Each bit of a packet flipped in turn, for each of the chosen numbers of parties.
+fn flips(file: &mut File) {
+    for (n, j) in [(1, 1), (2, 2), (3, 1), (5, 5), (16, 11)] {
+        let good = file.good(n, j, 1);
+        for place in 0..good.bytes.len() {
+            flip_byte(file, &good, place);
+        }
+    }
+}
+
+/// Each bit of one byte flipped in turn: a share or path stays readable, map and length do
+/// not, and a number does if its path is as long.
+fn flip_byte(file: &mut File, good: &Good, place: usize) {
+    for bit in 0..8 {
+        let mut bytes = good.bytes.clone();
+        bytes[place] ^= 1 << bit;
+        let number = usize::from(bytes[1]);
+        let readable = match place {
+            1 => (1..=good.n).contains(&number) && path_length(good.n, number) == good.path.len(),
+            0..HEADER => false,
+            _ => true,
+        };
+        let reading = if readable { SHARE } else { UNREADABLE };
+        file.instead(good, &bytes, reading, FAULTY);
+    }
+}
+
+/// Every map alone and in front of what follows a good one.
+fn maps(file: &mut File) {
+    let (one, three) = (file.good(1, 1, 2), file.good(3, 3, 1));
+    for map in 0..=255 {
+        file.read(1, &[map], if map == 0 { SILENCE } else { UNREADABLE });
+        let good_map = map == 7;
+        let reading = if good_map { SHARE } else { UNREADABLE };
+        let standing = if good_map { VALID } else { FAULTY };
+        let rest = &one.bytes[1..];
+        file.instead(&one, &[&[map], rest].concat(), reading, standing);
+        let rest = &three.bytes[1..];
+        file.read(3, &[&[map], rest].concat(), reading);
+    }
+    for map in [1, 2, 3, 4, 5, 6, 7, 8, 128, 255] {
+        file.stands(1, 1, one.root, &[map], FAULTY);
+        file.read(16, &[map], UNREADABLE);
+    }
+}
+
+/// Map 0 is silence when alone only.
+fn silence(file: &mut File) {
+    for n in CHOSEN {
+        for j in ends(n) {
+            let good = file.good(n, j, 3);
+            file.instead(&good, b"", SILENCE, SILENT);
+            file.instead(&good, &[0], SILENCE, SILENT);
+            for next in [0, 1, 7, 255] {
+                file.unreadable(&good, &[0, next]);
+            }
+            file.unreadable(&good, &[&[0], &good.bytes[..]].concat());
+            file.unreadable(&good, &[0; 6]);
+        }
+    }
+}
+
+/// Another number in a good packet.
+fn numbers(file: &mut File) {
+    for (n, j) in PAIRS {
+        let good = file.good(n, j, 2);
+        for number in (0..=n + 1).chain([17, 18, 128 + j, 239 + j, 255]) {
+            let mut bytes = good.bytes.clone();
+            bytes[1] = number as u8;
+            let known = (1..=n).contains(&number);
+            let readable = known && path_length(n, number) == good.path.len();
+            let reading = if readable { SHARE } else { UNREADABLE };
+            let standing = if number == j { VALID } else { FAULTY };
+            file.instead(&good, &bytes, reading, standing);
+        }
+    }
+}
+
+/// Stated share lengths that are not the share's, or that no share may have.
+fn stated_lengths(file: &mut File) {
+    // Lengths that lead back to the packet's end if sums wrap at two to the 16.
+    file.read(16, &[7, 1, 0xFF, 0x80], UNREADABLE);
+    file.read(2, &[7, 1, 0xFF, 0xE1, 9], UNREADABLE);
+    let long = file.good(2, 1, LONGEST_SHARE + 1);
+    file.unreadable(&long, &long.bytes);
+    for n in CHOSEN {
+        for j in ends(n) {
+            let good = file.good(n, j, 4);
+            for length in [0, 1, 3, 5, 36, 4 << 8, 260, 1026, 1027, 32_772, 65_535u16] {
+                let mut bytes = good.bytes.clone();
+                bytes[2..HEADER].copy_from_slice(&length.to_be_bytes());
+                file.unreadable(&good, &bytes);
+                file.read(n, &bytes[..HEADER], UNREADABLE);
+            }
+            let mut bytes = good.bytes.clone();
+            bytes[3] += 1;
+            bytes.push(0);
+            file.instead(&good, &bytes, SHARE, FAULTY);
+            bytes[3] -= 2;
+            bytes.truncate(good.bytes.len() - 1);
+            file.instead(&good, &bytes, SHARE, FAULTY);
+        }
+        let empty = file.good(n, 1, 0);
+        file.unreadable(&empty, &empty.bytes);
+        let long = file.good(n, n, LONGEST_SHARE + 1);
+        file.read(n, &long.bytes, UNREADABLE);
+    }
+}
+
+/// Paths of every count of hashes, and the right hashes in the wrong order.
+fn path_counts(file: &mut File) {
+    for n in CHOSEN {
+        for j in ends(n) {
+            let good = file.good(n, j, 3);
+            let right = good.path.len();
+            let mut hashes = good.path.clone();
+            while hashes.len() <= MOST_HASHES {
+                hashes.push(file.random_hash());
+            }
+            for count in (0..=MOST_HASHES + 1).filter(|&count| count != right) {
+                let bytes = packet::write(j, &good.share, &hashes[..count]);
+                file.unreadable(&good, &bytes);
+            }
+            if right > 1 {
+                let turned: Vec<Hash> = good.path.iter().rev().copied().collect();
+                let bytes = packet::write(j, &good.share, &turned);
+                file.instead(&good, &bytes, SHARE, FAULTY);
+            }
+        }
+    }
+}
+
+/// Good packets read among one party fewer and one more: still good where the way up stays
+/// the same.
+fn other_sizes(file: &mut File) {
+    for n in CHOSEN {
+        for j in 1..=n {
+            let good = file.good(n, j, 1);
+            for m in [n - 1, n + 1] {
+                let reading = file.tried(m, &good.bytes);
+                let standing = file.stood(m, j, good.root, &good.bytes);
+                let allowed = (1..=16).contains(&m);
+                let readable = allowed && j <= m && path_length(m, j) == good.path.len();
+                assert_eq!(reading == SHARE, readable);
+                assert!(readable || standing != VALID);
+            }
+        }
+    }
+}
+
+/// No such n, whatever the bytes and whatever is demanded.
+fn bad_sizes(file: &mut File) {
+    for (place, n) in [1, 3, 16].into_iter().enumerate() {
+        let good = file.good(n, 1, 2);
+        for bad in [0, 17, 18, 255, 256, 256 + n, 65_535] {
+            for bytes in [&b""[..], &[0], &[0, 0], &[7], &good.bytes] {
+                file.read(bad, bytes, Answer::Refused(1));
+            }
+            for (j, bytes) in [(1, &good.bytes[..]), (0, b""), (bad + place, &[0])] {
+                let j = j.min(65_535);
+                file.stands(bad, j, good.root, bytes, Answer::Refused(1));
+            }
+        }
+    }
+}
+
+/// Another number demanded than the packet bears, or one that nobody bears.
+fn demands(file: &mut File) {
+    for n in CHOSEN {
+        for number in if n == 16 { 12..=12 } else { 1..=n } {
+            let good = file.good(n, number, 1 + n % 3);
+            for j in 1..=n {
+                let standing = if j == number { VALID } else { FAULTY };
+                file.stands(n, j, good.root, &good.bytes, standing);
+            }
+            for j in [0, n + 1, 255, 256, 256 + number, 65_535] {
+                file.stands(n, j, good.root, &good.bytes, Answer::Refused(3));
+            }
+        }
+        let root = file.random_hash();
+        for j in [0, n + 1, 65_535] {
+            for bytes in [&b""[..], &[0], &[0, 0], &[7]] {
+                file.stands(n, j, root, bytes, Answer::Refused(3));
+            }
+        }
+    }
+}
+
+/// A good packet under another root.
+fn other_roots(file: &mut File) {
+    for n in CHOSEN {
+        for j in ends(n) {
+            let good = file.good(n, j, 2);
+            let mut roots = vec![file.random_hash(), [0; 32], [0xFF; 32]];
+            roots.push(hash(&leaf_string(j, &good.share)));
+            for place in [0, 1, 15, 16, 30, 31] {
+                let mut root = good.root;
+                root[place] ^= 1 << file.random.below(8);
+                roots.push(root);
+            }
+            for root in roots {
+                let standing = if root == good.root { VALID } else { FAULTY };
+                file.stands(n, j, root, &good.bytes, standing);
+            }
+            file.stands(n, j, good.root, &good.bytes, VALID);
+        }
+    }
+}
+
+/// The packets of n senders for number j, the own entry empty.
+fn letters(file: &mut File, n: usize, j: usize, length: usize) -> Vec<Vec<u8>> {
+    let mut packets: Vec<Vec<u8>> = (0..n).map(|_| file.good(n, j, length).bytes).collect();
+    packets[j - 1].clear();
+    packets
+}
+
+/// Inboxes of good packets, of silence, of rubbish, and with the own entry filled.
+fn good_inboxes(file: &mut File) {
+    for n in CHOSEN {
+        file.inbox(n, &vec![0; 2 * n], true);
+        let silent = vec![[0]; n];
+        file.inbox(n, &lay_out(&silent), true);
+        let mut packets = letters(file, n, n, 2);
+        let bytes = lay_out(&packets);
+        file.inbox(n, &bytes, true);
+        around(file, n, &bytes);
+        packets[n - 1] = file.random.bytes(7);
+        let bytes = lay_out(&packets);
+        file.inbox(n, &bytes, true);
+        if n < 16 {
+            around(file, n, &bytes);
+        }
+    }
+    for n in [1, 2] {
+        let mut packets = letters(file, n, 1, LONGEST_SHARE);
+        packets[0] = file.random.bytes(LONGEST_PACKET);
+        let bytes = lay_out(&packets);
+        file.inbox(n, &bytes, true);
+        around(file, n, &bytes);
+    }
+}
+
+/// A good inbox short by one byte and long by one.
+fn around(file: &mut File, n: usize, bytes: &[u8]) {
+    file.inbox(n, &bytes[..bytes.len() - 1], false);
+    file.inbox(n, &[bytes, &[0]].concat(), false);
+}
+
+/// Inboxes of short entries, some empty, cut at every byte and with entries too many.
+fn cut_inboxes(file: &mut File) {
+    for n in CHOSEN {
+        let packets: Vec<Vec<u8>> = (0..n).map(|i| file.random.bytes(i % 4)).collect();
+        let bytes = lay_out(&packets);
+        for length in 0..=bytes.len() {
+            file.inbox(n, &bytes[..length], length == bytes.len());
+        }
+        for more in [&[0][..], &[255], &[0, 0], &[0, 1, 9]] {
+            file.inbox(n, &[&bytes, more].concat(), false);
+        }
+        for m in [n - 1, n + 1] {
+            if (1..=16).contains(&m) {
+                file.inbox(m, &bytes, false);
+            }
+        }
+    }
+}
+
+/// One length that lies: one more, one less, its bytes swapped, or far too much. In the
+/// last entry no lie goes unseen; elsewhere the bytes behind may happen to fit.
+fn lying_inboxes(file: &mut File) {
+    for n in CHOSEN {
+        let packets: Vec<Vec<u8>> = (0..n).map(|i| file.random.bytes(1 + i % 3)).collect();
+        let bytes = lay_out(&packets);
+        let mut place = 0;
+        for packet in &packets {
+            let length = packet.len() as u16;
+            let swapped = length.swap_bytes();
+            let far = [32_768, 65_533, 65_534, 65_535, 65_536 - bytes.len() as u32];
+            let lies = [length + 1, length - 1, swapped].map(u32::from);
+            for lie in lies.into_iter().chain(far) {
+                let mut bytes = bytes.clone();
+                bytes[place..place + 2].copy_from_slice(&(lie as u16).to_be_bytes());
+                let well = file.judged(n, &bytes);
+                assert!(!well || place + 2 + packet.len() < bytes.len());
+            }
+            place += 2 + packet.len();
+        }
+    }
+}
+
+/// Lies that fit: a length takes over the entry behind it, which is made up by another.
+fn fitting_inboxes(file: &mut File) {
+    file.inbox(2, &[0, 3, 0, 0, 0, 0, 0], true);
+    file.inbox(2, &[0, 0, 0, 3, 0, 0, 0], true);
+    file.inbox(3, &[0, 2, 0, 1, 0, 0, 0, 1, 0], true);
+    file.inbox(3, &[0, 0, 0, 1, 0, 0, 0], true);
+    file.inbox(3, &[0, 1, 0, 0, 0, 0, 0], true);
+    // The second length leads back into the first entry if places wrap at two to the 16.
+    file.inbox(3, &[0, 3, 0, 3, 9, 0xFF, 0xFB], false);
+    file.inbox(1, &[0], false);
+    file.inbox(1, &[1], false);
+    file.inbox(1, &[0, 1], false);
+    file.inbox(1, &[1, 0], false);
+    file.inbox(1, &[0, 1, 7], true);
+    let bytes = [&[1, 0][..], &[7; 256]].concat();
+    file.inbox(1, &bytes, true);
+    file.inbox(1, &bytes[..257], false);
+    file.inbox(2, &bytes, false);
+    for n in CHOSEN {
+        file.inbox(n, b"", false);
+    }
+}
+
+/// Every number written into exactly enough room, and some with more and with less.
+fn written(file: &mut File) {
+    for n in CHOSEN {
+        for j in 1..=n {
+            let good = file.good(n, j, 1 + (n * j) % 5);
+            file.write(&good.call(), Answer::Done(good.bytes.len()));
+        }
+        for j in ends(n) {
+            let good = file.good(n, j, 3);
+            rooms(file, &good);
+        }
+    }
+    for n in [1, 16] {
+        let good = file.good(n, n.div_ceil(2), LONGEST_SHARE);
+        let needed = good.bytes.len();
+        file.write(&good.call(), Answer::Done(needed));
+        let call = good.call().with(|call| call.room -= 1);
+        file.write(&call, Answer::Short(needed));
+    }
+}
+
+/// One good packet, and rooms about its length and far from it.
+fn rooms(file: &mut File, good: &Good) {
+    let needed = good.bytes.len();
+    for room in [needed, needed + 1, MOST_ROOM] {
+        let call = good.call().with(|call| call.room = room);
+        file.write(&call, Answer::Done(needed));
+    }
+    for room in [needed - 1, needed - good.share.len(), 1, 0] {
+        let call = good.call().with(|call| call.room = room);
+        file.write(&call, Answer::Short(needed));
+    }
+}
+
+/// Each cause alone, the rest of the call being right.
+fn unwritten(file: &mut File) {
+    for n in CHOSEN {
+        for j in ends(n) {
+            let good = file.good(n, j, 2).call();
+            for n in [0, 17, 255, 256, 256 + n, 65_535] {
+                file.write(&good.with(|call| call.n = n), Answer::Refused(1));
+            }
+            for number in [0, n + 1, 255, 256, 256 + j, 65_535] {
+                file.write(&good.with(|call| call.number = number), Answer::Refused(3));
+            }
+            let roomy = good.with(|call| call.room = MOST_ROOM);
+            file.write(&roomy.with(|call| call.share.clear()), Answer::Refused(10));
+            for count in (0..=MOST_HASHES + 1).filter(|&count| count != good.path.len()) {
+                let path = (0..count).map(|_| file.random_hash()).collect();
+                file.write(&roomy.with(|call| call.path = path), Answer::Refused(10));
+            }
+        }
+        let long = file.good(n, n, LONGEST_SHARE + 1);
+        file.write(&long.call(), Answer::Refused(10));
+    }
+}
+
+/// Two causes at once, and all of them. A call that is no packet is not asked for room.
+fn several_causes(file: &mut File) {
+    for n in [1, 3, 16] {
+        let good = file.good(n, n, 2).call();
+        for bad in [0, 17, 65_535] {
+            under_cause_one(file, &good.with(|call| call.n = bad));
+        }
+        for number in [0, n + 1] {
+            let call = good.with(|call| call.number = number);
+            file.write(&call.with(|call| call.room -= 1), Answer::Refused(3));
+            no_packets(file, &call, 3);
+        }
+        no_packets(file, &good.with(|call| call.room -= 1), 10);
+    }
+}
+
+/// No such n, along with a bad number, no share, little room, and all of these.
+fn under_cause_one(file: &mut File, call: &Call) {
+    let numbers = [0, call.n, 65_535];
+    for number in numbers {
+        let call = call.with(|call| call.number = number);
+        file.write(&call, Answer::Refused(1));
+        file.write(&call.with(|call| call.room -= 1), Answer::Refused(1));
+    }
+    file.write(&call.with(|call| call.room -= 1), Answer::Refused(1));
+    let call = call.with(|call| call.share.clear());
+    file.write(&call, Answer::Refused(1));
+    let all = call.with(|call| (call.number, call.room) = (0, 0));
+    file.write(&all, Answer::Refused(1));
+}
+
+/// A call that is bad already, now with a share or a path that no packet has, in as much
+/// room as it had, in much and in none.
+fn no_packets(file: &mut File, call: &Call, cause: u32) {
+    for room in [call.room, MOST_ROOM, 0] {
+        let call = call.with(|call| call.room = room);
+        file.write(
+            &call.with(|call| call.share.clear()),
+            Answer::Refused(cause),
+        );
+        file.write(
+            &call.with(|call| call.path.push([9; 32])),
+            Answer::Refused(cause),
+        );
+        if !call.path.is_empty() {
+            file.write(
+                &call.with(|call| call.path.truncate(0)),
+                Answer::Refused(cause),
+            );
+        }
+    }
+    let long = vec![5; LONGEST_SHARE + 1];
+    file.write(&call.with(|call| call.share = long), Answer::Refused(cause));
+}
+
+/// All cases of readings and standings.
+fn packet_cases(file: &mut File) {
+    good_packets(file);
+    made_up_paths(file);
+    cuts(file);
+    flips(file);
+    maps(file);
+    silence(file);
+    numbers(file);
+    stated_lengths(file);
+    path_counts(file);
+    other_sizes(file);
+    bad_sizes(file);
+    demands(file);
+    other_roots(file);
+}
+
+pub fn cases() -> Vec<Case> {
+    let mut file = File {
+        out: Vec::new(),
+        random: Random::new(180),
+    };
+    packet_cases(&mut file);
+    good_inboxes(&mut file);
+    cut_inboxes(&mut file);
+    lying_inboxes(&mut file);
+    fitting_inboxes(&mut file);
+    written(&mut file);
+    unwritten(&mut file);
+    several_causes(&mut file);
+    file.out
+}

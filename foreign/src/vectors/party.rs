@@ -1,0 +1,1051 @@
+//! Calls on one party.
+//!
+//! The reader carries a party's state and an inbox from case to case, both zero at the start; a
+//! call takes the state that the last one gave back, so that the calls from one opening to the
+//! next are a list.
+//!
+//! - Openings: n, t and own (8 bytes each), the message. The verdict, and the root (32, zero if
+//!   refused).
+//! - Agreed roots, step 2: the root. The verdict.
+//! - Agreed bits, step 3: the bit (2), the length of the buffer lent (2). The verdict.
+//! - First and second inboxes, steps 4 and 5: how many bytes of the inbox are handed in (2), the
+//!   length of the buffer lent (2). The verdict.
+//! - Numbers changed: where (1: 0 n, 1 t, 2 own, 3 len, 4 held), the number (8). Nothing.
+//! - Stages changed: which (1: 0 root, 1 bit, 2 first, 3 second, 4 ended with nothing, 5 with a
+//!   message), that message's length (8). Nothing.
+//! - Bytes changed: where (1: 0 message, 1 root, 2 share, 3 the inbox), from which place (2), the
+//!   bytes. Nothing.
+//!
+//! The verdict: the answer, and SHA-256 (32) of the state with SHA-256 of the out buffer behind it,
+//! which is empty where none is lent. The state's bytes: n, t, own (8 each), stage as above (9),
+//! len, held (8 each), root, message, share.
+//!
+//! Messages handed in have at most 1,026 bytes, inboxes 8,000, and the buffer at most 6,000.
+
+use std::collections::BTreeMap;
+
+use super::{Answer, Answer::*, Case, Kind, Part, UNTOUCHED};
+use crate::coder::{frame_of, share_length, shares_of, LONGEST_MESSAGE, MOST_PARTIES};
+use crate::inbox::lay_out;
+use crate::packet::{self, LONGEST_SHARE};
+use crate::party::{Given, Outcome, Refusal, Stage, State};
+use crate::random::Random;
+use crate::sha256::{hash, Hash};
+use crate::tree;
+
+const LARGEST_INBOX: usize = 8_000;
+const MOST_ROOM: usize = 6_000;
+
+/// A step and what it is handed, but for the room.
+#[derive(Clone)]
+enum Call {
+    Root(Vec<u8>),
+    Bit(u8),
+    Shares(Vec<u8>),
+    Relays(Vec<u8>),
+}
+
+/// A number of the state.
+#[derive(Clone, Copy)]
+enum Number {
+    N,
+    T,
+    Own,
+    Len,
+    Held,
+}
+
+/// Where bytes are put.
+#[derive(Clone, Copy)]
+enum Place {
+    Message,
+    Root,
+    Share,
+    Inbox,
+}
+
+/// Shares that stand under one root, whether they come from a message or not.
+struct Sharing {
+    shares: Vec<Vec<u8>>,
+    root: Hash,
+}
+
+impl Sharing {
+    fn of(shares: Vec<Vec<u8>>) -> Sharing {
+        let root = tree::root(&shares);
+        Sharing { shares, root }
+    }
+
+    fn packet(&self, j: usize) -> Vec<u8> {
+        packet::write(j, &self.shares[j - 1], &tree::path(&self.shares, j))
+    }
+}
+
+/// Number of a stage, and the length of the message that it ended with.
+fn stage_number(stage: Stage) -> (u8, u64) {
+    match stage {
+        Stage::Root => (0, 0),
+        Stage::Bit => (1, 0),
+        Stage::First => (2, 0),
+        Stage::Second => (3, 0),
+        Stage::Ended(Outcome::Nothing) => (4, 0),
+        Stage::Ended(Outcome::Message(length)) => (5, length),
+    }
+}
+
+/// The kind of the step that is in turn, if one is.
+fn turn(stage: Stage) -> Option<u8> {
+    match stage {
+        Stage::Root => Some(2),
+        Stage::Bit => Some(3),
+        Stage::First => Some(4),
+        Stage::Second => Some(5),
+        Stage::Ended(_) => None,
+    }
+}
+
+fn digest(state: &State, out: &[u8]) -> Hash {
+    let (stage, length) = stage_number(state.stage);
+    let mut text = Vec::new();
+    text.extend([state.n, state.t, state.own].map(u64::to_be_bytes).concat());
+    text.push(stage);
+    text.extend(
+        [length, state.len, state.held]
+            .map(u64::to_be_bytes)
+            .concat(),
+    );
+    text.extend(state.root);
+    text.extend(state.message);
+    text.extend(state.share);
+    text.extend(hash(out));
+    hash(&text)
+}
+
+/// What a step gave: the state and the answer.
+fn told<T>(given: Given<T>, accepted: impl FnOnce(T) -> Answer) -> (State, Answer) {
+    let (state, answer) = given;
+    let answer = match answer {
+        Ok(answer) => accepted(answer),
+        Err(Refusal { cause: 9, needed }) => Short(needed),
+        Err(Refusal { cause, .. }) => Refused(cause),
+    };
+    (state, answer)
+}
+
+/// The answer whatever its value.
+fn valueless(answer: Answer) -> Answer {
+    match answer {
+        Done(_) => Done(0),
+        Short(_) => Short(0),
+        other => other,
+    }
+}
+
+/// The cases so far, their calls counted by kind and answer, the source of randomness, and what
+/// the reader carries.
+struct File {
+    out: Vec<Case>,
+    answers: BTreeMap<(Kind, Answer), usize>,
+    random: Random,
+    state: State,
+    inbox: Vec<u8>,
+    damages: usize,
+}
+
+/// The calls, written as cases.
+impl File {
+    fn new() -> File {
+        File {
+            out: Vec::new(),
+            answers: BTreeMap::new(),
+            random: Random::new(0x9A47),
+            state: State::blank(),
+            inbox: vec![0; LARGEST_INBOX],
+            damages: 0,
+        }
+    }
+
+    /// A change, of which nothing comes.
+    fn change(&mut self, kind: Kind, given: Part) {
+        let expected = Part::new();
+        self.out.push(Case {
+            kind,
+            given,
+            expected,
+        });
+    }
+
+    /// A call that gave the state that stands, with the buffer lent and what follows the verdict.
+    fn called(&mut self, kind: Kind, given: Part, answer: Answer, out: &[u8], more: &[u8]) {
+        *self.answers.entry((kind, valueless(answer))).or_default() += 1;
+        let verdict = Part::new().answer(answer).bytes(&digest(&self.state, out));
+        self.out.push(Case {
+            kind,
+            given,
+            expected: verdict.bytes(more),
+        });
+    }
+
+    fn open(&mut self, n: u64, t: u64, own: u64, message: &[u8]) {
+        let (state, answer) = State::open(n, t, own, message);
+        let (answer, root) = match answer {
+            Ok(root) => (Done(0), root),
+            Err(refusal) => (Refused(refusal.cause), [0; 32]),
+        };
+        self.state = state;
+        let given = Part::new().eight(n).eight(t).eight(own).bytes(message);
+        self.called(Kind::Openings, given, answer, &[], &root);
+    }
+
+    /// What the call would give; the state stays.
+    fn tried(&self, call: &Call, out: &mut [u8]) -> (State, Answer) {
+        let state = self.state.clone();
+        match call {
+            Call::Root(root) => told(state.agree_root(root), |happy| Done(happy.into())),
+            Call::Bit(bit) => told(state.agree_bit(*bit, out), Done),
+            Call::Shares(inbox) => told(state.take_shares(inbox, out), Done),
+            Call::Relays(inbox) => told(state.take_relays(inbox, out), |found| {
+                found.map_or(Nothing, Done)
+            }),
+        }
+    }
+
+    /// The bytes that the call would write.
+    fn needed(&self, call: &Call) -> usize {
+        match (call, self.tried(call, &mut [UNTOUCHED; MOST_ROOM])) {
+            (Call::Root(_), _) => 0,
+            (_, (_, Done(length))) => length,
+            _ => 0,
+        }
+    }
+
+    /// The call with so much room; step 2 has no buffer.
+    fn call(&mut self, call: &Call, room: usize) {
+        let room = match call {
+            Call::Root(_) => 0,
+            _ => room,
+        };
+        let mut out = vec![UNTOUCHED; room];
+        let (state, answer) = self.tried(call, &mut out);
+        self.state = state;
+        if let Call::Shares(inbox) | Call::Relays(inbox) = call {
+            self.put_inbox(inbox);
+        }
+        let (kind, given) = match call {
+            Call::Root(root) => (Kind::AgreedRoots, Part::new().bytes(root)),
+            Call::Bit(bit) => (Kind::AgreedBits, Part::new().two((*bit).into()).two(room)),
+            Call::Shares(inbox) => (Kind::FirstInboxes, Part::new().two(inbox.len()).two(room)),
+            Call::Relays(inbox) => (Kind::SecondInboxes, Part::new().two(inbox.len()).two(room)),
+        };
+        self.called(kind, given, answer, &out, &[]);
+    }
+
+    /// Has the reader's inbox start with these bytes; only what differs is written.
+    fn put_inbox(&mut self, bytes: &[u8]) {
+        let differs = |&place: &usize| self.inbox[place] != bytes[place];
+        let first = (0..bytes.len()).find(differs);
+        let last = (0..bytes.len()).rev().find(differs);
+        if let (Some(first), Some(last)) = (first, last) {
+            self.put(Place::Inbox, first, &bytes[first..=last]);
+        }
+    }
+
+    fn put(&mut self, place: Place, at: usize, bytes: &[u8]) {
+        let whole = match place {
+            Place::Message => &mut self.state.message[..],
+            Place::Root => &mut self.state.root[..],
+            Place::Share => &mut self.state.share[..],
+            Place::Inbox => &mut self.inbox[..],
+        };
+        whole[at..at + bytes.len()].copy_from_slice(bytes);
+        let given = Part::new().one(place as usize).two(at).bytes(bytes);
+        self.change(Kind::BytesChanged, given);
+    }
+
+    fn number(&mut self, number: Number) -> &mut u64 {
+        match number {
+            Number::N => &mut self.state.n,
+            Number::T => &mut self.state.t,
+            Number::Own => &mut self.state.own,
+            Number::Len => &mut self.state.len,
+            Number::Held => &mut self.state.held,
+        }
+    }
+
+    /// Sets a number of the state, and gives the one that stood there.
+    fn set(&mut self, number: Number, value: u64) -> u64 {
+        let given = Part::new().one(number as usize).eight(value);
+        self.change(Kind::NumbersChanged, given);
+        std::mem::replace(self.number(number), value)
+    }
+
+    fn set_stage(&mut self, stage: Stage) {
+        let (number, length) = stage_number(stage);
+        self.state.stage = stage;
+        let given = Part::new().one(number.into()).eight(length);
+        self.change(Kind::StagesChanged, given);
+    }
+}
+
+/// Choices, and calls in several ways.
+impl File {
+    /// Yes once in so many times.
+    fn once_in(&mut self, times: usize) -> bool {
+        self.random.below(times) == 0
+    }
+
+    fn pick<T: Copy>(&mut self, choices: &[T]) -> T {
+        choices[self.random.below(choices.len())]
+    }
+
+    /// The call with too little room, then with enough: just that or more.
+    fn short_then_enough(&mut self, call: &Call) {
+        let needed = self.needed(call);
+        if needed > 0 {
+            self.call(call, needed - 1);
+            if self.once_in(3) {
+                self.call(call, 0);
+            }
+        }
+        let more = self.pick(&[0, 0, 1, 40]);
+        self.call(call, needed + more);
+    }
+
+    /// A call of this kind whose argument is well made or, for causes 7 and 8, not.
+    fn some_call(&mut self, kind: u8, well: bool) -> Call {
+        let n = self.state.n.min(MOST_PARTIES as u64) as usize;
+        let inbox = match well {
+            true => vec![0; 2 * n],
+            false => vec![0; 2 * n + 1],
+        };
+        match kind {
+            2 if well => Call::Root(self.random.bytes(32)),
+            2 => {
+                let length = self.pick(&[0, 31, 33, 64]);
+                Call::Root(self.random.bytes(length))
+            }
+            3 if well => Call::Bit(self.random.below(2) as u8),
+            3 => Call::Bit(self.pick(&[2, 3, 255])),
+            4 => Call::Shares(inbox),
+            _ => Call::Relays(inbox),
+        }
+    }
+
+    /// Each step that is not in turn, half of the time with a cause over 6 as well.
+    fn out_of_turn(&mut self) {
+        for kind in 2..=5 {
+            if turn(self.state.stage) != Some(kind) {
+                let well = self.once_in(2);
+                let call = self.some_call(kind, well);
+                let room = self.pick(&[0, 40]);
+                self.call(&call, room);
+            }
+        }
+    }
+
+    /// Calls on a state that breaks a limit, which then gets its old number back.
+    fn broken(&mut self) {
+        let State { n, t, own, len, .. } = self.state;
+        let high = self.pick(&[u64::MAX, 1 << 63, 1 << 32, 1 << 16]);
+        let (number, values) = match self.random.below(5) {
+            0 => (Number::N, [0, 17, own - 1, 2 * t, high | n]),
+            1 => (Number::T, [n.div_ceil(2), n, 1 << 63 | t, high, high | t]),
+            2 => (Number::Own, [0, n + 1, 17, 256 | own, high | own]),
+            3 => (Number::Len, [1025, 1025, 1026, high, high | len]),
+            _ => (Number::Held, [1027, 1027, 1028, high, high | 1]),
+        };
+        let value = self.pick(&values);
+        let old = self.set(number, value);
+        self.two_calls();
+        self.set(number, old);
+    }
+
+    /// A step in turn, if one is, and another, each well made or not.
+    fn two_calls(&mut self) {
+        let any = self.random.below(4) as u8 + 2;
+        for kind in [turn(self.state.stage).unwrap_or(2), any] {
+            let well = self.once_in(2);
+            let call = self.some_call(kind, well);
+            let room = self.pick(&[0, 40, 200]);
+            self.call(&call, room);
+        }
+    }
+
+    /// Calls on a state that ended with too long a message, which then gets its stage back.
+    fn overlong(&mut self) {
+        let old = self.state.stage;
+        let length = self.pick(&[1025, 65_536, 1 << 32, u64::MAX]);
+        self.set_stage(Stage::Ended(Outcome::Message(length)));
+        self.two_calls();
+        self.set_stage(old);
+    }
+
+    /// Bytes that no stage has: past the lengths, and root or share where they are not held.
+    fn dirt(&mut self) {
+        let (len, held) = (self.state.len as usize, self.state.held as usize);
+        let bytes = self.random.bytes(3);
+        if len + 3 <= LONGEST_MESSAGE {
+            let at = self.pick(&[len, LONGEST_MESSAGE - 3]);
+            self.put(Place::Message, at, &bytes);
+        }
+        if held + 3 <= LONGEST_SHARE {
+            let at = self.pick(&[held, LONGEST_SHARE - 3]);
+            self.put(Place::Share, at, &bytes);
+        }
+        if matches!(self.state.stage, Stage::Root | Stage::Ended(_)) {
+            let at = self.random.below(30);
+            self.put(Place::Root, at, &bytes);
+        }
+        let holds = matches!(self.state.stage, Stage::Second);
+        if !holds && self.once_in(2) {
+            let length = self.pick(&[1, 5, LONGEST_SHARE as u64]);
+            self.set(Number::Held, length);
+        }
+    }
+
+    /// What may happen between two steps in turn.
+    fn meanwhile(&mut self) {
+        if self.once_in(2) {
+            self.dirt();
+        }
+        self.out_of_turn();
+        if self.once_in(2) {
+            self.broken();
+        }
+        if self.once_in(6) {
+            self.overlong();
+        }
+    }
+}
+
+/// Inboxes.
+impl File {
+    /// Bytes in place of the good packet with number j, in the next of many ways.
+    fn damaged(&mut self, sharing: &Sharing, j: usize) -> Vec<u8> {
+        let n = sharing.shares.len();
+        let good = sharing.packet(j);
+        let share = &sharing.shares[j - 1];
+        let path = tree::path(&sharing.shares, j);
+        let behind = 4 + share.len();
+        let flip = |place: usize| {
+            let mut bytes = good.clone();
+            bytes[place] ^= 0x10;
+            bytes
+        };
+        self.damages += 1;
+        match self.damages % 16 {
+            0 => sharing.packet(j % n + 1),
+            1 => vec![0],
+            2 => flip(0),
+            3 => flip(4),
+            4 => good[..good.len() - 1].to_vec(),
+            5 => [&good[..], &[0]].concat(),
+            6 if n > 1 => packet::write(j, share, &path[1..]),
+            7 => packet::write(j, share, &[&path[..], &[[0; 32]]].concat()),
+            8 => packet::write(j, &share[1..], &path),
+            9 => packet::write(j, &[&share[..], &[0]].concat(), &path),
+            10 if n > 1 => flip(behind),
+            11 => {
+                let other = j % n + 1;
+                packet::write(other, share, &tree::path(&sharing.shares, other))
+            }
+            12 => self.random.bytes(37),
+            13 => packet::write(j, &sharing.shares[j % n], &path),
+            14 => flip(3),
+            _ => Vec::new(),
+        }
+    }
+
+    /// An inbox for party `own` with the good packets of the senders in the map, and in place
+    /// of the others silence or something damaged; sender j's good packet bears the number
+    /// demanded of it.
+    fn packets(
+        &mut self,
+        sharing: &Sharing,
+        own: usize,
+        map: u32,
+        demanded: Demand,
+    ) -> Vec<Vec<u8>> {
+        let quiet = self.once_in(5);
+        let mut packets = Vec::new();
+        for j in 1..=sharing.shares.len() {
+            let number = demanded(own, j);
+            let good = map >> (j - 1) & 1 == 1;
+            packets.push(if good {
+                sharing.packet(number)
+            } else if quiet || j == own || self.once_in(3) {
+                Vec::new()
+            } else {
+                self.damaged(sharing, number)
+            });
+        }
+        packets
+    }
+
+    /// The call with badly laid out inboxes: cause 8, and cause 9 at once where there is one.
+    fn badly(&mut self, packets: &[Vec<u8>], call: fn(Vec<u8>) -> Call) {
+        let good = lay_out(packets);
+        let needed = self.needed(&call(good.clone()));
+        for _ in 0..2 {
+            let bad = match self.random.below(6) {
+                0 => good[..good.len() - 1].to_vec(),
+                1 => [&good[..], &[0]].concat(),
+                2 => lay_out(&packets[..packets.len() - 1]),
+                3 => [&good[..], &[0, 0]].concat(),
+                4 => [&good[..1], &[good[1] ^ 1], &good[2..]].concat(),
+                _ => Vec::new(),
+            };
+            let room = self.pick(&[0, needed.saturating_sub(1), needed]);
+            self.call(&call(bad), room);
+        }
+    }
+}
+
+/// How the shares under the agreed root are made.
+#[derive(Clone, Copy)]
+enum Making {
+    Honest,
+    /// The frame's last byte is changed, which mostly is filling.
+    Filled,
+    /// The frame says a length over the greatest.
+    LongLength,
+    /// Each share has a byte more than the length gives.
+    ExtraColumn,
+    /// One share is longer than the others.
+    Unequal,
+    SpoiltFirst,
+    SpoiltLast,
+    /// Shares of the greatest length that a packet has room for.
+    Longest,
+    Noise,
+}
+
+impl File {
+    /// Shares of n parties, b of which are to give a message of this length, if it is honest.
+    fn sharing(&mut self, n: usize, b: usize, length: usize, making: Making) -> Sharing {
+        let mut frame = frame_of(b, &self.random.bytes(length));
+        match making {
+            Making::Filled => *frame.last_mut().expect("a frame") ^= 0x40,
+            Making::LongLength => {
+                let s = share_length(b, LONGEST_MESSAGE + 1);
+                frame = self.random.bytes(b * s);
+                frame[..2].copy_from_slice(&(LONGEST_MESSAGE as u16 + 1).to_be_bytes());
+                frame[LONGEST_MESSAGE + 3..].fill(0);
+            }
+            Making::ExtraColumn => frame.resize(frame.len() + b, 0),
+            Making::Longest => frame = self.random.bytes(b * LONGEST_SHARE),
+            Making::Noise => frame = self.random.bytes(frame.len()),
+            _ => {}
+        }
+        let mut shares = shares_of(n, b, &frame);
+        match making {
+            Making::Unequal => shares[b / 2].push(0),
+            Making::SpoiltFirst => shares[0][0] ^= 1,
+            Making::SpoiltLast => shares[n - 1][0] ^= 1,
+            _ => {}
+        }
+        Sharing::of(shares)
+    }
+
+    /// A set of this many of the other parties, or of all there are.
+    fn others(&mut self, n: usize, own: usize, count: usize) -> u32 {
+        let chosen = self.random.choice(n - 1, count.min(n - 1));
+        let low = chosen & ((1 << (own - 1)) - 1);
+        low | (chosen ^ low) << 1
+    }
+}
+
+/// What is done to the held share between steps 4 and 5; to hold one is to have the good one,
+/// wherever it came from.
+#[derive(Clone, Copy, PartialEq)]
+enum Forging {
+    Leave,
+    Spoil,
+    Lengthen,
+    Shorten,
+    Drop,
+    Hold,
+}
+
+/// What a party is put through.
+struct Plan {
+    n: usize,
+    t: usize,
+    own: usize,
+    message: Vec<u8>,
+    agreed: Sharing,
+    bit: u8,
+    /// The senders with a good packet in the two inboxes; the own entry may be one of them.
+    first: u32,
+    second: u32,
+    forging: Forging,
+}
+
+/// The number that party `own` demands of a sender's packet.
+type Demand = fn(own: usize, sender: usize) -> usize;
+
+fn bearing_own(own: usize, _: usize) -> usize {
+    own
+}
+
+fn bearing_theirs(_: usize, sender: usize) -> usize {
+    sender
+}
+
+/// One list: all steps in turn, with refused calls and changes of the state before each.
+fn play(file: &mut File, plan: &Plan) {
+    file.open(plan.n as u64, plan.t as u64, plan.own as u64, &plan.message);
+    file.meanwhile();
+    let wrong = file.some_call(2, false);
+    file.call(&wrong, 0);
+    file.call(&Call::Root(plan.agreed.root.to_vec()), 0);
+    file.meanwhile();
+    let needed = file.needed(&Call::Bit(plan.bit));
+    let wrong = file.some_call(3, false);
+    let room = file.pick(&[0, needed.saturating_sub(1), needed]);
+    file.call(&wrong, room);
+    file.short_then_enough(&Call::Bit(plan.bit));
+    file.meanwhile();
+    if plan.bit == 1 {
+        let packets = file.packets(&plan.agreed, plan.own, plan.first, bearing_own);
+        file.badly(&packets, Call::Shares);
+        file.short_then_enough(&Call::Shares(lay_out(&packets)));
+        file.meanwhile();
+        forge(file, plan);
+        let packets = file.packets(&plan.agreed, plan.own, plan.second, bearing_theirs);
+        file.badly(&packets, Call::Relays);
+        file.short_then_enough(&Call::Relays(lay_out(&packets)));
+        file.meanwhile();
+    }
+    file.out_of_turn();
+}
+
+/// Changes the held share; the state stays lawful.
+fn forge(file: &mut File, plan: &Plan) {
+    let held = file.state.held;
+    match plan.forging {
+        Forging::Leave => {}
+        Forging::Spoil => {
+            let byte = file.state.share[0] ^ 0x20;
+            file.put(Place::Share, 0, &[byte]);
+        }
+        Forging::Lengthen => {
+            file.set(Number::Held, (held + 1).min(LONGEST_SHARE as u64));
+        }
+        Forging::Shorten => {
+            file.set(Number::Held, held.saturating_sub(1));
+        }
+        Forging::Drop => {
+            file.set(Number::Held, 0);
+        }
+        Forging::Hold => {
+            let share = &plan.agreed.shares[plan.own - 1];
+            file.put(Place::Share, 0, share);
+            file.set(Number::Held, share.len() as u64);
+        }
+    }
+}
+
+/// Agreed roots that differ from the own one in a single bit, each byte's turn: not happy.
+fn near_roots(file: &mut File) {
+    file.open(3, 1, 2, b"AB");
+    let own = Sharing::of(shares_of(3, 2, &frame_of(2, b"AB"))).root;
+    for place in 0..own.len() {
+        let mut root = own;
+        root[place] ^= 1 << file.random.below(8);
+        file.call(&Call::Root(root.to_vec()), 0);
+        file.call(&Call::Bit(1), 6);
+        file.call(&Call::Shares(vec![0; 6]), 0);
+        file.call(&Call::Relays(vec![0; 6]), 0);
+        file.set_stage(Stage::Root);
+        file.put(Place::Message, 0, b"AB");
+        file.set(Number::Len, 2);
+    }
+}
+
+/// All n and t that are taken.
+fn groups() -> impl Iterator<Item = (usize, usize)> {
+    (1..=MOST_PARTIES).flat_map(|n| (0..n.div_ceil(2)).map(move |t| (n, t)))
+}
+
+/// A message's length: mostly short, now and then the greatest, or one that just fills the frame.
+fn some_length(file: &mut File, b: usize) -> usize {
+    let filled = (b * (1 + file.random.below(4))).saturating_sub(2);
+    let short = file.random.below(40);
+    file.pick(&[
+        0,
+        1,
+        short,
+        short,
+        filled,
+        filled,
+        filled + 1,
+        LONGEST_MESSAGE,
+    ])
+}
+
+/// A happy party in each group; the inboxes tell it nothing.
+fn happy(file: &mut File) {
+    for (place, (n, t)) in groups().enumerate() {
+        let length = some_length(file, n - t);
+        let message = file.random.bytes(length);
+        let agreed = Sharing::of(shares_of(n, n - t, &frame_of(n - t, &message)));
+        let own = 1 + file.random.below(n);
+        let few = file.random.below(3);
+        let plan = Plan {
+            n,
+            t,
+            own,
+            message,
+            agreed,
+            bit: u8::from(place % 8 != 5),
+            first: file.others(n, own, few),
+            second: file.others(n, own, few),
+            forging: file.pick(&[Forging::Leave, Forging::Hold, Forging::Lengthen]),
+        };
+        play(file, &plan);
+    }
+}
+
+/// How many others send an unhappy party its share, and how many relay theirs, beyond what is
+/// just enough with the own share.
+const SENDERS: [(usize, isize); 8] = [
+    (1, 0),
+    (0, 0),
+    (2, 1),
+    (0, 1),
+    (1, -1),
+    (1, 16),
+    (0, 16),
+    (3, 0),
+];
+
+/// Two unhappy parties in each group, under the roots of other messages.
+fn unhappy(file: &mut File) {
+    for (place, (n, t)) in groups().chain(groups()).enumerate() {
+        let (senders, relays) = SENDERS[(place + n) % SENDERS.len()];
+        let length = some_length(file, n - t);
+        let agreed = file.sharing(n, n - t, length, Making::Honest);
+        unhappy_under(file, (n, t), agreed, senders, relays, Forging::Leave);
+    }
+}
+
+/// An unhappy party under this root. Its own entry sometimes holds a good packet.
+fn unhappy_under(
+    file: &mut File,
+    (n, t): (usize, usize),
+    agreed: Sharing,
+    senders: usize,
+    relays: isize,
+    forging: Forging,
+) {
+    let own = 1 + file.random.below(n);
+    let relays = (n - t - 1).saturating_add_signed(relays);
+    let mut maps = [senders, relays].map(|count| file.others(n, own, count));
+    for map in &mut maps {
+        if file.once_in(2) {
+            *map |= 1 << (own - 1);
+        }
+    }
+    let length = file.random.below(20);
+    let plan = Plan {
+        n,
+        t,
+        own,
+        message: file.random.bytes(length),
+        agreed,
+        bit: u8::from(!file.once_in(16)),
+        first: maps[0],
+        second: maps[1],
+        forging,
+    };
+    play(file, &plan);
+}
+
+/// Agreed roots whose shares give no message, or only some of them do.
+fn no_message(file: &mut File) {
+    let makings = [
+        Making::Filled,
+        Making::LongLength,
+        Making::ExtraColumn,
+        Making::Unequal,
+        Making::SpoiltFirst,
+        Making::SpoiltLast,
+        Making::Noise,
+    ];
+    for (n, t) in [(2, 0), (3, 1), (4, 1), (7, 3), (16, 5)] {
+        for making in makings {
+            let length = file.random.below(30);
+            let agreed = file.sharing(n, n - t, length, making);
+            let relays = file.pick(&[0, 1, 16]);
+            unhappy_under(file, (n, t), agreed, 1, relays, Forging::Leave);
+        }
+    }
+    for (n, t) in [(2, 0), (3, 1)] {
+        let agreed = file.sharing(n, n - t, 0, Making::Longest);
+        unhappy_under(file, (n, t), agreed, 1, 16, Forging::Leave);
+    }
+}
+
+/// Packets that are good, but bear another number than is demanded: those that senders are to
+/// relay in the first inbox, and one another's in the second. None of them counts.
+fn swapped(file: &mut File) {
+    for (n, t) in [(2, 0), (3, 1), (4, 0), (5, 2), (9, 4), (16, 7)] {
+        let agreed = file.sharing(n, n - t, 5, Making::Honest);
+        let own = 1 + file.random.below(n);
+        file.open(n as u64, t as u64, own as u64, b"other");
+        file.call(&Call::Root(agreed.root.to_vec()), 0);
+        file.short_then_enough(&Call::Bit(1));
+        let theirs: Vec<Vec<u8>> = (1..=n).map(|j| agreed.packet(j)).collect();
+        file.short_then_enough(&Call::Shares(lay_out(&theirs)));
+        if file.once_in(2) {
+            let share = &agreed.shares[own - 1];
+            file.put(Place::Share, 0, share);
+            file.set(Number::Held, share.len() as u64);
+        }
+        let next: Vec<Vec<u8>> = (1..=n).map(|j| agreed.packet(j % n + 1)).collect();
+        file.short_then_enough(&Call::Relays(lay_out(&next)));
+    }
+}
+
+/// Unhappy states whose held share was changed; the rebuilding decides.
+fn forged(file: &mut File) {
+    let forgings = [
+        Forging::Spoil,
+        Forging::Lengthen,
+        Forging::Shorten,
+        Forging::Drop,
+        Forging::Hold,
+    ];
+    for (n, t) in [(1, 0), (2, 0), (3, 1), (5, 2), (8, 3), (16, 7)] {
+        for forging in forgings {
+            let agreed = file.sharing(n, n - t, 9, Making::Honest);
+            let senders = usize::from(forging != Forging::Hold);
+            let relays = file.pick(&[0, 0, 16]);
+            unhappy_under(file, (n, t), agreed, senders, relays, forging);
+        }
+    }
+}
+
+/// A party alone that was given a stage, a root and a share: the share is the frame itself.
+fn alone(file: &mut File) {
+    for share in [
+        &[0, 2, 0x41, 0x42][..],
+        &[0, 0],
+        &[0],
+        &[0, 1, 7, 0],
+        &[4, 1],
+        &[],
+    ] {
+        file.open(1, 0, 1, b"AB");
+        let root = file.random.bytes(32);
+        file.put(Place::Root, 0, &root);
+        file.put(Place::Share, 0, share);
+        file.set(Number::Held, share.len() as u64);
+        file.set_stage(Stage::Second);
+        file.short_then_enough(&Call::Relays(vec![0, 3, 7, 1, 0]));
+        file.out_of_turn();
+    }
+    file.open(1, 0, 1, b"");
+    let frame = frame_of(1, &file.random.bytes(LONGEST_MESSAGE));
+    file.put(Place::Root, 0, &[1]);
+    file.put(Place::Share, 0, &frame);
+    file.set(Number::Held, frame.len() as u64);
+    file.set_stage(Stage::Second);
+    file.short_then_enough(&Call::Relays(vec![0, 0]));
+}
+
+/// Openings refused for each cause alone and with the next ones; every state that they give
+/// is called.
+fn openings(file: &mut File) {
+    let long = file.random.bytes(LONGEST_MESSAGE + 2);
+    let (most, over) = (&long[..LONGEST_MESSAGE], &long[..LONGEST_MESSAGE + 1]);
+    let huge = [1 << 63, u64::MAX, (1 << 32) + 3, 1 << 16];
+    for n in [0, 17, 18, 256].into_iter().chain(huge) {
+        for (t, own) in [(0, 1), (n, 1), (n / 2, n.wrapping_add(1)), (0, 0)] {
+            opened(file, n, t, own, b"ab");
+        }
+    }
+    for (n, t) in [
+        (1, 1),
+        (2, 1),
+        (3, 2),
+        (15, 8),
+        (16, 8),
+        (16, 16),
+        (4, 1 << 63),
+    ] {
+        for (own, message) in [(1, &b"ab"[..]), (0, b""), (n + 1, &long)] {
+            opened(file, n, t, own, message);
+        }
+    }
+    for t in huge {
+        opened(file, 3, t, 1, b"ab");
+        opened(file, 3, t, 4, b"ab");
+        opened(file, 3, 1, t, b"ab");
+    }
+    for (n, t) in [(1, 0), (3, 1), (16, 7)] {
+        for own in [0, n + 1, 17, 256 + n] {
+            opened(file, n, t, own, b"ab");
+        }
+        opened(file, n, t, n + 1, over);
+        opened(file, n, t, n, over);
+        opened(file, n, t, n, &long);
+        opened(file, n, t, n, most);
+    }
+    opened(file, 17, 8, 1, over);
+    opened(file, 0, 0, 0, over);
+}
+
+/// An opening and two calls on what it gave.
+fn opened(file: &mut File, n: u64, t: u64, own: u64, message: &[u8]) {
+    file.open(n, t, own, message);
+    file.two_calls();
+}
+
+/// How many lists of calls in no order, so that the calls of steps are at least so many.
+const LISTS: usize = 410;
+const LEAST_CALLS: usize = 20_000;
+
+/// Lists of calls and changes in no order.
+fn wander(file: &mut File) {
+    for _ in 0..LISTS {
+        let (n, t) = groups().nth(file.random.below(72)).expect("72 groups");
+        let length = file.random.below(12);
+        let message = file.random.bytes(length);
+        let own = 1 + file.random.below(n);
+        file.open(n as u64, t as u64, own as u64, &message);
+        let frame = frame_of(n - t, &message);
+        let happy = Sharing::of(shares_of(n, n - t, &frame));
+        let sharing = match file.once_in(2) {
+            true => happy,
+            false => file.sharing(n, n - t, 7, Making::Honest),
+        };
+        let count = file.random.below(n + 1);
+        let map = file.random.choice(n, count);
+        let first = lay_out(&file.packets(&sharing, own, map, bearing_own));
+        let second = lay_out(&file.packets(&sharing, own, map, bearing_theirs));
+        for _ in 0..24 {
+            wander_once(file, &sharing, &first, &second);
+        }
+    }
+}
+
+fn wander_once(file: &mut File, sharing: &Sharing, first: &[u8], second: &[u8]) {
+    let call = match file.random.below(4) {
+        0 => Call::Root(sharing.root.to_vec()),
+        1 => Call::Bit(u8::from(!file.once_in(6))),
+        2 => Call::Shares(first.to_vec()),
+        _ => Call::Relays(second.to_vec()),
+    };
+    match file.random.below(16) {
+        0 => {
+            let stages = [Stage::Root, Stage::Bit, Stage::First, Stage::Second];
+            let ends = [
+                Outcome::Nothing,
+                Outcome::Message(0),
+                Outcome::Message(1024),
+            ];
+            let stage = match file.once_in(4) {
+                true => Stage::Ended(file.pick(&ends)),
+                false => file.pick(&stages),
+            };
+            file.set_stage(stage);
+        }
+        1 => {
+            let len = file.random.below(14) as u64;
+            file.set(Number::Len, len);
+        }
+        2 => file.dirt(),
+        3 => file.broken(),
+        4 => file.put(Place::Root, 0, &sharing.root),
+        _ => file.short_then_enough(&call),
+    }
+}
+
+/// The worked cases: two of three parties, whose third is silent, and a party alone.
+fn worked(file: &mut File) {
+    let lowest = Sharing::of(shares_of(3, 2, &frame_of(2, b"A")));
+    for (own, message) in [(1, b"A"), (2, b"B")] {
+        file.open(3, 1, own, message);
+        file.call(&Call::Root(lowest.root.to_vec()), 0);
+        file.short_then_enough(&Call::Bit(1));
+        let first = [lowest.packet(own as usize), Vec::new(), Vec::new()];
+        file.short_then_enough(&Call::Shares(lay_out(&first)));
+        let second = [lowest.packet(1), lowest.packet(2), Vec::new()];
+        file.short_then_enough(&Call::Relays(lay_out(&second)));
+    }
+    for message in [&b"AB"[..], b"", &[9; LONGEST_MESSAGE]] {
+        file.open(1, 0, 1, message);
+        let frame = frame_of(1, message);
+        let root = Sharing::of(vec![frame]).root;
+        file.call(&Call::Root(root.to_vec()), 0);
+        file.short_then_enough(&Call::Bit(1));
+        file.short_then_enough(&Call::Shares(vec![0, 0]));
+        file.short_then_enough(&Call::Relays(vec![0, 0]));
+        file.out_of_turn();
+    }
+}
+
+/// The answers that the calls of each kind are to have had, each several times.
+const WANTED: [(Kind, &[Answer]); 5] = [
+    (
+        Kind::Openings,
+        &[Done(0), Refused(1), Refused(2), Refused(3), Refused(4)],
+    ),
+    (
+        Kind::AgreedRoots,
+        &[Done(0), Refused(5), Refused(6), Refused(7)],
+    ),
+    (
+        Kind::AgreedBits,
+        &[Done(0), Refused(5), Refused(6), Refused(7), Short(0)],
+    ),
+    (
+        Kind::FirstInboxes,
+        &[Done(0), Refused(5), Refused(6), Refused(8), Short(0)],
+    ),
+    (
+        Kind::SecondInboxes,
+        &[
+            Done(0),
+            Nothing,
+            Refused(5),
+            Refused(6),
+            Refused(8),
+            Short(0),
+        ],
+    ),
+];
+
+pub fn cases() -> Vec<Case> {
+    let mut file = File::new();
+    worked(&mut file);
+    openings(&mut file);
+    alone(&mut file);
+    near_roots(&mut file);
+    happy(&mut file);
+    unhappy(&mut file);
+    no_message(&mut file);
+    swapped(&mut file);
+    forged(&mut file);
+    wander(&mut file);
+    file.well_mixed();
+    file.out
+}
+
+impl File {
+    /// Stops the run unless there are calls enough of each kind and answer.
+    fn well_mixed(&self) {
+        let opening = |kind: &Kind| *kind == Kind::Openings;
+        let steps = self.answers.iter().filter(|((kind, _), _)| !opening(kind));
+        let calls: usize = steps.map(|(_, times)| times).sum();
+        assert!(calls >= LEAST_CALLS, "{calls} calls");
+        for (kind, answers) in WANTED {
+            for &answer in answers {
+                let times = self.answers.get(&(kind, answer)).copied();
+                assert!(times >= Some(5), "{kind:?}, {answer:?}: {times:?}");
+            }
+        }
+    }
+}

@@ -1,0 +1,407 @@
+//! The hash and the tree.
+//!
+//! - Hashes: the string. The cause (1 byte: 0 or 4) and the digest (32, zero if refused).
+//! - Trees: n (1), the n shares. The cause (1), the root (32), and for each leaf 1 to n the answer
+//!   to its path's length, and the path as four hashes, those past its length zero.
+//! - Checks: n (2), j (2), the count told to the check (1), the root's length (1), the path as four
+//!   hashes, those that are not stored of bytes 0xEE, the root, the share. The answer: 0 no, 1 yes.
+//! - Path lengths: n (1). The answer for each leaf 1 to n.
+//!
+//! Strings have at most 65,536 bytes, shares of a tree 65, shares of a check 65,534, roots 33.
+
+use super::{Answer, Case, Kind, Part};
+use crate::random::Random;
+use crate::sha256::{hash, Hash, LONGEST_STRING};
+use crate::tree::{self, judge, MOST_HASHES};
+
+const UNSTORED: Hash = [0xEE; 32];
+const NO: Answer = Answer::Done(0);
+const YES: Answer = Answer::Done(1);
+
+/// The party counts whose checks are tried leaf by leaf.
+const CHOSEN: [usize; 8] = [1, 2, 3, 5, 7, 8, 11, 16];
+
+type Shares = Vec<Vec<u8>>;
+
+/// What a check is called with; the path holds the stored hashes.
+#[derive(Clone)]
+struct Call {
+    n: usize,
+    j: usize,
+    share: Vec<u8>,
+    path: Vec<Hash>,
+    count: usize,
+    root: Vec<u8>,
+}
+
+/// The right call for leaf j of the tree over `shares`.
+fn right(shares: &Shares, j: usize) -> Call {
+    let path = tree::path(shares, j);
+    Call {
+        n: shares.len(),
+        j,
+        share: shares[j - 1].clone(),
+        count: path.len(),
+        path,
+        root: tree::root(shares).to_vec(),
+    }
+}
+
+/// The cases so far, and the source of randomness.
+struct File {
+    out: Vec<Case>,
+    random: Random,
+}
+
+impl File {
+    fn hash(&mut self, string: &[u8]) {
+        let (cause, digest) = match string.len() <= LONGEST_STRING {
+            true => (0, hash(string)),
+            false => (4, [0; 32]),
+        };
+        self.out.push(Case {
+            kind: Kind::Hashes,
+            given: Part::new().bytes(string),
+            expected: Part::new().one(cause).bytes(&digest),
+        });
+    }
+
+    fn tree(&mut self, shares: &Shares) {
+        let mut expected = Part::new().one(0).bytes(&tree::root(shares));
+        for j in 1..=shares.len() {
+            let mut path = tree::path(shares, j);
+            expected = expected.answer(Answer::Done(path.len()));
+            path.resize(MOST_HASHES, [0; 32]);
+            expected = expected.bytes(&path.concat());
+        }
+        self.out.push(Case {
+            kind: Kind::Trees,
+            given: Part::new().one(shares.len()).bytes(&shares.concat()),
+            expected,
+        });
+    }
+
+    /// Runs one check and writes it as a case; gives the answer.
+    fn tried(&mut self, call: &Call) -> Answer {
+        let mut path = [UNSTORED; MOST_HASHES];
+        path[..call.path.len()].copy_from_slice(&call.path);
+        let parties = (call.n, call.j);
+        let answer = match judge(parties, &call.share, &path, call.count, &call.root) {
+            Ok(passes) => Answer::Done(passes.into()),
+            Err(cause) => Answer::Refused(cause),
+        };
+        let numbers = Part::new().two(call.n).two(call.j).one(call.count);
+        let root = numbers.one(call.root.len()).bytes(&path.concat());
+        self.out.push(Case {
+            kind: Kind::Checks,
+            given: root.bytes(&call.root).bytes(&call.share),
+            expected: Part::new().answer(answer),
+        });
+        answer
+    }
+
+    /// A check whose answer is known beforehand.
+    fn check(&mut self, call: &Call, answer: Answer) {
+        let (n, j, count) = (call.n, call.j, call.count);
+        assert_eq!(self.tried(call), answer, "n {n}, j {j}, count {count}");
+    }
+
+    fn shares(&mut self, n: usize, length: usize) -> Shares {
+        (0..n).map(|_| self.random.bytes(length)).collect()
+    }
+
+    fn random_hash(&mut self) -> Hash {
+        hash(&self.random.bytes(8))
+    }
+
+    /// Flips one bit.
+    fn damage(&mut self, bytes: &mut [u8]) {
+        let place = self.random.below(bytes.len());
+        bytes[place] ^= 1 << self.random.below(8);
+    }
+
+    /// Another leaf than j.
+    fn other(&mut self, n: usize, j: usize) -> usize {
+        (j + self.random.below(n - 1)) % n + 1
+    }
+}
+
+/// The examples of FIPS 180-4 and of its publisher, short lengths, and the limit.
+fn hash_cases(file: &mut File) {
+    file.hash(b"abc");
+    file.hash(b"abcdbcdecdefdefgefghfghighijhijkijkljklmklmnlmnomnopnopq");
+    file.hash(b"");
+    file.hash(
+        b"abcdefghbcdefghicdefghijdefghijkefghijklfghijklmghijklmn\
+          hijklmnoijklmnopjklmnopqklmnopqrlmnopqrsmnopqrstnopqrstu",
+    );
+    file.hash(&[0xBD]);
+    file.hash(&[0xC9, 0x8C, 0x8E, 0x55]);
+    for length in [55, 56, 57, 63, 64, 65, 1000] {
+        file.hash(&vec![0; length]);
+    }
+    file.hash(&[0xFF; 64]);
+    file.hash(&[0x41; 1000]);
+    file.hash(&[0x55; 1005]);
+    for length in (0..=200).chain([1000, 65_535, 65_536]) {
+        let string = file.random.bytes(length);
+        file.hash(&string);
+    }
+    file.hash(&[0; 5_000]);
+}
+
+/// Every number of leaves, with all paths and their lengths.
+fn tree_cases(file: &mut File) {
+    for n in 1..=16 {
+        let lengths = (1..=n).map(|j| Answer::Done(tree::path_length(n, j)));
+        file.out.push(Case {
+            kind: Kind::PathLengths,
+            given: Part::new().one(n),
+            expected: lengths.fold(Part::new(), Part::answer),
+        });
+    }
+    for n in 1..=16 {
+        for length in [1, 2, 31, 65] {
+            let shares = file.shares(n, length);
+            file.tree(&shares);
+        }
+    }
+    file.tree(&vec![vec![0x41, 0x40], vec![0x82, 0x86], vec![0xC3, 0xC4]]);
+    file.tree(&vec![vec![0]; 3]);
+}
+
+/// For every leaf of the chosen trees, the right call and what differs a little from it.
+fn leaf_checks(file: &mut File) {
+    for n in CHOSEN {
+        let length = 1 + file.random.below(9);
+        let shares = file.shares(n, length);
+        for j in 1..=n {
+            let good = right(&shares, j);
+            file.check(&good, YES);
+            damaged(file, &good);
+            past_the_count(file, &good);
+            wrong_counts(file, &good);
+            folding_counts(file, &good, &tree::leaves(&shares));
+            if n > 1 {
+                mixed_leaves(file, &good, &shares);
+            }
+            other_sizes(file, &good);
+        }
+    }
+}
+
+/// One bit flipped in each hash of the path, in the share and in the root; the share one
+/// byte longer or shorter.
+fn damaged(file: &mut File, good: &Call) {
+    for place in 0..good.path.len() {
+        let mut call = good.clone();
+        file.damage(&mut call.path[place]);
+        file.check(&call, NO);
+    }
+    let mut call = good.clone();
+    file.damage(&mut call.share);
+    file.check(&call, NO);
+    call = good.clone();
+    file.damage(&mut call.root);
+    file.check(&call, NO);
+    call = good.clone();
+    call.share.push(0);
+    file.check(&call, NO);
+    call = good.clone();
+    call.share.pop();
+    file.check(&call, NO);
+}
+
+/// Other hashes in the array past the count do not matter.
+fn past_the_count(file: &mut File, good: &Call) {
+    let mut call = good.clone();
+    while call.path.len() < MOST_HASHES {
+        call.path.push(file.random_hash());
+    }
+    if call.path.len() > good.path.len() {
+        file.check(&call, YES);
+    }
+}
+
+/// The right hashes in the array, and another count.
+fn wrong_counts(file: &mut File, good: &Call) {
+    let length = good.path.len();
+    let near = |count: usize| count.abs_diff(length) == 1 || count == 5;
+    let wild = |count: usize| good.j == 1 && [0, 1, 2, 3, 4, 6, 32, 128, 255].contains(&count);
+    for count in (0..256).filter(|&count| count != length && (near(count) || wild(count))) {
+        let call = Call {
+            count,
+            ..good.clone()
+        };
+        file.check(&call, NO);
+    }
+}
+
+/// Paths one hash short, one long, and of no hash at all, with the root they do fold to.
+fn folding_counts(file: &mut File, good: &Call, leaves: &[Hash]) {
+    let length = good.path.len();
+    let mut call = good.clone();
+    if length > 0 {
+        let (left, right) = leaves.split_at(tree::split(good.n));
+        let half = if good.j <= left.len() { left } else { right };
+        call.path.pop();
+        call.count = length - 1;
+        call.root = tree::root_of(half).to_vec();
+        file.check(&call, NO);
+    }
+    if length > 1 {
+        call.path.clear();
+        call.count = 0;
+        call.root = leaves[good.j - 1].to_vec();
+        file.check(&call, NO);
+    }
+    if length < MOST_HASHES {
+        let more = file.random_hash();
+        let root = tree::root_of(leaves);
+        call = good.clone();
+        call.path.push(more);
+        call.count = length + 1;
+        for root in [root, tree::node(root, more), tree::node(more, root)] {
+            call.root = root.to_vec();
+            file.check(&call, NO);
+        }
+    }
+}
+
+/// Number or path of another leaf, and the path in the wrong order.
+fn mixed_leaves(file: &mut File, good: &Call, shares: &Shares) {
+    let (n, j) = (good.n, good.j);
+    for j in [j % n + 1, file.other(n, j)] {
+        let call = Call { j, ..good.clone() };
+        file.check(&call, NO);
+    }
+    let other = right(shares, file.other(n, j));
+    let mut call = good.clone();
+    call.path = other.path;
+    call.count = other.count;
+    file.check(&call, NO);
+    if good.path.len() > 1 {
+        call = good.clone();
+        call.path.reverse();
+        file.check(&call, NO);
+    }
+}
+
+/// The same call with one leaf fewer and one more: yes where the way up stays the same,
+/// for the root says nothing of the number of leaves.
+fn other_sizes(file: &mut File, good: &Call) {
+    for n in [good.n - 1, good.n + 1] {
+        if good.j <= n && n <= 16 {
+            file.tried(&Call { n, ..good.clone() });
+        }
+    }
+}
+
+/// One bit flipped in each byte of share, path and root in turn.
+fn every_byte(file: &mut File) {
+    let shares = file.shares(2, 20);
+    for good in [right(&shares, 1), right(&shares, 2)] {
+        for place in 0..20 {
+            let mut call = good.clone();
+            file.damage(&mut call.share[place..=place]);
+            file.check(&call, NO);
+        }
+        for place in 0..32 {
+            let mut call = good.clone();
+            file.damage(&mut call.path[0][place..=place]);
+            file.check(&call, NO);
+            call = good.clone();
+            file.damage(&mut call.root[place..=place]);
+            file.check(&call, NO);
+        }
+    }
+}
+
+/// Shares of other lengths, the empty one and the longest included.
+fn share_lengths(file: &mut File) {
+    for (n, j, length) in [(1, 1, 0), (3, 3, 0), (5, 2, 65), (16, 16, 1026)] {
+        let shares = file.shares(n, length);
+        file.check(&right(&shares, j), YES);
+    }
+    for length in [51, 52, 53, 54, 61, 62, 63, 115, 118, 125, 126] {
+        let shares = file.shares(3, length);
+        file.check(&right(&shares, 2), YES);
+    }
+    let shares = file.shares(1, LONGEST_STRING - 2);
+    file.check(&right(&shares, 1), YES);
+}
+
+/// Each cause alone, the rest of the call being right.
+fn refusals(file: &mut File) {
+    for n in [1, 3, 8, 16] {
+        let shares = file.shares(n, 3);
+        let good = right(&shares, n);
+        for j in [0, n + 1, 255, 256, 256 + n, 65_535] {
+            file.check(&Call { j, ..good.clone() }, Answer::Refused(3));
+        }
+        for root in [&good.root[..0], &good.root[..31], &good.root[1..]] {
+            let mut call = good.clone();
+            call.root = root.to_vec();
+            file.check(&call, Answer::Refused(7));
+        }
+        let mut call = good.clone();
+        call.root.push(0);
+        file.check(&call, Answer::Refused(7));
+        call.count = 5;
+        file.check(&call, Answer::Refused(7));
+    }
+    let shares = file.shares(3, 3);
+    let good = right(&shares, 2);
+    for n in [17, 18, 255, 256, 256 + 3, 65_535] {
+        file.check(&Call { n, ..good.clone() }, Answer::Refused(1));
+    }
+    let shares = file.shares(1, LONGEST_STRING - 1);
+    file.check(&right(&shares, 1), Answer::Refused(4));
+}
+
+/// Several causes at once; the lowest is given.
+fn several(file: &mut File) {
+    let shares = file.shares(3, 3);
+    let good = right(&shares, 2);
+    let with = |n, j, root: &[u8]| Call {
+        n,
+        j,
+        root: root.to_vec(),
+        ..good.clone()
+    };
+    let whole = &good.root[..];
+    for (n, j) in [(0, 0), (0, 1), (17, 0), (17, 18), (65_535, 0)] {
+        file.check(&with(n, j, whole), Answer::Refused(1));
+        file.check(&with(n, j, &whole[1..]), Answer::Refused(1));
+    }
+    for n in [17, 65_535] {
+        file.check(&with(n, 2, &whole[1..]), Answer::Refused(1));
+        file.check(&with(n, 2, b""), Answer::Refused(1));
+    }
+    for j in [0, 4, 65_535] {
+        file.check(&with(3, j, &whole[1..]), Answer::Refused(3));
+        file.check(&with(3, j, b""), Answer::Refused(3));
+    }
+    let shares = file.shares(1, LONGEST_STRING - 1);
+    let mut call = right(&shares, 1);
+    call.j = 2;
+    file.check(&call, Answer::Refused(3));
+    call.j = 1;
+    call.root.pop();
+    file.check(&call, Answer::Refused(4));
+}
+
+pub fn cases() -> Vec<Case> {
+    let mut file = File {
+        out: Vec::new(),
+        random: Random::new(6962),
+    };
+    hash_cases(&mut file);
+    tree_cases(&mut file);
+    leaf_checks(&mut file);
+    every_byte(&mut file);
+    share_lengths(&mut file);
+    refusals(&mut file);
+    several(&mut file);
+    file.out
+}
