@@ -1,8 +1,8 @@
 // Runs test vectors from standard input through the proved functions, and tells how many cases of each kind agreed.
 //
-// The input is a stream of cases, as the crate `stream` says. What is handed in and what must come of it are told at the functions of the
-// modules below; each writes at the start of a lent buffer what came of a case. Bytes that must stay are part of that: before each case
-// the whole buffer is UNTOUCHED.
+// The input is a stream of cases, as the crate `stream` says. The modules tell what is handed in and what must come of it; they
+// number their kinds from 1, and write what came of a case at the start of a lent buffer. Where a call is lent a part of that buffer, the
+// part is compared whole, with the bytes that must stay: before each case all bytes are UNTOUCHED.
 // A stream that ends early, has more behind its end, has a kind that is not here or a part that does not fit its buffer is broken.
 ghost use Prim.Native.Nat.{_≤_};
 ghost use lib.ListN.{length};
@@ -35,7 +35,7 @@ const KINDS: usize = 22;
 
 const ROWS: usize = 2;
 
-// The last kinds whose cases go by themselves, by module; behind them come the calls on one party, and last the plans.
+// The last kind of each module; the plans have one, and come last. All but the calls on a party go by themselves.
 const CODER: usize = 5;
 
 const TREE: usize = 9;
