@@ -2,6 +2,7 @@ pub mod Path
 pub mod Chain
 pub mod Owned
 pub mod Parts
+pub mod Slices
 pub mod Reading
 pub mod Verdict
 pub mod Writing

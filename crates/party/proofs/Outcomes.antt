@@ -113,10 +113,6 @@ module _ (H : List ℕ → List ℕ) where
       unfolding takeRelaysOf resultOf
       relays-rebuilt h = rw (eq-eqb (inboxCause 5 x inbox) 0 fine, h)
 
--- an answer that is not Done
-pub not-done : (r : Written) (k : ℕ) → r ≡ given.Done k → OneOf (0 ∷ 1 ∷ []) (tagOf written-type r) → ⊥
-not-done r k e h = miss (0 ∷ 1 ∷ []) 2 tt (subst (λ (y : Written). OneOf (0 ∷ 1 ∷ []) (tagOf written-type y)) e h)
-
 -- what is sent: the answer of the writer says whether the state is the next one
 module _ (x next : Party) where
   abbrev pub after : Written → Party

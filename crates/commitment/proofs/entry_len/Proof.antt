@@ -1,4 +1,4 @@
--- `party::entry_len` meets its contract: the length is told by whether the number is the own one, and a party's number always has a path.
+-- `commitment::entry_len` meets its contract: the length is told by whether the number is the own one, and a party's number always has a path.
 -- Assumes nothing.
 use mathlib.Core.Path.{_≡_, sym, ap, _∙_}
 use Prim.Native.Nat.{ℕ, _+_, _-_, _*_, _≤_}
@@ -9,9 +9,9 @@ use Rattle.limits.specs.Limits.{maxPath}
 use Rattle.merkle.specs.Shares.{sidesOf}
 use Rattle.merkle.proofs.Descend.{sides-fit}
 use Rattle.packet.proofs.Reading.{count-hashes}
-use Rattle.party.proofs.Outbox.{length-own, length-other, never-refused}
-use Rattle.party.proofs.entry_len.Statement.{statement}
-use Rattle.party.proofs.entry_len.Tie as tie
+use Rattle.commitment.proofs.Outbox.{length-own, length-other, never-refused}
+use Rattle.commitment.proofs.entry_len.Statement.{statement}
+use Rattle.commitment.proofs.entry_len.Tie as tie
 
 returns : tie.Need-returns
 returns c =

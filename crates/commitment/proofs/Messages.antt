@@ -1,28 +1,18 @@
--- A message within the limits, among n parties: the lengths of its shares, that they can be hashed, the path of a share, and the packet that a
--- state which holds the message makes with it. By the laws of the coder and the tree. Assumes nothing.
+-- A message within the limits, among n parties: the lengths of its shares, that they can be hashed, and the path of a share. By the laws of the
+-- coder and the tree. Assumes nothing.
 use mathlib.Core.Path.{_≡_, ap, _∙_}
 use mathlib.Core.List.{List}
-use Prim.Native.Nat.{ℕ, _-_, _*_, _/_, _<_, _≤_}
+use Prim.Native.Nat.{ℕ, _-_, _*_, _/_, _≤_}
 use native.Mathlib.Omega.{arith}
 use lib.ListN.{length, take, drop}
-use Rattle.limits.specs.Limits.{maxParties, maxMessage, maxShare}
+use Rattle.limits.specs.Limits.{maxShare}
 use Rattle.erasure.specs.Coding.{shareLength, share, shares}
 use Rattle.erasure.proofs.Frame.{share-positive, share-most}
 use Rattle.merkle.specs.Shares.{sharesCause, leavesOf, sidesOf, pathOf}
 use Rattle.merkle.proofs.Sound.{Wide}
 use Rattle.merkle.proofs.Trees.{path-counted, path-hashes-wide}
-use Rattle.packet.specs.Format.{packetOf}
-use Rattle.party.specs.State.{atBit, atFirst}
-use Rattle.party.specs.Steps.{packetFor}
-use Rattle.party.proofs.Kept.{message-bit, message-first}
-use Rattle.party.proofs.Shared.{one-of, shares-fine, length-shares, share-at}
-
--- a message among n parties with fault limit t, within the limits
-pub record Coded (n t : ℕ) (m : List ℕ) : Type 0 where
-  pub low : 1 ≤ n
-  pub high : n ≤ maxParties
-  pub faults : 2 * t < n
-  pub short : length m ≤ maxMessage
+use Rattle.commitment.specs.Private.{Coded}
+use Rattle.commitment.proofs.Shared.{one-of, shares-fine, length-shares, share-at}
 
 module _ (n t : ℕ) (m : List ℕ) (c : Coded n t m) where
   -- the length of its shares
@@ -32,7 +22,7 @@ module _ (n t : ℕ) (m : List ℕ) (c : Coded n t m) where
   pub share-fits : shareLength (n - t) (length m) ≤ maxShare
   share-fits = omega (arith, c, share-most (n - t) (length m) (omega (arith, c)))
 
-  all-length : length (shares n (n - t) m) ≡ n * shareLength (n - t) (length m)
+  pub all-length : length (shares n (n - t) m) ≡ n * shareLength (n - t) (length m)
   all-length = length-shares n (n - t) m
 
   each-length : length (shares n (n - t) m) / n ≡ shareLength (n - t) (length m)
@@ -59,24 +49,3 @@ module _ (H : List ℕ → List ℕ) (wide : (s : List ℕ) → length (H s) ≡
 
   pub path-each : Wide 32 pathTo
   path-each = path-hashes-wide H wide n (shares n (n - t) m) (fine n t m c) j first last
-
-  -- the packet of share j
-  abbrev pub packetWith : List ℕ
-  packetWith = packetOf j (share (n - t) j m) pathTo
-
--- the packet that a state makes
-module _ (H : List ℕ → List ℕ) (n t i : ℕ) (m z : List ℕ) (wide : (s : List ℕ) → length (H s) ≡ 32) (c : Coded n t m) (j : ℕ)
-    (first : 1 ≤ j) (last : j ≤ n) where
-  pub packet-bit : packetFor H (atBit n t i m z) j ≡ packetWith H wide n t m c j first last
-  unfolding packetFor atBit
-  packet-bit = ap (λ (b : List ℕ). packetOf j (share (n - t) j b) (path b)) (message-bit n t i m z)
-    where
-      path : List ℕ → List (List ℕ)
-      path b = take (length (sidesOf n j)) (pathOf H n j (leavesOf H n (shares n (n - t) b)))
-
-  pub packet-first : packetFor H (atFirst n t i m z) j ≡ packetWith H wide n t m c j first last
-  unfolding packetFor atFirst
-  packet-first = ap (λ (b : List ℕ). packetOf j (share (n - t) j b) (path b)) (message-first n t i m z)
-    where
-      path : List ℕ → List (List ℕ)
-      path b = take (length (sidesOf n j)) (pathOf H n j (leavesOf H n (shares n (n - t) b)))

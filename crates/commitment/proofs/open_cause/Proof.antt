@@ -1,14 +1,14 @@
--- `party::open_cause` meets its contract: each way out is an outcome of the definition. Assumes nothing.
+-- `commitment::open_cause` meets its contract: each way out is an outcome of the definition. Assumes nothing.
 use mathlib.Core.Path.{_≡_, sym, _∙_}
 use Prim.Native.Nat.{_≤_}
 use native.Mathlib.Omega.{arith}
 use Rattle.limits.specs.Limits.{groupCause}
 use Rattle.limits.proofs.Booleans.{denied}
 use Rattle.limits.proofs.Ranges.{numbered-told}
-use Rattle.party.proofs.Causes.{open-group, open-number, open-long, open-fine}
+use Rattle.commitment.proofs.Opening.{open-group, open-number, open-long, open-fine}
 use borrow.Author.Needs.{needs}
-use Rattle.party.proofs.open_cause.Statement.{statement}
-use Rattle.party.proofs.open_cause.Tie as tie
+use Rattle.commitment.proofs.open_cause.Statement.{statement}
+use Rattle.commitment.proofs.open_cause.Tie as tie
 
 -- past the first test n and t are within their limits
 fine : (e : tie.Else1) → groupCause (e .before .before .args .n) (e .before .before .args .t) ≡ 0

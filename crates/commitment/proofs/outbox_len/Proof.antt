@@ -1,12 +1,12 @@
--- `party::outbox_len` meets its contract: after j turns the length is that of the first j entries. Assumes nothing.
+-- `commitment::outbox_len` meets its contract: after j turns the length is that of the first j entries. Assumes nothing.
 use mathlib.Core.Path.{_≡_, sym, ap, ap₂, _∙_}
 use Prim.Native.Nat.{ℕ, _+_, _-_, _≤_}
 use native.Mathlib.Omega.{arith}
 use borrow.Author.Needs.{needs}
-use Rattle.party.specs.Private.{outboxLength}
-use Rattle.party.proofs.Outbox.{length-none, length-more, length-small}
-use Rattle.party.proofs.outbox_len.Statement.{statement}
-use Rattle.party.proofs.outbox_len.Tie as tie
+use Rattle.commitment.specs.Private.{outboxLength}
+use Rattle.commitment.proofs.Outbox.{length-none, length-more, length-small}
+use Rattle.commitment.proofs.outbox_len.Statement.{statement}
+use Rattle.commitment.proofs.outbox_len.Tie as tie
 
 abbrev Inv-loop : tie.InvT-loop
 Inv-loop n own share len₀ j₀ len j = (j ≤ n) × (len ≡ outboxLength j n own share)

@@ -26,19 +26,7 @@ use Rattle.packet.specs.Format.{packetOf, entryOf}
 use Rattle.packet.specs.Answer.{writeEntryOf}
 use Rattle.packet.proofs.Reading.{count-refused}
 use Rattle.packet.proofs.Writing.{cause-fine, entry-written}
-use Rattle.party.specs.Private.{entryFor, outboxUpTo, entryLength, outboxLength}
-use Rattle.party.proofs.Parts.{length-part}
-use Rattle.party.proofs.Shared.{share-inside}
-
--- one zero more behind those that were written
-pub silence-more : (o : List ℕ) (i : ℕ) → i < length o
-    → set (spliced o 0 (replicate i 0)) i 0 ≡ spliced o 0 (replicate (i + 1) 0)
-silence-more o i h =
-    let zeros : List ℕ = replicate i 0 in
-    let there : 0 + length zeros ≡ i = zero-add (length zeros) ∙ length-replicate {A = ℕ} i 0 in
-    ap (λ (k : ℕ). set (spliced o 0 zeros) k 0) (sym there)
-    ∙ spliced-set o 0 zeros 0 (omega arith)
-    ∙ ap (spliced o 0) (replicate-append-replicate {A = ℕ} i 1 0)
+use Rattle.commitment.specs.Private.{entryWith, entryFor, outboxUpTo, entryLength, outboxLength}
 
 -- bytes written at the start of what follows place `at`
 pub tail-spliced : (o bs : List ℕ) (at k : ℕ) → k ≡ length o - at
@@ -94,31 +82,28 @@ module _ (n own s : ℕ) where
 
 module _ (H : List ℕ → List ℕ) where
   -- an entry
-  module _ (n own s : ℕ) (shares : List ℕ) (leaves : List (List ℕ)) (j : ℕ) where
-    pub entry-own : j ≡ own → entryFor H n own s shares leaves j ≡ 0 ∷ 0 ∷ []
-    unfolding entryFor entryOf
+  module _ (n own : ℕ) (leaves : List (List ℕ)) (j : ℕ) (share : List ℕ) where
+    pub entry-own : j ≡ own → entryWith H n own leaves j share ≡ 0 ∷ 0 ∷ []
+    unfolding entryWith entryOf
     entry-own e = rw (eq-eqb j own e)
 
-    pub entry-other : (j ≡ own → ⊥) → entryFor H n own s shares leaves j
-        ≡ entryOf (packetOf j (take s (drop ((j - 1) * s) shares)) (take (length (sidesOf n j)) (pathOf H n j leaves)))
-    unfolding entryFor
+    pub entry-other : (j ≡ own → ⊥) → entryWith H n own leaves j share
+        ≡ entryOf (packetOf j share (take (length (sidesOf n j)) (pathOf H n j leaves)))
+    unfolding entryWith
     entry-other e = rw (ne-eqb j own e)
 
-  -- what the packet writer gives for party j, where its entry has room
-  module _ (n own s : ℕ) (shares : List ℕ) (leaves : List (List ℕ)) (j : ℕ) (low : 1 ≤ n) (high : n ≤ maxParties) (first : 1 ≤ j)
-      (last : j ≤ n) (some : 1 ≤ s) (short : s ≤ maxShare) (all : n * s ≤ length shares) (other : j ≡ own → ⊥) where
-    pub entry-done : (count : ℕ) → count ≡ length (sidesOf n j) → (out : List ℕ) → length (entryFor H n own s shares leaves j) ≤ length out
-        → writeEntryOf n j (take s (drop ((j - 1) * s) shares)) (pathOf H n j leaves) count out
-        ≡ gave (given.Done (length (entryFor H n own s shares leaves j))) (spliced out 0 (entryFor H n own s shares leaves j))
-    entry-done count e out room =
-        let share : List ℕ = take s (drop ((j - 1) * s) shares) in
-        let long : length share ≡ s = length-part shares ((j - 1) * s) s (omega (arith, share-inside n j s first last)) in
-        let fine = cause-fine n j (length share) count low high first last (omega arith) (omega arith) e in
-        entry-written n j share (pathOf H n j leaves) count out fine
-        ∙ ap (λ (l : List ℕ). written l out)
-        (ap (λ (k : ℕ). entryOf (packetOf j share (take k (pathOf H n j leaves)))) e
-        ∙ sym (entry-other n own s shares leaves j other))
-        ∙ written-done (entryFor H n own s shares leaves j) out room
+    -- what the packet writer gives for party j, where its entry has room
+    module _ (low : 1 ≤ n) (high : n ≤ maxParties) (first : 1 ≤ j) (last : j ≤ n) (some : 1 ≤ length share) (short : length share ≤ maxShare)
+        (other : j ≡ own → ⊥) where
+      pub entry-done : (count : ℕ) → count ≡ length (sidesOf n j) → (out : List ℕ) → length (entryWith H n own leaves j share) ≤ length out
+          → writeEntryOf n j share (pathOf H n j leaves) count out
+          ≡ gave (given.Done (length (entryWith H n own leaves j share))) (spliced out 0 (entryWith H n own leaves j share))
+      entry-done count e out room =
+          let fine = cause-fine n j (length share) count low high first last some short e in
+          entry-written n j share (pathOf H n j leaves) count out fine
+          ∙ ap (λ (l : List ℕ). written l out)
+          (ap (λ (k : ℕ). entryOf (packetOf j share (take k (pathOf H n j leaves)))) e ∙ sym (entry-other other))
+          ∙ written-done (entryWith H n own leaves j share) out room
 
   -- the outbox
   module _ (n own s : ℕ) (shares : List ℕ) (leaves : List (List ℕ)) where

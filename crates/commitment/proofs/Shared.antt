@@ -1,4 +1,4 @@
--- The shares of a party's message: how long they are, that they fit their array, what encoding gives, and that share j lies at its place
+-- The shares of a message: how long they are, that they fit their array, what encoding gives, and that share j lies at its place
 -- among them. Two roots are the same just where a comparison says so. By the bounds on n, t and the message, and by induction on n.
 -- Assumes nothing.
 use mathlib.Core.Path.{_≡_, refl, sym, ap, _∙_}
@@ -19,14 +19,11 @@ use Rattle.buffer.proofs.Given.{written-done}
 use Rattle.buffer.proofs.Rows.{row-inside}
 use Rattle.erasure.specs.Coding.{shareLength, share, shares, frame, encodeOf}
 use Rattle.erasure.proofs.Arrays.{shares-frame, length-sharesOf}
-use Rattle.erasure.proofs.Frame.{share-high, share-positive, share-most, length-share}
+use Rattle.erasure.proofs.Frame.{share-high, length-share}
 use Rattle.erasure.proofs.Outcomes.{encode-written}
 use Rattle.merkle.specs.Shares.{sharesCause, same}
 use Rattle.merkle.proofs.Judged.{cause-fine, same-true, same-refl}
-use Rattle.party.specs.State.{messageIn}
-use Rattle.party.specs.Private.{Fit}
-use Rattle.party.specs.declared.Party.{Party}
-use Rattle.party.proofs.Kept.{length-message}
+use Rattle.commitment.specs.Rooms.{maxShares}
 
 -- share j of n lies within the shares
 pub share-inside : (n j s : ℕ) → 1 ≤ j → j ≤ n → (j - 1) * s + s ≤ n * s
@@ -44,7 +41,7 @@ shares-fine n s all low high short long =
 
 -- n is less than 2·b, and b·s less than the message with its length and b
 pub shares-bound : (n t l : ℕ) → 2 * t < n → n ≤ maxParties → l ≤ maxMessage
-    → n * shareLength (n - t) l ≤ 2 * (maxShare + maxParties)
+    → n * shareLength (n - t) l ≤ maxShares
 shares-bound n t l faults high short =
     let b : ℕ = n - t in
     let s : ℕ = shareLength b l in
@@ -77,41 +74,12 @@ share-at b m (suc n) j first last =
     ]
 
 module _ (n t : ℕ) (m out : List ℕ) (low : 1 ≤ n) (high : n ≤ maxParties) (faults : 2 * t < n) where
-  pub encoded : length m ≤ maxMessage → length out ≡ 2 * (maxShare + maxParties)
+  pub encoded : length m ≤ maxMessage → length out ≡ maxShares
       → encodeOf n t m out ≡ gave (Done (length (shares n (n - t) m))) (spliced out 0 (shares n (n - t) m))
   encoded short e =
       encode-written n t m out (group-fine n t low high faults) short
       ∙ written-done (shares n (n - t) m) out
       (omega (arith, length-shares n (n - t) m, shares-bound n t (length m) faults high short))
-
--- the length of a share of a state's message, and all its shares
-abbrev pub sizeIn : Party → ℕ
-sizeIn x = shareLength (x .n - x .t) (x .len)
-
-abbrev pub sharesIn : Party → List ℕ
-sharesIn x = shares (x .n) (x .n - x .t) (messageIn x)
-
--- a share has its bounds
-pub share-short : (x : Party) → Fit x → (1 ≤ sizeIn x) × (sizeIn x ≤ maxShare)
-share-short x fit =
-    let some : 1 ≤ x .n - x .t = omega (arith, fit) in
-    (share-positive (x .n - x .t) (x .len) some, omega (arith, fit, share-most (x .n - x .t) (x .len) some))
-
--- a state whose message is as long as it says: its shares together, and one of them
-module _ (x : Party) (long : x .len ≤ length (x .message)) where
-  pub all-shares : length (sharesIn x) ≡ x .n * sizeIn x
-  all-shares =
-      length-shares (x .n) (x .n - x .t) (messageIn x) ∙ ap (λ (l : ℕ). x .n * shareLength (x .n - x .t) l) (length-message x long)
-
-  pub share-size : (j : ℕ) → length (share (x .n - x .t) j (messageIn x)) ≡ sizeIn x
-  share-size j = length-share (x .n - x .t) j (messageIn x) ∙ ap (shareLength (x .n - x .t)) (length-message x long)
-
-  pub own-share : (j : ℕ) → 1 ≤ j → j ≤ x .n
-      → take (sizeIn x) (drop ((j - 1) * sizeIn x) (sharesIn x)) ≡ share (x .n - x .t) j (messageIn x)
-  own-share j first last =
-      ap (λ (l : ℕ). take (shareLength (x .n - x .t) l) (drop ((j - 1) * shareLength (x .n - x .t) l) (sharesIn x)))
-      (sym (length-message x long))
-      ∙ share-at (x .n - x .t) (messageIn x) (x .n) j first last
 
 agree : (r v : Bool) → (r ≡ true → v ≡ true) → (v ≡ true → r ≡ true) → r ≡ v
 agree true v p q = sym (p refl)

@@ -1,0 +1,48 @@
+-- The outcomes of root, outbox and relay, for any hash: a refusal with the lowest cause, or what is given where none applies, by whether the
+-- message has the agreed root. By the tests of the definitions. Assumes nothing.
+use mathlib.Core.Path.{_≡_}
+use mathlib.Core.Bool.{true, false}
+use mathlib.Core.List.{List, []}
+use Prim.Native.Nat.{ℕ, _-_, _*_}
+use borrow.Author.Tests.{eq-eqb, ne-eqb}
+use lib.ListN.{length, take, drop}
+use Rattle.buffer.specs.Given.{gave, written}
+use Rattle.buffer.specs.declared.Written.the-variants.{Refused, Done}
+use Rattle.merkle.specs.Shares.{blank, sidesOf, pathOf, same}
+use Rattle.packet.specs.Format.{packetOf}
+use Rattle.commitment.specs.Commitment.{openCause, messageRoot, rootedOf, sending, sendingOf}
+use Rattle.commitment.specs.Private.{relayFor}
+
+module _ (H : List ℕ → List ℕ) where
+  module _ (n t own : ℕ) (m : List ℕ) where
+    pub rooted-refused : (openCause n t own (length m) ≡ 0 → ⊥)
+        → rootedOf H n t own m ≡ record { cause = openCause n t own (length m); root = blank }
+    unfolding rootedOf
+    rooted-refused h = rw (ne-eqb (openCause n t own (length m)) 0 h)
+
+    pub rooted-given : openCause n t own (length m) ≡ 0 → rootedOf H n t own m ≡ record { cause = 0; root = messageRoot H n t m }
+    unfolding rootedOf
+    rooted-given h = rw (eq-eqb (openCause n t own (length m)) 0 h)
+
+    module _ (z bs out : List ℕ) where
+      pub sending-refused : (openCause n t own (length m) ≡ 0 → ⊥)
+          → sendingOf H n t own m z bs out ≡ sending false (gave (Refused (openCause n t own (length m))) out)
+      sending-refused h = rw (ne-eqb (openCause n t own (length m)) 0 h)
+
+      module _ (fine : openCause n t own (length m) ≡ 0) where
+        pub sending-other : same (messageRoot H n t m) z ≡ false → sendingOf H n t own m z bs out ≡ sending false (gave (Done 0) out)
+        sending-other h = rw (eq-eqb (openCause n t own (length m)) 0 fine, h)
+
+        pub sending-own : same (messageRoot H n t m) z ≡ true → sendingOf H n t own m z bs out ≡ sending true (written bs out)
+        sending-own h = rw (eq-eqb (openCause n t own (length m)) 0 fine, h)
+
+  -- the own relay
+  module _ (n own s : ℕ) (shares : List ℕ) (leaves : List (List ℕ)) where
+    pub relay-alone : n ≡ 1 → relayFor H n own s shares leaves ≡ []
+    unfolding relayFor
+    relay-alone h = rw (eq-eqb n 1 h)
+
+    pub relay-other : (n ≡ 1 → ⊥) → relayFor H n own s shares leaves
+        ≡ packetOf own (take s (drop ((own - 1) * s) shares)) (take (length (sidesOf n own)) (pathOf H n own leaves))
+    unfolding relayFor
+    relay-other h = rw (ne-eqb n 1 h)

@@ -1,0 +1,3 @@
+pub mod Commitment
+pub mod Rooms
+pub mod Private

@@ -1,0 +1,305 @@
+// What n, t and a message give without a state: the root of the message's shares, and the packets that carry them. The message is coded, and each
+// hash of its tree made, once a call.
+ghost use mathlib.Core.Path.{_≡_};
+ghost use Prim.Native.Nat.{_-_, _*_, _≤_};
+ghost use lib.ListN.{length, take};
+ghost use Rattle.sha256.specs.Sha256.{sha256};
+ghost use Rattle.limits.specs.Limits.{maxParties, maxShare};
+ghost use Rattle.buffer.specs.Splice.{spliced};
+ghost use Rattle.buffer.specs.Given.{gave, written};
+ghost use Rattle.erasure.specs.Coding.{shareLength, shares};
+ghost use Rattle.merkle.specs.Shares.{leavesOf};
+ghost use Rattle.commitment.specs.Commitment.{openCause, rootedOf, sent, sendingOf, sendOf, relayOf};
+ghost use Rattle.commitment.specs.Rooms.{maxShares};
+ghost use Rattle.commitment.specs.Private.{Coded, carried, relayFor, entryWith, entryLength, outboxUpTo, outboxLength};
+use buffer::Written;
+use limits::MAX_MESSAGE;
+use limits::MAX_PARTIES;
+use limits::MAX_PATH;
+use limits::MAX_SHARE;
+use merkle::Counted;
+use merkle::Hash;
+
+// The greatest length of all shares of a message together: n is less than 2·b, and b·s less than the message with its length and b.
+const MAX_SHARES: usize = 2 * (MAX_SHARE + MAX_PARTIES);
+
+// The greatest length of a packet that a party writes, and of its outbox: each entry has, beside its share, its length, map, number, share length
+// and path.
+pub const MAX_PACKET: usize = 4 + MAX_SHARE + 32 * MAX_PATH;
+
+pub const MAX_OUTBOX: usize = MAX_SHARES + MAX_PARTIES * (6 + 32 * MAX_PATH);
+
+// The root of a message's shares, or the cause for which there is none.
+pub struct Rooted {
+    pub cause: u8,
+    pub root: [u8; 32],
+}
+
+// What a party sends once a root is agreed: whether its message has that root, and how many bytes were written.
+pub struct Sent {
+    pub happy: bool,
+    pub answer: Written,
+}
+
+// A message's shares, one behind the other, and the length of each.
+struct Shares {
+    bytes: [u8; MAX_SHARES],
+    size: usize,
+    len: usize,
+}
+
+// The root that a party with this number and message puts into the short agreement.
+pub fn root(n: usize, t: usize, own: usize, message: &[u8]) -> Rooted
+    ensures { λ r. ⌜ r ≡ rootedOf sha256 n t own (now (message .entry)) ⌝ }
+{
+    let cause = open_cause(n, t, own, message.len());
+    if cause != 0 {
+        return Rooted {
+            cause,
+            root: [0; 32],
+        };
+    }
+    let coded = code(n, t, message);
+    let size = coded.size;
+    let bytes = coded.bytes;
+    let leaves = merkle::leaves(n, &bytes[..size]);
+    Rooted {
+        cause: 0,
+        root: merkle::root(n, &leaves),
+    }
+}
+
+// Step 3 on bit 1: the outbox of a party whose message has the agreed root, for each other party a packet with its share.
+pub fn send(
+    n: usize,
+    t: usize,
+    own: usize,
+    message: &[u8],
+    root: &[u8],
+    out: &mut [u8],
+) -> Sent
+    ensures { λ r. ⌜ sent r (now (out .exit)) ≡ sendOf sha256 n t own (now (message .entry)) (now (root .entry)) (now (out .entry)) ⌝ }
+{
+    carry(false, n, t, own, message, root, out)
+}
+
+// Step 4: the relay of such a party, the packet with its own share, but none where it is alone.
+pub fn relay(
+    n: usize,
+    t: usize,
+    own: usize,
+    message: &[u8],
+    root: &[u8],
+    out: &mut [u8],
+) -> Sent
+    ensures { λ r. ⌜ sent r (now (out .exit)) ≡ relayOf sha256 n t own (now (message .entry)) (now (root .entry)) (now (out .entry)) ⌝ }
+{
+    carry(true, n, t, own, message, root, out)
+}
+
+// The relay, or else the outbox.
+fn carry(
+    relays: bool,
+    n: usize,
+    t: usize,
+    own: usize,
+    message: &[u8],
+    root: &[u8],
+    out: &mut [u8],
+) -> Sent
+    ensures { λ r. ⌜ sent r (now (out .exit))
+        ≡ sendingOf sha256 n t own (now (message .entry)) (now (root .entry)) (carried sha256 relays n t own (now (message .entry)))
+        (now (out .entry)) ⌝ }
+{
+    let cause = open_cause(n, t, own, message.len());
+    if cause != 0 {
+        return Sent {
+            happy: false,
+            answer: Written::Refused(cause),
+        };
+    }
+    let coded = code(n, t, message);
+    let len = coded.len;
+    let size = coded.size;
+    let bytes = coded.bytes;
+    let leaves = merkle::leaves(n, &bytes[..size]);
+    let top = merkle::root(n, &leaves);
+    if !check::same(&top, root) {
+        return Sent {
+            happy: false,
+            answer: Written::Done(0),
+        };
+    }
+    if relays {
+        return Sent {
+            happy: true,
+            answer: put_relay(n, own, len, &bytes[..size], &leaves, out),
+        };
+    }
+    Sent {
+        happy: true,
+        answer: put_outbox(n, own, len, &bytes[..size], &leaves, out),
+    }
+}
+
+// Why a party with this number and a message of `len` bytes is not opened: cause 1, 2, 3 or 4, or 0.
+pub fn open_cause(n: usize, t: usize, own: usize, len: usize) -> u8
+    ensures { λ r. ⌜ r ≡ openCause n t own len ⌝ }
+{
+    let cause = limits::group_cause(n, t);
+    if cause != 0 {
+        return cause;
+    }
+    if !limits::numbered(n, own) {
+        return 3;
+    }
+    if MAX_MESSAGE < len {
+        return 4;
+    }
+    0
+}
+
+// The shares of a message.
+fn code(n: usize, t: usize, message: &[u8]) -> Shares
+    requires { ⌜ Coded n t (now message) ⌝ }
+    ensures { λ r. ⌜ (r .size ≤ maxShares) × (take (r .size) (r .bytes) ≡ shares n (n - t) (now (message .entry)))
+        × (r .len ≡ shareLength (n - t) (length (now (message .entry)))) × (r .size ≡ n * r .len) ⌝ }
+{
+    let mut bytes = [0u8; MAX_SHARES];
+    let Written::Done(size) = erasure::encode(n, t, message, &mut bytes) else {
+        return Shares {
+            bytes: [0; MAX_SHARES],
+            size: 0,
+            len: 0,
+        };
+    };
+    Shares {
+        bytes,
+        size,
+        len: size / n,
+    }
+}
+
+// The packet with the own share, if there are others.
+fn put_relay(
+    n: usize,
+    own: usize,
+    len: usize,
+    shares: &[u8],
+    leaves: &[Hash; MAX_PARTIES],
+    out: &mut [u8],
+) -> Written
+    requires { ⌜ (1 ≤ n) × (n ≤ maxParties) × (1 ≤ own) × (own ≤ n) × (1 ≤ len) × (len ≤ maxShare) × (n * len ≤ length (now shares)) ⌝ }
+    ensures { λ r. ⌜ gave r (now (out .exit)) ≡ written (relayFor sha256 n own len (now (shares .entry)) (now (leaves .entry))) (now (out .entry)) ⌝ }
+{
+    if n == 1 {
+        return Written::Done(0);
+    }
+    let Counted::Hashes(count) = merkle::path_length(n, own) else {
+        return Written::Refused(3);
+    };
+    let path = merkle::path(n, own, leaves);
+    let from = (own - 1) * len;
+    let end = from + len;
+    packet::write(n, own, &shares[from..end], path, count, out)
+}
+
+// The outbox with packets for all parties but one, each with its share of `len` bytes and the path of that share.
+fn put_outbox(
+    n: usize,
+    own: usize,
+    len: usize,
+    shares: &[u8],
+    leaves: &[Hash; MAX_PARTIES],
+    out: &mut [u8],
+) -> Written
+    requires { ⌜ (1 ≤ n) × (n ≤ maxParties) × (1 ≤ len) × (len ≤ maxShare) × (length (now shares) ≡ n * len)
+        × (now leaves ≡ leavesOf sha256 n (now shares)) ⌝ }
+    ensures { λ r. ⌜ gave r (now (out .exit))
+        ≡ written (outboxUpTo sha256 n n own len (now (shares .entry)) (now (leaves .entry))) (now (out .entry)) ⌝ }
+{
+    let need = outbox_len(n, own, len);
+    if out.len() < need {
+        return Written::Short(need);
+    }
+    write_outbox(n, own, len, shares, leaves, out);
+    Written::Done(need)
+}
+
+// Its length.
+fn outbox_len(n: usize, own: usize, share: usize) -> usize
+    requires { ⌜ (1 ≤ n) × (n ≤ maxParties) × (share ≤ maxShare) ⌝ }
+    ensures { λ r. ⌜ r ≡ outboxLength n n own share ⌝ }
+{
+    let mut len: usize = 0;
+    let mut j: usize = 0;
+    while j < n {
+        j += 1;
+        len += entry_len(n, own, j, share);
+    }
+    len
+}
+
+fn entry_len(n: usize, own: usize, j: usize, share: usize) -> usize
+    requires { ⌜ (1 ≤ n) × (n ≤ maxParties) × (1 ≤ j) × (j ≤ n) × (share ≤ maxShare) ⌝ }
+    ensures { λ r. ⌜ r ≡ entryLength n own share j ⌝ }
+{
+    if j == own {
+        return 2;
+    }
+    let Counted::Hashes(count) = merkle::path_length(n, j) else {
+        return 2;
+    };
+    2 + 4 + share + 32 * count
+}
+
+// Its entries, one behind the other.
+fn write_outbox(
+    n: usize,
+    own: usize,
+    len: usize,
+    shares: &[u8],
+    leaves: &[Hash; MAX_PARTIES],
+    out: &mut [u8],
+)
+    requires { ⌜ (1 ≤ n) × (n ≤ maxParties) × (1 ≤ len) × (len ≤ maxShare) × (n * len ≤ length (now shares))
+        × (length (outboxUpTo sha256 n n own len (now shares) (now leaves)) ≤ length (now out)) ⌝ }
+    ensures { λ _. ⌜ now (out .exit) ≡ spliced (now (out .entry)) 0 (outboxUpTo sha256 n n own len (now (shares .entry)) (now (leaves .entry))) ⌝ }
+{
+    let mut at: usize = 0;
+    let mut j: usize = 0;
+    while j < n {
+        j += 1;
+        let from = (j - 1) * len;
+        let end = from + len;
+        at += write_entry(n, own, j, &shares[from..end], leaves, &mut out[at..]);
+    }
+}
+
+// The entry for party j, at the start of out; its length.
+fn write_entry(
+    n: usize,
+    own: usize,
+    j: usize,
+    share: &[u8],
+    leaves: &[Hash; MAX_PARTIES],
+    out: &mut [u8],
+) -> usize
+    requires { ⌜ (1 ≤ n) × (n ≤ maxParties) × (1 ≤ j) × (j ≤ n) × (1 ≤ length (now share)) × (length (now share) ≤ maxShare)
+        × (length (entryWith sha256 n own (now leaves) j (now share)) ≤ length (now out)) ⌝ }
+    ensures { λ r. ⌜ (r ≡ length (entryWith sha256 n own (now (leaves .entry)) j (now (share .entry))))
+        × (now (out .exit) ≡ spliced (now (out .entry)) 0 (entryWith sha256 n own (now (leaves .entry)) j (now (share .entry)))) ⌝ }
+{
+    if j == own {
+        buffer::put(out, 0, &[0, 0]);
+        return 2;
+    }
+    let Counted::Hashes(count) = merkle::path_length(n, j) else {
+        return 0;
+    };
+    let path = merkle::path(n, j, leaves);
+    let Written::Done(size) = packet::write_entry(n, j, share, path, count, out) else {
+        return 0;
+    };
+    size
+}
