@@ -26,7 +26,7 @@ module _ (H : List ℕ → List ℕ) where
       let R = nodeHashes H r (i + size l) hs in
       omega (arith, length-append (nodeHashes H l i hs) (topHash H (node l r) i hs ∷ R), length-nodes l i hs, length-nodes r (i + size l) hs)
 
-  -- the list ns has the node hashes of t behind a, which ends with the slot of the tree's first leaf
+  -- the list ns has the node hashes of t behind `front`, which ends with the slot of the tree's first leaf
   pub record Lie (t : Shape) (i : ℕ) (hs ns : List (List ℕ)) : Type 0 where
     pub front : List (List ℕ)
     pub back : List (List ℕ)

@@ -1,5 +1,5 @@
 -- The root, the audit path and all node hashes made from leaf hashes that lie in one list, hs: the first leaf of the tree is entry i of the list.
--- And root and path read where the hashes of leaves and nodes lie. Assumes nothing.
+-- Root and path are also read where the hashes of leaves and nodes lie. Assumes nothing.
 use mathlib.Core.Bool.{cond}
 use mathlib.Core.List.{List, [], _∷_, _++_}
 use Prim.Native.Nat.{ℕ, _+_, _-_}
@@ -26,7 +26,7 @@ module _ (H : List ℕ → List ℕ) where
   nodeHashes leaf i hs = []
   nodeHashes (node l r) i hs = nodeHashes l i hs ++ (topHash (node l r) i hs ∷ nodeHashes r (i + size l) hs)
 
--- the root, read from the leaf hashes hs and from ns, in which the hash of a node is the entry with the number of its right tree's first leaf
+-- the root, read from the leaf hashes hs and the node hashes ns: a node whose right tree begins with entry g of hs has its hash in entry g of ns
 unfoldable pub topAt : Shape → ℕ → List (List ℕ) → List (List ℕ) → List ℕ
 topAt leaf i hs ns = getD hs i []
 topAt (node l r) i hs ns = getD ns (i + size l) []

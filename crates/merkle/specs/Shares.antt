@@ -85,8 +85,8 @@ module _ (H : List ℕ → List ℕ) where
       (pathHashes H (shape n) (j - 1) 0 leaves ++ replicate (maxPath - length (sidesOf n j)) blank)
       (replicate maxPath blank)
 
-  -- the node hashes from entry 1 on, each with the number of its right tree's first leaf, and blanks before and after them; all blank where n is
-  -- out of its range
+  -- the node hashes over the first n leaf hashes: a node whose right tree begins with leaf hash g (from 0) has entry g. Entry 0 and those from n on
+  -- are blank, and all where n is out of its range
   unfoldable pub nodesOf : ℕ → List (List ℕ) → List (List ℕ)
   nodesOf n leaves =
       cond (parties n) (blank ∷ (nodeHashes H (shape n) 0 leaves ++ replicate (maxParties - n) blank)) (replicate maxParties blank)

@@ -1,4 +1,4 @@
-// The Merkle tree of RFC 6962 over the shares of a message: leaf hashes, root, audit path, and the check of a path.
+// The Merkle tree of RFC 6962 over the shares of a message: hashes of leaves and nodes, root, audit path, and the check of a path.
 ghost use mathlib.Core.Path.{_≡_};
 ghost use mathlib.Core.Bool.{true, false};
 ghost use mathlib.Core.List.{[], _++_};
@@ -70,8 +70,8 @@ pub fn leaves(n: usize, shares: &[u8]) -> [Hash; MAX_PARTIES]
     hashes
 }
 
-// The hashes of the nodes over the first n leaf hashes, each made once, at the number (from 0) of the first leaf of its right half. Blanks stand
-// in the other places, and everywhere if n is out of its range.
+// The hashes of the nodes over the first n leaf hashes, each made once. That of a node stands at the place of its right half's first leaf; blanks
+// stand elsewhere, and everywhere if n is out of its range.
 pub fn nodes(n: usize, leaves: &[Hash; MAX_PARTIES]) -> [Hash; MAX_PARTIES]
     ensures { λ r. ⌜ r ≡ nodesOf sha256 n (now (leaves .entry)) ⌝ }
 {
@@ -177,7 +177,7 @@ pub fn check(
     Checked::No
 }
 
-// The hash of the leaf string of share j, which is read where it lies.
+// The hash of the leaf string of share j. The share is read where it lies.
 fn leaf_hash(j: usize, share: &[u8]) -> Hash
     requires { ⌜ (j < 256) × (2 + length (now share) ≤ maxHashed) ⌝ }
     ensures { λ r. ⌜ r ≡ sha256 (leafString j (now (share .entry))) ⌝ }
