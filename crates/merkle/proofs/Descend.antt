@@ -13,13 +13,13 @@ use lib.ListN.{length, getD, take, drop, set, replicate, length-append, length-r
 use lib.Pow.{pow-mono, pow-pos}
 use lib.Seq.{take-suc-set, set-split, drop-at, length-take-le}
 use Rattle.limits.specs.Limits.{maxParties, maxPath}
-use Rattle.merkle.specs.Tree.{split, shape, size, nodeString, sides}
-use Rattle.merkle.specs.Hashes.{topHash, pathHashes}
+use Rattle.merkle.specs.Tree.{split, shape, size, sides}
+use Rattle.merkle.specs.Hashes.{topAt, pathAt}
 use Rattle.merkle.specs.Turns.{sideOf, upward}
 use Rattle.merkle.specs.declared.Halves.{Halves}
 use Rattle.merkle.proofs.Upward.{upward-append}
 use Rattle.merkle.proofs.Way.{sides-left, sides-right}
-use Rattle.merkle.proofs.Hashes.{pathHashes-left, pathHashes-right}
+use Rattle.merkle.proofs.Hashes.{pathAt-left, pathAt-right}
 use Rattle.merkle.proofs.Shape.{LargestPower, pow-below, split-largest, split-most}
 use Rattle.merkle.proofs.Shape.{shape-leaf, shape-node, size-shape, sides-bound}
 
@@ -46,24 +46,18 @@ pub sides-end : (n m : ℕ) → n < 2 → sides (shape n) m ≡ []
 unfolding sides
 sides-end n m h = rw (shape-leaf n h)
 
-module _ (H : List ℕ → List ℕ) where
-  pub path-end : (n m i : ℕ) (hs : List (List ℕ)) → n < 2 → pathHashes H (shape n) m i hs ≡ []
-  unfolding pathHashes
-  path-end n m i hs h = rw (shape-leaf n h)
+pub path-end : (n m i : ℕ) (hs ns : List (List ℕ)) → n < 2 → pathAt (shape n) m i hs ns ≡ []
+unfolding pathAt
+path-end n m i hs ns h = rw (shape-leaf n h)
 
-  pub top-end : (n i : ℕ) (hs : List (List ℕ)) → n < 2 → topHash H (shape n) i hs ≡ getD hs i []
-  unfolding topHash
-  top-end n i hs h = rw (shape-leaf n h)
+pub top-end : (n i : ℕ) (hs ns : List (List ℕ)) → n < 2 → topAt (shape n) i hs ns ≡ getD hs i []
+unfolding topAt
+top-end n i hs ns h = rw (shape-leaf n h)
 
-  -- the root over two leaves or more
-  pub top-node : (n i : ℕ) (hs : List (List ℕ)) → 2 ≤ n
-      → topHash H (shape n) i hs
-      ≡ H (nodeString (topHash H (shape (split n)) i hs) (topHash H (shape (n - split n)) (i + split n) hs))
-  unfolding topHash
-  top-node n i hs h =
-      let s = split-largest n h in
-      let z : size (shape (split n)) ≡ split n = size-shape (split n) (s .positive) in
-      rw (shape-node n h, topHash, z)
+-- the root over two leaves or more
+pub top-node : (n i : ℕ) (hs ns : List (List ℕ)) → 2 ≤ n → topAt (shape n) i hs ns ≡ getD ns (i + split n) []
+unfolding topAt
+top-node n i hs ns h = rw (shape-node n h, topAt, size-shape (split n) (split-largest n h .positive))
 
 -- the half of a tree that holds a leaf, and the other half, as `halve` gives them
 pub record Down (first width at : ℕ) (h : Halves) : Type 0 where
@@ -74,8 +68,8 @@ pub record Down (first width at : ℕ) (h : Halves) : Type 0 where
   pub others-some : 1 ≤ h .others
   pub others-inside : h .other + h .others ≤ first + width
   pub sides-more : sides (shape width) at ≡ sides (shape (h .width)) (h .at) ++ (sideOf (h .right) ∷ [])
-  pub path-more : (H : List ℕ → List ℕ) (hs : List (List ℕ)) → pathHashes H (shape width) at first hs
-      ≡ pathHashes H (shape (h .width)) (h .at) (h .first) hs ++ (topHash H (shape (h .others)) (h .other) hs ∷ [])
+  pub path-more : (hs ns : List (List ℕ)) → pathAt (shape width) at first hs ns
+      ≡ pathAt (shape (h .width)) (h .at) (h .first) hs ns ++ (topAt (shape (h .others)) (h .other) hs ns ∷ [])
 
 abbrev pub leftHalf : ℕ → ℕ → ℕ → Halves
 leftHalf first width at =
@@ -111,8 +105,8 @@ module _ (first width at : ℕ) (two : 2 ≤ width) where
         others-some = omega arith;
         others-inside = omega arith;
         sides-more = rw (shape-node width two) (sides-left (shape (split width)) (shape (width - split width)) at t);
-        path-more = λ H hs. rw (shape-node width two)
-            (pathHashes-left H (shape (split width)) (shape (width - split width)) at first hs t ∙ rw left-size);
+        path-more = λ hs ns. rw (shape-node width two)
+            (pathAt-left (shape (split width)) (shape (width - split width)) at first hs ns t ∙ rw left-size);
       }
 
   down-right : at < width → split width ≤ at → Down first width at (rightHalf first width at)
@@ -128,8 +122,8 @@ module _ (first width at : ℕ) (two : 2 ≤ width) where
         others-inside = omega arith;
         sides-more = rw (shape-node width two)
             (sides-right (shape (split width)) (shape (width - split width)) at t ∙ rw left-size);
-        path-more = λ H hs. rw (shape-node width two)
-            (pathHashes-right H (shape (split width)) (shape (width - split width)) at first hs t ∙ rw left-size);
+        path-more = λ hs ns. rw (shape-node width two)
+            (pathAt-right (shape (split width)) (shape (width - split width)) at first hs ns t ∙ rw left-size);
       }
 
   pub down : at < width → (h : Halves) → (at < split width → h ≡ leftHalf first width at)

@@ -9,7 +9,7 @@ use lib.Dec.{ltb}
 use lib.ListN.{getD, take, drop}
 use lib.Seq.{getD-take, getD-drop}
 use Rattle.merkle.specs.Tree.{Shape, leaf, node, size, nodeString, root, path}
-use Rattle.merkle.specs.Hashes.{topHash, pathHashes}
+use Rattle.merkle.specs.Hashes.{topHash, pathHashes, topAt, pathAt}
 use Rattle.merkle.proofs.Way.{Way, left, right, way}
 
 module _ (H : List ℕ → List ℕ) where
@@ -59,13 +59,13 @@ module _ (H : List ℕ → List ℕ) where
           rw (e, pathHashes, path)
           (ap₂ (λ (a : List (List ℕ)) (b : List ℕ). a ++ (b ∷ [])) q (topHash-root l i hs (take (size l) ds) fl))
 
-  -- the path of a leaf of a node, by the tree in which it lies
-  pub pathHashes-left : (l r : Shape) (m i : ℕ) (hs : List (List ℕ)) → ltb m (size l) ≡ true
-      → pathHashes H (node l r) m i hs ≡ pathHashes H l m i hs ++ (topHash H r (i + size l) hs ∷ [])
-  unfolding pathHashes
-  pathHashes-left l r m i hs e = rw (e, pathHashes)
+-- a path read where the hashes lie, by the tree in which its leaf lies
+pub pathAt-left : (l r : Shape) (m i : ℕ) (hs ns : List (List ℕ)) → ltb m (size l) ≡ true
+    → pathAt (node l r) m i hs ns ≡ pathAt l m i hs ns ++ (topAt r (i + size l) hs ns ∷ [])
+unfolding pathAt
+pathAt-left l r m i hs ns e = rw (e, pathAt)
 
-  pub pathHashes-right : (l r : Shape) (m i : ℕ) (hs : List (List ℕ)) → ltb m (size l) ≡ false
-      → pathHashes H (node l r) m i hs ≡ pathHashes H r (m - size l) (i + size l) hs ++ (topHash H l i hs ∷ [])
-  unfolding pathHashes
-  pathHashes-right l r m i hs e = rw (e, pathHashes)
+pub pathAt-right : (l r : Shape) (m i : ℕ) (hs ns : List (List ℕ)) → ltb m (size l) ≡ false
+    → pathAt (node l r) m i hs ns ≡ pathAt r (m - size l) (i + size l) hs ns ++ (topAt l i hs ns ∷ [])
+unfolding pathAt
+pathAt-right l r m i hs ns e = rw (e, pathAt)

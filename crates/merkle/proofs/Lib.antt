@@ -9,6 +9,7 @@ pub mod Upward
 pub mod Descend
 pub mod Judged
 pub mod Outcomes
+pub mod Slots
 pub mod Written
 pub mod Rows
 pub mod Shares

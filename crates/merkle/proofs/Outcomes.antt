@@ -1,25 +1,39 @@
--- The outcomes of root, path length and path, one law for each, from plain facts about numbers. By the tests of the definitions.
+-- The outcomes of nodes, root, path length and path, one law for each, from plain facts about numbers. By the tests of the definitions.
 -- Assumes nothing.
 use mathlib.Core.Path.{_≡_}
 use mathlib.Core.Bool.{false}
-use mathlib.Core.List.{List, _++_}
+use mathlib.Core.List.{List, _∷_, _++_}
 use Prim.Native.Nat.{ℕ, _-_, _≤_}
 use lib.ListN.{length, replicate}
 use Rattle.limits.specs.Limits.{maxParties, maxPath, parties, numbered}
 use Rattle.limits.proofs.Ranges.{parties-some, numbered-within}
 use Rattle.merkle.specs.Tree.{shape, sides}
-use Rattle.merkle.specs.Hashes.{topHash, pathHashes}
-use Rattle.merkle.specs.Shares.{blank, rootOf, pathLengthOf, pathOf}
+use Rattle.merkle.specs.Hashes.{topHash, pathHashes, nodeHashes, topAt, pathAt}
+use Rattle.merkle.specs.Shares.{blank, nodesOf, rootIn, rootOf, pathLengthOf, pathIn, pathOf}
 use Rattle.merkle.specs.declared.Counted.the-variants.{Refused, Hashes}
 
 module _ (H : List ℕ → List ℕ) (n : ℕ) (leaves : List (List ℕ)) where
-  pub root-parties : parties n ≡ false → rootOf H n leaves ≡ blank
-  unfolding rootOf
-  root-parties h = rw h
+  pub nodes-parties : parties n ≡ false → nodesOf H n leaves ≡ replicate maxParties blank
+  unfolding nodesOf
+  nodes-parties h = rw h
+
+  pub nodes-all : 1 ≤ n → n ≤ maxParties
+      → nodesOf H n leaves ≡ blank ∷ (nodeHashes H (shape n) 0 leaves ++ replicate (maxParties - n) blank)
+  unfolding nodesOf
+  nodes-all low high = rw (parties-some n low high)
 
   pub root-top : 1 ≤ n → n ≤ maxParties → rootOf H n leaves ≡ topHash H (shape n) 0 leaves
   unfolding rootOf
   root-top low high = rw (parties-some n low high)
+
+module _ (n : ℕ) (leaves nodes : List (List ℕ)) where
+  pub root-parties : parties n ≡ false → rootIn n leaves nodes ≡ blank
+  unfolding rootIn
+  root-parties h = rw h
+
+  pub root-at : 1 ≤ n → n ≤ maxParties → rootIn n leaves nodes ≡ topAt (shape n) 0 leaves nodes
+  unfolding rootIn
+  root-at low high = rw (parties-some n low high)
 
 module _ (n j : ℕ) where
   pub count-parties : parties n ≡ false → pathLengthOf n j ≡ Refused 1
@@ -35,18 +49,24 @@ module _ (n j : ℕ) where
     unfolding pathLengthOf
     count-told first last = rw (parties-some n low high, numbered-within n j first last)
 
-module _ (H : List ℕ → List ℕ) (n j : ℕ) (leaves : List (List ℕ)) where
-  pub path-parties : parties n ≡ false → pathOf H n j leaves ≡ replicate maxPath blank
-  unfolding pathOf
+module _ (n j : ℕ) (leaves nodes : List (List ℕ)) where
+  pub path-parties : parties n ≡ false → pathIn n j leaves nodes ≡ replicate maxPath blank
+  unfolding pathIn
   path-parties h = rw h
 
   module _ (low : 1 ≤ n) (high : n ≤ maxParties) where
-    pub path-number : numbered n j ≡ false → pathOf H n j leaves ≡ replicate maxPath blank
-    unfolding pathOf
+    pub path-number : numbered n j ≡ false → pathIn n j leaves nodes ≡ replicate maxPath blank
+    unfolding pathIn
     path-number h = rw (parties-some n low high, h)
 
     -- with the length of the path, in any form
-    pub path-hashes : 1 ≤ j → j ≤ n → (count : ℕ) → count ≡ length (sides (shape n) (j - 1))
-        → pathOf H n j leaves ≡ pathHashes H (shape n) (j - 1) 0 leaves ++ replicate (maxPath - count) blank
-    unfolding pathOf
-    path-hashes first last count e = rw (parties-some n low high, numbered-within n j first last, e)
+    pub path-at : 1 ≤ j → j ≤ n → (count : ℕ) → count ≡ length (sides (shape n) (j - 1))
+        → pathIn n j leaves nodes ≡ pathAt (shape n) (j - 1) 0 leaves nodes ++ replicate (maxPath - count) blank
+    unfolding pathIn
+    path-at first last count e = rw (parties-some n low high, numbered-within n j first last, e)
+
+module _ (H : List ℕ → List ℕ) (n j : ℕ) (leaves : List (List ℕ)) where
+  pub path-hashes : 1 ≤ n → n ≤ maxParties → 1 ≤ j → j ≤ n → (count : ℕ) → count ≡ length (sides (shape n) (j - 1))
+      → pathOf H n j leaves ≡ pathHashes H (shape n) (j - 1) 0 leaves ++ replicate (maxPath - count) blank
+  unfolding pathOf
+  path-hashes low high first last count e = rw (parties-some n low high, numbered-within n j first last, e)

@@ -1,11 +1,10 @@
--- The leaf string and the node string as they are put together in a buffer, and the hash of a string that is not too long.
--- By the laws of writing into a buffer. Assumes nothing.
-use mathlib.Core.Path.{_≡_, ap, ap₂, _∙_}
+-- The leaf string as its front with the share behind it, the node string as it is put together in a buffer, and the hash of a string that is not
+-- too long. By the laws of writing into a buffer. Assumes nothing.
+use mathlib.Core.Path.{_≡_, refl, ap, _∙_}
 use mathlib.Core.List.{List, [], _∷_, _++_, append-nil}
-use Prim.Native.Nat.{ℕ, suc, _+_, _≤_}
+use Prim.Native.Nat.{ℕ, _+_, _≤_}
 use native.Mathlib.Omega.{arith}
-use lib.ListN.{length, getD, take, drop, set, replicate, length-append, drop-of-length-le}
-use lib.Seq.{take-append-seam}
+use lib.ListN.{length, replicate, length-append, drop-of-length-le}
 use Rattle.limits.specs.Limits.{maxHashed}
 use Rattle.buffer.specs.Splice.{spliced, putOf}
 use Rattle.buffer.proofs.Splice.{put-fits, spliced-more, length-spliced}
@@ -22,15 +21,9 @@ pub length-leafString : (j : ℕ) (s : List ℕ) → length (leafString j s) ≡
 unfolding leafString
 length-leafString j s = omega arith
 
-pub leaf-written : (d : List ℕ) (j : ℕ) (s : List ℕ) → 2 + length s ≤ length d → getD d 0 0 ≡ 0
-    → take (length s + 2) (putOf (set d 1 j) 2 s) ≡ leafString j s
-unfolding spliced leafString
-leaf-written [] j s h z = absurd (omega arith)
-leaf-written (a ∷ []) j s h z = absurd (omega arith)
-leaf-written (a ∷ b ∷ d) j s h z =
-    let two : length s + 2 ≡ suc (suc (length s)) = omega arith in
-    ap₂ take two (put-fits (a ∷ j ∷ d) 2 s h)
-    ∙ ap₂ (λ (x : ℕ) (l : List ℕ). x ∷ j ∷ l) z (take-append-seam s (drop (2 + length s) (a ∷ j ∷ d)))
+pub leaf-behind : (j : ℕ) (s : List ℕ) → leafString j [] ++ s ≡ leafString j s
+unfolding leafString
+leaf-behind j s = refl
 
 pub node-written : (a b : List ℕ) → length a ≡ 32 → length b ≡ 32
     → putOf (putOf (1 ∷ replicate 64 0) 1 a) 33 b ≡ nodeString a b

@@ -4,6 +4,7 @@ use mathlib.Core.List.{List, [], _∷_, map}
 use Prim.Native.Nat.{ℕ}
 use lib.ListN.{length}
 use Rattle.merkle.specs.Tree.{splitFrom, split, shapeOf, shape, size, sides, nodeString, root, path}
+use Rattle.merkle.specs.Hashes.{topHash, nodeHashes, topAt, pathAt}
 
 -- n 3: 2, 2, 1
 pub three : map (λ (m : ℕ). length (sides (shape 3) m)) (0 ∷ 1 ∷ 2 ∷ []) ≡ 2 ∷ 2 ∷ 1 ∷ []
@@ -51,3 +52,18 @@ module _ (H : List ℕ → List ℕ) (d0 d1 d2 d3 d4 d5 d6 : List ℕ) where
       × (path H (shape 7) 6 leaves ≡ i ∷ k ∷ [])
   unfolding root path shape shapeOf split splitFrom size
   seven-paths = (refl, refl, refl, refl)
+
+  -- its node hashes from left to right, and root and path read from where they lie
+  abbrev hashes : List (List ℕ)
+  hashes = map H leaves
+
+  abbrev nodes : List (List ℕ)
+  nodes = [] ∷ g ∷ k ∷ h ∷ H (nodeString k l) ∷ i ∷ l ∷ []
+
+  pub seven-nodes : [] ∷ nodeHashes H (shape 7) 0 hashes ≡ nodes
+  unfolding nodeHashes topHash shape shapeOf split splitFrom size
+  seven-nodes = refl
+
+  pub seven-read : (topAt (shape 7) 0 hashes nodes ≡ H (nodeString k l)) × (pathAt (shape 7) 4 0 hashes nodes ≡ H d5 ∷ H d6 ∷ k ∷ [])
+  unfolding topAt pathAt shape shapeOf split splitFrom size
+  seven-read = (refl, refl)

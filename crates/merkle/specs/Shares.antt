@@ -9,7 +9,7 @@ use Rattle.limits.specs.Limits.{maxParties, maxPath, maxHashed, parties, number
 use Rattle.buffer.specs.Splice.{tabulate}
 use Rattle.merkle.specs.Tree.{Side, shape, sides, folded}
 use Rattle.merkle.specs.Strings.{treeStrings, checkStrings}
-use Rattle.merkle.specs.Hashes.{topHash, pathHashes}
+use Rattle.merkle.specs.Hashes.{topHash, pathHashes, nodeHashes, topAt, pathAt}
 use Rattle.merkle.specs.declared.Counted.{Counted}
 use Rattle.merkle.specs.declared.Counted.the-variants as counted
 use Rattle.merkle.specs.declared.Checked.{Checked}
@@ -45,6 +45,17 @@ unfoldable pub pathLengthOf : ℕ → ℕ → Counted
 pathLengthOf n j =
     cond (not (parties n)) (counted.Refused 1) (cond (not (numbered n j)) (counted.Refused 3) (counted.Hashes (length (sidesOf n j))))
 
+-- the root over the first n leaf hashes, read from them and from the node hashes; blank where n is out of its range
+unfoldable pub rootIn : ℕ → List (List ℕ) → List (List ℕ) → List ℕ
+rootIn n leaves nodes = cond (parties n) (topAt (shape n) 0 leaves nodes) blank
+
+-- the audit path of share j, read so, and blanks up to the greatest length of a path; all blank where n or j is out of its range
+unfoldable pub pathIn : ℕ → ℕ → List (List ℕ) → List (List ℕ) → List (List ℕ)
+pathIn n j leaves nodes =
+    cond (parties n && numbered n j)
+    (pathAt (shape n) (j - 1) 0 leaves nodes ++ replicate (maxPath - length (sidesOf n j)) blank)
+    (replicate maxPath blank)
+
 -- the two lists are equal
 unfoldable pub same : List ℕ → List ℕ → Bool
 same [] [] = true
@@ -73,6 +84,12 @@ module _ (H : List ℕ → List ℕ) where
       cond (parties n && numbered n j)
       (pathHashes H (shape n) (j - 1) 0 leaves ++ replicate (maxPath - length (sidesOf n j)) blank)
       (replicate maxPath blank)
+
+  -- the node hashes over the first n leaf hashes: a node whose right tree begins with leaf hash g (from 0) has entry g. Entry 0 and those from n on
+  -- are blank, and all where n is out of its range
+  unfoldable pub nodesOf : ℕ → List (List ℕ) → List (List ℕ)
+  nodesOf n leaves =
+      cond (parties n) (blank ∷ (nodeHashes H (shape n) 0 leaves ++ replicate (maxParties - n) blank)) (replicate maxParties blank)
 
   -- the path check: of a path of at least `count` hashes the first `count` are as many as n and j give, and fold to the root
   unfoldable pub passes : ℕ → ℕ → List ℕ → List (List ℕ) → ℕ → List ℕ → Bool

@@ -1,19 +1,19 @@
-// The Merkle tree of RFC 6962 over the shares of a message: leaf hashes, root, audit path, and the check of a path.
+// The Merkle tree of RFC 6962 over the shares of a message: hashes of leaves and nodes, root, audit path, and the check of a path.
 ghost use mathlib.Core.Path.{_≡_};
 ghost use mathlib.Core.Bool.{true, false};
-ghost use mathlib.Core.List.{List, _++_};
-ghost use Prim.Native.Nat.{ℕ, _+_, _-_, _*_, _≤_, _<_};
-ghost use lib.ListN.{length, getD, take, replicate};
-ghost use Rattle.limits.specs.Limits.{maxParties, maxPath, maxShare, maxHashed};
+ghost use mathlib.Core.List.{[], _++_};
+ghost use Prim.Native.Nat.{_+_, _-_, _≤_, _<_};
+ghost use lib.ListN.{length, take, drop, replicate};
+ghost use Rattle.limits.specs.Limits.{maxParties, maxPath, maxHashed};
 ghost use Rattle.sha256.specs.Sha256.{sha256};
 ghost use Rattle.merkle.specs.Tree.{split, shape, sides, nodeString, folded};
-ghost use Rattle.merkle.specs.Hashes.{topHash, pathHashes};
-ghost use Rattle.merkle.specs.Shares.{leafString, blank, sharesCause, leavesOf, rootOf, pathLengthOf, pathOf, same, checkOf};
+ghost use Rattle.merkle.specs.Hashes.{nodeHashes, topAt, pathAt};
+ghost use Rattle.merkle.specs.Shares.{leafString, blank, sharesCause, leavesOf, nodesOf, rootIn, rootOf};
+ghost use Rattle.merkle.specs.Shares.{pathLengthOf, pathIn, pathOf, same, checkOf};
 ghost use Rattle.merkle.specs.Turns.{upward};
 use limits::MAX_HASHED;
 use limits::MAX_PARTIES;
 use limits::MAX_PATH;
-use limits::MAX_SHARE;
 
 // A SHA-256 hash.
 pub type Hash = [u8; 32];
@@ -70,14 +70,34 @@ pub fn leaves(n: usize, shares: &[u8]) -> [Hash; MAX_PARTIES]
     hashes
 }
 
-// The root over the first n leaf hashes; blank if n is out of its range.
-pub fn root(n: usize, leaves: &[Hash; MAX_PARTIES]) -> Hash
-    ensures { λ r. ⌜ r ≡ rootOf sha256 n (now (leaves .entry)) ⌝ }
+// The hashes of the nodes over the first n leaf hashes, each made once. That of a node stands at the place of its right half's first leaf; blanks
+// stand elsewhere, and everywhere if n is out of its range.
+pub fn nodes(n: usize, leaves: &[Hash; MAX_PARTIES]) -> [Hash; MAX_PARTIES]
+    ensures { λ r. ⌜ r ≡ nodesOf sha256 n (now (leaves .entry)) ⌝ }
+{
+    let none = [[0u8; 32]; MAX_PARTIES];
+    if !limits::parties(n) {
+        return none;
+    }
+    fill(leaves, 0, n, none)
+}
+
+// The root over the first n leaf hashes, read from them and the nodes' hashes; blank if n is out of its range.
+pub fn root_in(n: usize, leaves: &[Hash; MAX_PARTIES], nodes: &[Hash; MAX_PARTIES]) -> Hash
+    ensures { λ r. ⌜ r ≡ rootIn n (now (leaves .entry)) (now (nodes .entry)) ⌝ }
 {
     if !limits::parties(n) {
         return [0; 32];
     }
-    top_hash(leaves, 0, n)
+    top_at(leaves, nodes, 0, n)
+}
+
+// The root over the first n leaf hashes; blank if n is out of its range.
+pub fn root(n: usize, leaves: &[Hash; MAX_PARTIES]) -> Hash
+    ensures { λ r. ⌜ r ≡ rootOf sha256 n (now (leaves .entry)) ⌝ }
+{
+    let all = nodes(n, leaves);
+    root_in(n, leaves, &all)
 }
 
 // The length of the audit path of share j of n.
@@ -94,9 +114,15 @@ pub fn path_length(n: usize, j: usize) -> Counted
     Counted::Hashes(way.count)
 }
 
-// The audit path of share j, from the leaf upward. Blanks stand past it, and everywhere if n or j is out of its range.
-pub fn path(n: usize, j: usize, leaves: &[Hash; MAX_PARTIES]) -> [Hash; MAX_PATH]
-    ensures { λ r. ⌜ r ≡ pathOf sha256 n j (now (leaves .entry)) ⌝ }
+// The audit path of share j, from the leaf upward, read from the hashes of leaves and nodes. Blanks stand past it, and everywhere if n or j is
+// out of its range.
+pub fn path_in(
+    n: usize,
+    j: usize,
+    leaves: &[Hash; MAX_PARTIES],
+    nodes: &[Hash; MAX_PARTIES],
+) -> [Hash; MAX_PATH]
+    ensures { λ r. ⌜ r ≡ pathIn n j (now (leaves .entry)) (now (nodes .entry)) ⌝ }
 {
     if !limits::parties(n) {
         return [[0; 32]; MAX_PATH];
@@ -105,7 +131,15 @@ pub fn path(n: usize, j: usize, leaves: &[Hash; MAX_PARTIES]) -> [Hash; MAX_PATH
         return [[0; 32]; MAX_PATH];
     }
     let way = way_down(n, j - 1);
-    siblings(leaves, n, j - 1, way.count)
+    siblings(leaves, nodes, n, j - 1, way.count)
+}
+
+// The audit path of share j, from the leaf upward. Blanks stand past it, and everywhere if n or j is out of its range.
+pub fn path(n: usize, j: usize, leaves: &[Hash; MAX_PARTIES]) -> [Hash; MAX_PATH]
+    ensures { λ r. ⌜ r ≡ pathOf sha256 n j (now (leaves .entry)) ⌝ }
+{
+    let all = nodes(n, leaves);
+    path_in(n, j, leaves, &all)
 }
 
 // Whether the first `count` hashes of a path lead from share j of n to the root.
@@ -143,29 +177,22 @@ pub fn check(
     Checked::No
 }
 
-// The hash of the leaf string of share j. The buffer is as long as a share of a message needs, unless the share is longer.
+// The hash of the leaf string of share j. The share is read where it lies.
 fn leaf_hash(j: usize, share: &[u8]) -> Hash
     requires { ⌜ (j < 256) × (2 + length (now share) ≤ maxHashed) ⌝ }
     ensures { λ r. ⌜ r ≡ sha256 (leafString j (now (share .entry))) ⌝ }
 {
-    if MAX_SHARE < share.len() {
-        let mut wide = [0u8; MAX_HASHED];
-        return leaf_hash_in(&mut wide, j, share);
-    }
-    let mut narrow = [0u8; MAX_SHARE + 2];
-    leaf_hash_in(&mut narrow, j, share)
+    sha256::hash_with_front(leaf_front(j), 2, share).digest
 }
 
-// The same, with the leaf string put together in a buffer of zeros.
-fn leaf_hash_in(buffer: &mut [u8], j: usize, share: &[u8]) -> Hash
-    requires { ⌜ (j < 256) × (2 + length (now share) ≤ maxHashed) × (2 + length (now share) ≤ length (now buffer))
-        × (getD (now buffer) 0 0 ≡ 0) ⌝ }
-    ensures { λ r. ⌜ r ≡ sha256 (leafString j (now (share .entry))) ⌝ }
+// What stands before share j in its leaf string: two bytes, and zeros up to the length of a front.
+fn leaf_front(j: usize) -> [u8; 64]
+    requires { ⌜ j < 256 ⌝ }
+    ensures { λ r. ⌜ take 2 r ≡ leafString j [] ⌝ }
 {
-    buffer[1] = (j % 256) as u8;
-    buffer::put(buffer, 2, share);
-    let end = share.len() + 2;
-    sha256::hash(&buffer[..end]).digest
+    let mut front = [0u8; 64];
+    front[1] = (j % 256) as u8;
+    front
 }
 
 // The hash of the node string of two hashes.
@@ -191,18 +218,42 @@ fn split_of(n: usize) -> usize
     k
 }
 
-// The root of the tree over n leaf hashes from place i on.
-fn top_hash(leaves: &[Hash; MAX_PARTIES], i: usize, n: usize) -> Hash
+// The root of the tree over n leaf hashes from place i on, read from the hashes of leaves and nodes.
+fn top_at(leaves: &[Hash; MAX_PARTIES], nodes: &[Hash; MAX_PARTIES], i: usize, n: usize) -> Hash
     requires { ⌜ (1 ≤ n) × (i + n ≤ maxParties) ⌝ }
-    ensures { λ r. ⌜ r ≡ topHash sha256 (shape n) i (now (leaves .entry)) ⌝ }
+    ensures { λ r. ⌜ r ≡ topAt (shape n) i (now (leaves .entry)) (now (nodes .entry)) ⌝ }
 {
     if n < 2 {
         return leaves[i];
     }
+    let at = i + split_of(n);
+    nodes[at]
+}
+
+// The array with the node hashes of that tree in their places.
+fn fill(
+    leaves: &[Hash; MAX_PARTIES],
+    i: usize,
+    n: usize,
+    nodes: [Hash; MAX_PARTIES],
+) -> [Hash; MAX_PARTIES]
+    requires { ⌜ (1 ≤ n) × (i + n ≤ maxParties) ⌝ }
+    ensures { λ r. ⌜ r ≡ take (i + 1) nodes ++ (nodeHashes sha256 (shape n) i (now (leaves .entry)) ++ drop (i + n) nodes) ⌝ }
+{
+    if n < 2 {
+        return nodes;
+    }
     let k = split_of(n);
-    let left = top_hash(leaves, i, k);
-    let right = top_hash(leaves, i + k, n - k);
-    node_hash(left, right)
+    let at = i + k;
+    let others = n - k;
+    let left = fill(leaves, i, k, nodes);
+    let mut both = fill(leaves, at, others, left);
+    let hash = node_hash(
+        top_at(leaves, &both, i, k),
+        top_at(leaves, &both, at, others),
+    );
+    both[at] = hash;
+    both
 }
 
 // The half of a tree that holds a leaf, and the other half: their first leaves, their numbers of leaves, and the leaf's place in its half.
@@ -284,9 +335,15 @@ fn way_down(n: usize, m: usize) -> Turns
 }
 
 // The roots of the other halves on the way to leaf m of n, from the leaf upward; `count` is the length of that way.
-fn siblings(leaves: &[Hash; MAX_PARTIES], n: usize, m: usize, count: usize) -> [Hash; MAX_PATH]
+fn siblings(
+    leaves: &[Hash; MAX_PARTIES],
+    nodes: &[Hash; MAX_PARTIES],
+    n: usize,
+    m: usize,
+    count: usize,
+) -> [Hash; MAX_PATH]
     requires { ⌜ (n ≤ maxParties) × (m < n) × (count ≡ length (sides (shape n) m)) × (count ≤ maxPath) ⌝ }
-    ensures { λ r. ⌜ r ≡ pathHashes sha256 (shape n) m 0 (now (leaves .entry)) ++ replicate (maxPath - count) blank ⌝ }
+    ensures { λ r. ⌜ r ≡ pathAt (shape n) m 0 (now (leaves .entry)) (now (nodes .entry)) ++ replicate (maxPath - count) blank ⌝ }
 {
     let mut path = [[0u8; 32]; MAX_PATH];
     let mut left = count;
@@ -296,7 +353,7 @@ fn siblings(leaves: &[Hash; MAX_PARTIES], n: usize, m: usize, count: usize) -> [
     while 1 < width {
         let halves = halve(first, width, at);
         left -= 1;
-        let hash = top_hash(leaves, halves.other, halves.others);
+        let hash = top_at(leaves, nodes, halves.other, halves.others);
         path[left] = hash;
         first = halves.first;
         width = halves.width;

@@ -3,3 +3,4 @@ pub mod Laws
 pub mod Steps
 pub mod Tail
 pub mod Blocks
+pub mod Answers

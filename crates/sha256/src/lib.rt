@@ -3,18 +3,19 @@ mod constants;
 
 ghost use mathlib.Core.Path.{_≡_};
 ghost use mathlib.Core.List.{_++_};
-ghost use Prim.Native.Nat.{_+_, _*_, _/_, _%_, _^_, _≤_, _<_};
+ghost use Prim.Native.Nat.{_+_, _-_, _*_, _/_, _%_, _^_, _≤_, _<_};
 ghost use lib.ListN.{length, getD, take};
 ghost use Rattle.limits.specs.Limits.{maxHashed};
 ghost use Rattle.sha256.specs.Sha256 as fips;
 ghost use Rattle.sha256.specs.Sha256.{_⊞_, Ch, Maj, Σ0, Σ1, σ0, σ1, padding, hashOf};
+ghost use Rattle.sha256.specs.Rest.{digestFrom};
 ghost use Rattle.sha256.specs.declared.Working as declared;
 use constants::INITIAL;
 use constants::K;
 use limits::MAX_HASHED;
 use std::num::wrapping_add_u32;
 
-// What `hash` answers.
+// What `hash` and `hash_with_front` answer.
 pub struct Hashed {
     // 0, or 4 where the message is longer than MAX_HASHED.
     pub cause: u8,
@@ -280,7 +281,23 @@ fn digest_of(h: [u32; 8]) -> [u8; 32]
     digest
 }
 
-// SHA-256 of a message. Its whole blocks are read where they lie; only what is left is copied, to be padded.
+// The answer to a message of n bytes that ends with `rest`, from the hash value of the blocks before: the whole blocks of `rest` are read where
+// they lie; only what is left is copied, to be padded.
+fn finish(start: [u32; 8], rest: &[u8], n: usize) -> Hashed
+    requires { ⌜ (n ≤ maxHashed) × (length (now rest) % 64 ≡ n % 64) ⌝ }
+    ensures { λ r. ⌜ r ≡ record { cause = 0; digest = digestFrom start (now (rest .entry)) n } ⌝ }
+{
+    let len = rest.len();
+    let whole = len / 64 * 64;
+    let end = (n % 64 + 72) / 64 * 64;
+    let tail = pad(&rest[whole..len], n, end);
+    let h = hash_value(start, rest);
+    let last = hash_value(h, &tail[..end]);
+    let digest = digest_of(last);
+    Hashed { cause: 0, digest }
+}
+
+// SHA-256 of a message.
 pub fn hash(message: &[u8]) -> Hashed
     ensures { λ r. ⌜ r ≡ hashOf (now (message .entry)) ⌝ }
 {
@@ -291,11 +308,52 @@ pub fn hash(message: &[u8]) -> Hashed
             digest: [0; 32],
         };
     }
-    let whole = n / 64 * 64;
-    let end = (n % 64 + 72) / 64 * 64;
-    let tail = pad(&message[whole..n], n, end);
-    let h = hash_value(INITIAL, message);
-    let last = hash_value(h, &tail[..end]);
-    let digest = digest_of(last);
-    Hashed { cause: 0, digest }
+    finish(INITIAL, message, n)
+}
+
+// SHA-256 of the first `len` bytes of `front`, or of all its 64, with `rest` behind them. The caller need not put the message together: `rest` is
+// read where it lies.
+pub fn hash_with_front(front: [u8; 64], len: usize, rest: &[u8]) -> Hashed
+    ensures { λ r. ⌜ r ≡ hashOf (take len front ++ now (rest .entry)) ⌝ }
+{
+    if len < 64 {
+        return hash_behind(front, len, rest);
+    }
+    hash_behind(front, 64, rest)
+}
+
+// The same for a front of k bytes.
+fn hash_behind(front: [u8; 64], k: usize, rest: &[u8]) -> Hashed
+    requires { ⌜ k ≤ 64 ⌝ }
+    ensures { λ r. ⌜ r ≡ hashOf (take k front ++ now (rest .entry)) ⌝ }
+{
+    if MAX_HASHED - k < rest.len() {
+        return Hashed {
+            cause: 4,
+            digest: [0; 32],
+        };
+    }
+    let n = k + rest.len();
+    let first = first_block(front, k, rest);
+    if n < 64 {
+        return finish(INITIAL, &first[..n], n);
+    }
+    let h = compress(INITIAL, &first);
+    let at = 64 - k;
+    finish(h, &rest[at..], n)
+}
+
+// A block that begins with k bytes of `front` and then with as much of `rest` as it holds.
+fn first_block(front: [u8; 64], k: usize, rest: &[u8]) -> [u8; 64]
+    requires { ⌜ k ≤ 64 ⌝ }
+    ensures { λ r. ⌜ take (k + length (now (rest .entry))) r ≡ take k front ++ take (64 - k) (now (rest .entry)) ⌝ }
+{
+    let mut block = front;
+    let room = 64 - k;
+    if rest.len() < room {
+        buffer::put(&mut block, k, rest);
+        return block;
+    }
+    buffer::put(&mut block, k, &rest[..room]);
+    block
 }

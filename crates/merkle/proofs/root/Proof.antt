@@ -1,31 +1,23 @@
--- `merkle::root` meets its contract: each way out is an outcome of the definition. Assumes nothing.
-use mathlib.Core.Path.{sym, _∙_}
-use Prim.Native.Nat.{_≤_}
-use native.Mathlib.Omega.{arith}
+-- `merkle::root` meets its contract: the root is read from the node hashes of the leaves. Assumes nothing.
+use mathlib.Core.Path.{ap, _∙_}
 use borrow.Author.Needs.{needs}
-use Rattle.limits.specs.Limits.{maxParties}
-use Rattle.limits.proofs.Booleans.{denied}
-use Rattle.limits.proofs.Ranges.{parties-told}
 use Rattle.sha256.specs.Sha256.{sha256}
-use Rattle.merkle.proofs.Outcomes.{root-parties, root-top}
+use Rattle.merkle.specs.Shares.{rootIn}
+use Rattle.merkle.proofs.Slots.{root-read}
 use Rattle.merkle.proofs.root.Statement.{statement}
 use Rattle.merkle.proofs.root.Tie as tie
 
--- n is within its range
-range : (e : tie.Else1) → let a = e .before .before .args in (1 ≤ a .n) × (a .n ≤ maxParties)
-range e = parties-told _ (e .before .parties .ensures) (e .if1 .left)
+nodes-requires : tie.Need-nodes-requires
+nodes-requires c κs = search needs
 
-parties-requires : tie.Need-parties-requires
-parties-requires c κs = search needs
+root-in-requires : tie.Need-root-in-requires
+root-in-requires c κs = search needs
 
 returns : tie.Need-returns
-returns c = sym (root-parties sha256 _ _ (denied (c .before .parties .ensures) (c .if1 .taken)))
-
-top-hash-requires : tie.Need-top-hash-requires
-top-hash-requires c κs = let r = range c in (r .0, omega (arith, r))
-
-returns-2 : tie.Need-returns-2
-returns-2 c = let r = range (c .before) in c .top-hash .ensures ∙ sym (root-top sha256 _ _ (r .0) (r .1))
+returns c =
+    let v = c .before .before in
+    let a = v .before .args in
+    c .root-in .ensures ∙ ap (rootIn (a .n) (a .leaves .now)) (v .nodes .ensures) ∙ root-read sha256 (a .n) (a .leaves .now)
 
 pub root-spec : {M : Type 1} → statement M
-root-spec = tie.close (tie.spec parties-requires returns top-hash-requires returns-2)
+root-spec = tie.close (tie.spec nodes-requires root-in-requires returns)

@@ -1,97 +1,21 @@
--- `sha256::hash` meets its contract: a message that is too long, or its whole blocks and then its padded end. Assumes nothing.
-use mathlib.Core.Path.{_≡_, sym, ap, _∙_}
-use mathlib.Core.List.{List, _++_}
-use Prim.Native.Nat.{ℕ, _+_, _-_, _*_, _/_, _%_}
+-- `sha256::hash` meets its contract: a message that is too long, or one without blocks before it. Assumes nothing.
+use mathlib.Core.Path.{refl, sym, _∙_}
 use native.Mathlib.Omega.{arith}
-use lib.ListN.{length, take, drop, length-drop}
-use lib.Seq.{length-take-le, take-all}
-use mir.Syntax.{w8}
-use borrow.Kind.Array.{good-length, eInt}
-use Rattle.sha256.specs.declared.Hashed.{Hashed}
-use Rattle.sha256.specs.Sha256.{padding, initial, hashValue, digestOf}
-use Rattle.sha256.proofs.Blocks.{sha256-parts}
-use Rattle.sha256.proofs.Laws.{hash-long, hash-fine}
-use borrow.Author.Needs.{needs}
+use Rattle.sha256.specs.Sha256.{initial}
+use Rattle.sha256.proofs.Laws.{hash-long}
+use Rattle.sha256.proofs.Answers.{answer-whole}
 use Rattle.sha256.proofs.hash.Statement.{statement}
 use Rattle.sha256.proofs.hash.Tie as tie
 
 returns : tie.Need-returns
 returns c = sym (hash-long _ (omega arith))
 
-mul-whole : tie.Need-mul-whole
-mul-whole c = search needs
-
-add-end : tie.Need-add-end
-add-end c = search needs
-
-mul-end : tie.Need-mul-end
-mul-end c = search needs
-
-sub-pad : tie.Need-sub-pad
-sub-pad c = search needs
-
-part-pad-start : tie.Need-part-pad-start
-part-pad-start c = search needs
-
-part-pad-end : tie.Need-part-pad-end
-part-pad-end c = search needs
-
-pad-requires : tie.Need-pad-requires
-pad-requires c κs = search needs
-
-hash-value-requires : tie.Need-hash-value-requires
-hash-value-requires c κs = search needs
-
-array-share-prefix-tail : tie.Need-array-share-prefix-tail
-array-share-prefix-tail c = search needs
-
-slice-aggregate-hash-value : tie.Need-slice-aggregate-hash-value
-slice-aggregate-hash-value c =
-    let p = c .before .before .pad in
-    let n : length (p .result) ≡ 128 = good-length (eInt w8) 128 (p .result) _ (p .ok) in
-    sym (length-take-le _ (p .result) (omega arith))
-
-hash-value-requires-2 : tie.Need-hash-value-requires-2
-hash-value-requires-2 c κs = search needs
-
-digest-of-requires : tie.Need-digest-of-requires
-digest-of-requires c κs = search needs
+finish-requires : tie.Need-finish-requires
+finish-requires c κs = (omega arith, refl)
 
 returns-2 : tie.Need-returns-2
 unfolding initial
-returns-2 c =
-    let p = c .before .before .before .before in
-    let m = p .before .before .before .before .args .message .now in
-    let k = length m / 64 * 64 in
-    let t = take ((length m % 64 + 72) / 64 * 64) (p .pad .result) in
-    let f : t ≡ drop k m ++ padding (length m) =
-    p .pad .ensures
-    ∙ ap (λ (l : List ℕ). l ++ padding (length m)) (take-all (length m - k) (drop k m) (simp length-drop (omega arith)))
-    in
-    let d =
-    c .digest-of .ensures
-    ∙ ap digestOf
-    (c .before .hash-value2 .ensures
-    ∙ ap (λ (h : List ℕ). hashValue h (length t / 64) t) (c .before .before .before .hash-value .ensures))
-    ∙ sym (sha256-parts m t k (omega arith) f)
-    in
-    ap {B = Hashed} (λ (x : List ℕ). record { cause = 0; digest = x }) d ∙ sym (hash-fine m (omega arith))
+returns-2 c = c .finish .ensures ∙ answer-whole _ _ refl (omega arith)
 
 pub hash-spec : {M : Type 1} → statement M
-hash-spec =
-    tie.close
-    (tie.spec
-    returns
-    mul-whole
-    add-end
-    mul-end
-    sub-pad
-    part-pad-start
-    part-pad-end
-    pad-requires
-    hash-value-requires
-    array-share-prefix-tail
-    slice-aggregate-hash-value
-    hash-value-requires-2
-    digest-of-requires
-    returns-2)
+hash-spec = tie.close (tie.spec returns finish-requires returns-2)
