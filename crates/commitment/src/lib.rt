@@ -8,7 +8,7 @@ ghost use Rattle.limits.specs.Limits.{maxParties, maxShare};
 ghost use Rattle.buffer.specs.Splice.{spliced};
 ghost use Rattle.buffer.specs.Given.{gave, written};
 ghost use Rattle.erasure.specs.Coding.{shareLength, shares};
-ghost use Rattle.merkle.specs.Shares.{leavesOf};
+ghost use Rattle.merkle.specs.Shares.{leavesOf, nodesOf};
 ghost use Rattle.commitment.specs.Commitment.{openCause, rootedOf, sent, sendingOf, sendOf, relayOf};
 ghost use Rattle.commitment.specs.Rooms.{maxShares};
 ghost use Rattle.commitment.specs.Private.{Coded, carried, relayFor, entryWith, entryLength, outboxUpTo, outboxLength};
@@ -123,7 +123,8 @@ fn carry(
     let size = coded.size;
     let bytes = coded.bytes;
     let leaves = merkle::leaves(n, &bytes[..size]);
-    let top = merkle::root(n, &leaves);
+    let nodes = merkle::nodes(n, &leaves);
+    let top = merkle::root_in(n, &leaves, &nodes);
     if !check::same(&top, root) {
         return Sent {
             happy: false,
@@ -133,12 +134,12 @@ fn carry(
     if relays {
         return Sent {
             happy: true,
-            answer: put_relay(n, own, len, &bytes[..size], &leaves, out),
+            answer: put_relay(n, own, len, &bytes[..size], &leaves, &nodes, out),
         };
     }
     Sent {
         happy: true,
-        answer: put_outbox(n, own, len, &bytes[..size], &leaves, out),
+        answer: put_outbox(n, own, len, &bytes[..size], &leaves, &nodes, out),
     }
 }
 
@@ -187,9 +188,11 @@ fn put_relay(
     len: usize,
     shares: &[u8],
     leaves: &[Hash; MAX_PARTIES],
+    nodes: &[Hash; MAX_PARTIES],
     out: &mut [u8],
 ) -> Written
-    requires { ⌜ (1 ≤ n) × (n ≤ maxParties) × (1 ≤ own) × (own ≤ n) × (1 ≤ len) × (len ≤ maxShare) × (n * len ≤ length (now shares)) ⌝ }
+    requires { ⌜ (1 ≤ n) × (n ≤ maxParties) × (1 ≤ own) × (own ≤ n) × (1 ≤ len) × (len ≤ maxShare) × (n * len ≤ length (now shares))
+        × (now nodes ≡ nodesOf sha256 n (now leaves)) ⌝ }
     ensures { λ r. ⌜ gave r (now (out .exit)) ≡ written (relayFor sha256 n own len (now (shares .entry)) (now (leaves .entry))) (now (out .entry)) ⌝ }
 {
     if n == 1 {
@@ -198,7 +201,7 @@ fn put_relay(
     let Counted::Hashes(count) = merkle::path_length(n, own) else {
         return Written::Refused(3);
     };
-    let path = merkle::path(n, own, leaves);
+    let path = merkle::path_in(n, own, leaves, nodes);
     let from = (own - 1) * len;
     let end = from + len;
     packet::write(n, own, &shares[from..end], path, count, out)
@@ -211,10 +214,11 @@ fn put_outbox(
     len: usize,
     shares: &[u8],
     leaves: &[Hash; MAX_PARTIES],
+    nodes: &[Hash; MAX_PARTIES],
     out: &mut [u8],
 ) -> Written
     requires { ⌜ (1 ≤ n) × (n ≤ maxParties) × (1 ≤ len) × (len ≤ maxShare) × (length (now shares) ≡ n * len)
-        × (now leaves ≡ leavesOf sha256 n (now shares)) ⌝ }
+        × (now leaves ≡ leavesOf sha256 n (now shares)) × (now nodes ≡ nodesOf sha256 n (now leaves)) ⌝ }
     ensures { λ r. ⌜ gave r (now (out .exit))
         ≡ written (outboxUpTo sha256 n n own len (now (shares .entry)) (now (leaves .entry))) (now (out .entry)) ⌝ }
 {
@@ -222,7 +226,7 @@ fn put_outbox(
     if out.len() < need {
         return Written::Short(need);
     }
-    write_outbox(n, own, len, shares, leaves, out);
+    write_outbox(n, own, len, shares, leaves, nodes, out);
     Written::Done(need)
 }
 
@@ -260,9 +264,11 @@ fn write_outbox(
     len: usize,
     shares: &[u8],
     leaves: &[Hash; MAX_PARTIES],
+    nodes: &[Hash; MAX_PARTIES],
     out: &mut [u8],
 )
     requires { ⌜ (1 ≤ n) × (n ≤ maxParties) × (1 ≤ len) × (len ≤ maxShare) × (n * len ≤ length (now shares))
+        × (now nodes ≡ nodesOf sha256 n (now leaves))
         × (length (outboxUpTo sha256 n n own len (now shares) (now leaves)) ≤ length (now out)) ⌝ }
     ensures { λ _. ⌜ now (out .exit) ≡ spliced (now (out .entry)) 0 (outboxUpTo sha256 n n own len (now (shares .entry)) (now (leaves .entry))) ⌝ }
 {
@@ -272,7 +278,7 @@ fn write_outbox(
         j += 1;
         let from = (j - 1) * len;
         let end = from + len;
-        at += write_entry(n, own, j, &shares[from..end], leaves, &mut out[at..]);
+        at += write_entry(n, own, j, &shares[from..end], leaves, nodes, &mut out[at..]);
     }
 }
 
@@ -283,10 +289,11 @@ fn write_entry(
     j: usize,
     share: &[u8],
     leaves: &[Hash; MAX_PARTIES],
+    nodes: &[Hash; MAX_PARTIES],
     out: &mut [u8],
 ) -> usize
     requires { ⌜ (1 ≤ n) × (n ≤ maxParties) × (1 ≤ j) × (j ≤ n) × (1 ≤ length (now share)) × (length (now share) ≤ maxShare)
-        × (length (entryWith sha256 n own (now leaves) j (now share)) ≤ length (now out)) ⌝ }
+        × (now nodes ≡ nodesOf sha256 n (now leaves)) × (length (entryWith sha256 n own (now leaves) j (now share)) ≤ length (now out)) ⌝ }
     ensures { λ r. ⌜ (r ≡ length (entryWith sha256 n own (now (leaves .entry)) j (now (share .entry))))
         × (now (out .exit) ≡ spliced (now (out .entry)) 0 (entryWith sha256 n own (now (leaves .entry)) j (now (share .entry)))) ⌝ }
 {
@@ -297,7 +304,7 @@ fn write_entry(
     let Counted::Hashes(count) = merkle::path_length(n, j) else {
         return 0;
     };
-    let path = merkle::path(n, j, leaves);
+    let path = merkle::path_in(n, j, leaves, nodes);
     let Written::Done(size) = packet::write_entry(n, j, share, path, count, out) else {
         return 0;
     };

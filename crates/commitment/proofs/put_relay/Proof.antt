@@ -12,7 +12,8 @@ use Rattle.buffer.proofs.Given.{written-done}
 use Rattle.buffer.proofs.Splice.{spliced-none}
 use Rattle.buffer.specs.declared.Written.the-variants.{Done}
 use Rattle.buffer.specs.Given.{gave}
-use Rattle.merkle.specs.Shares.{pathOf}
+use Rattle.merkle.specs.Shares.{pathIn, pathOf}
+use Rattle.merkle.proofs.Slots.{path-read}
 use Rattle.packet.specs.Format.{packetOf}
 use Rattle.packet.specs.Answer.{writeOf}
 use Rattle.packet.proofs.Reading.{count-hashes}
@@ -48,17 +49,17 @@ returns-2 c =
     absurd (never-refused _ _ (omega arith) (omega arith) (omega arith) (omega arith) _
     (sym (q .path-length .ensures) ∙ c .enum-told .given .1))
 
-path-requires : tie.Need-path-requires
-path-requires c κs = search needs
+path-in-requires : tie.Need-path-in-requires
+path-in-requires c κs = search needs
 
 sub-from : tie.Need-sub-from
 sub-from c = search needs
 
 -- the function's entry, and the own share within the shares
-abbrev Entry : tie.After-path → tie.Start
+abbrev Entry : tie.After-path-in → tie.Start
 Entry p = p .before .before .before .before .before .before .before .before
 
-inside : (p : tie.After-path) → let a = Entry p .args in (a .own - 1) * a .len + a .len ≤ length (a .shares .now)
+inside : (p : tie.After-path-in) → let a = Entry p .args in (a .own - 1) * a .len + a .len ≤ length (a .shares .now)
 inside p = let a = Entry p .args in omega (arith, share-inside (a .n) (a .own) (a .len) (omega arith) (omega arith))
 
 mul-from : tie.Need-mul-from
@@ -99,7 +100,7 @@ returns-3 c =
     let long : length share ≡ a .len = length-part (a .shares .now) from (a .len) (inside p) in
     w .write .ensures
     ∙ ap₂ (λ (y : List ℕ) (l : List (List ℕ)). writeOf (a .n) (a .own) y l count out) (part-ends (a .shares .now) from (a .len))
-    (p .path .ensures)
+    (p .path-in .ensures ∙ ap (pathIn (a .n) (a .own) (a .leaves .now)) (st .pre .7) ∙ path-read sha256 (a .n) (a .own) (a .leaves .now))
     ∙ write-written (a .n) (a .own) share way count out
     (cause-fine (a .n) (a .own) (length share) count (omega arith) (omega arith) (omega arith) (omega arith) (omega arith) (omega arith)
     (h .2))
@@ -116,7 +117,7 @@ put-relay-spec =
     enum-known-count
     enum-told
     returns-2
-    path-requires
+    path-in-requires
     sub-from
     mul-from
     add-end

@@ -11,6 +11,8 @@ use Rattle.buffer.specs.Given.{Given, gave, valueOf}
 use Rattle.buffer.specs.Splice.{spliced}
 use Rattle.buffer.specs.declared.Written.the-variants.{Done}
 use Rattle.buffer.proofs.Splice.{put-fits}
+use Rattle.merkle.specs.Shares.{pathIn}
+use Rattle.merkle.proofs.Slots.{path-read}
 use Rattle.packet.specs.Answer.{writeEntryOf}
 use Rattle.packet.proofs.Reading.{count-hashes}
 use Rattle.commitment.specs.Private.{entryWith}
@@ -60,8 +62,8 @@ returns-2 c =
     absurd (never-refused _ _ (omega arith) (omega arith) (omega arith) (omega arith) _
     (sym (q .path-length .ensures) ∙ c .enum-told .given .1))
 
-path-requires : tie.Need-path-requires
-path-requires c κs = search needs
+path-in-requires : tie.Need-path-in-requires
+path-in-requires c κs = search needs
 
 write-entry-requires : tie.Need-write-entry-requires
 write-entry-requires c κs = search needs
@@ -82,7 +84,8 @@ wrote w =
     let h = count-hashes (a .n) (a .j) (omega arith) (omega arith) count
     (sym (q .before .before .path-length .ensures) ∙ q .count .given .1) in
     w .write-entry .ensures
-    ∙ ap (λ (l : List (List ℕ)). writeEntryOf (a .n) (a .j) (a .share .now) l count (a .out .now)) (p .path .ensures)
+    ∙ ap (λ (l : List (List ℕ)). writeEntryOf (a .n) (a .j) (a .share .now) l count (a .out .now))
+    (p .path-in .ensures ∙ ap (pathIn (a .n) (a .j) (a .leaves .now)) (Entry w .pre .6) ∙ path-read sha256 (a .n) (a .j) (a .leaves .now))
     ∙ entry-done sha256 (a .n) (a .own) (a .leaves .now) (a .j) (a .share .now) (omega arith) (omega arith) (omega arith) (omega arith)
     (omega arith) (omega arith) (q .before .before .before .if1 .left) count (h .2) (a .out .now) (omega arith)
 
@@ -119,7 +122,7 @@ write-entry-spec =
     enum-known-count
     enum-told
     returns-2
-    path-requires
+    path-in-requires
     write-entry-requires
     enum-known-size
     same-length-2

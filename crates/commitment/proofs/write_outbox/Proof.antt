@@ -16,12 +16,12 @@ use Rattle.commitment.proofs.write_outbox.Statement.{statement}
 use Rattle.commitment.proofs.write_outbox.Tie as tie
 
 abbrev Inv-loop : tie.InvT-loop
-Inv-loop n own len shares leaves out₀ at₀ j₀ out at j =
+Inv-loop n own len shares leaves nodes out₀ at₀ j₀ out at j =
     (j ≤ n) × (at ≡ length (outboxUpTo sha256 j n own len shares leaves)) × (length out ≡ length out₀)
     × (out ≡ spliced out₀ 0 (outboxUpTo sha256 j n own len shares leaves))
 
 abbrev μ-loop : tie.MeasureT-loop
-μ-loop n own len shares leaves out₀ at₀ j₀ out at j = n - j
+μ-loop n own len shares leaves nodes out₀ at₀ j₀ out at j = n - j
 
 loop-holds : tie.Need-loop-holds Inv-loop μ-loop
 loop-holds c =
@@ -63,7 +63,7 @@ room i =
     let all = ap (λ (k : ℕ). length (outboxUpTo sha256 k (a .n) (a .own) (a .len) (a .shares .now) (a .leaves .now))) rest in
     omega (
       arith,
-      st .pre,
+      st .pre .6,
       all,
       l .loop .inv .2,
       outbox-grows sha256 (a .n) (a .own) (a .len) (a .shares .now) (a .leaves .now) (l .loop .j + 1) (a .n - (l .loop .j + 1)),
@@ -117,6 +117,7 @@ write-entry-requires c κs =
       omega arith,
       omega (arith, long),
       omega (arith, long),
+      Entry i .pre .5,
       omega (arith, room i, ap length (same-entry i), ap length (part-rest o (l .loop .at)), length-drop (l .loop .at) o),
     )
 
@@ -127,7 +128,9 @@ wrote w = w .write-entry .ensures .0 ∙ ap length (same-entry (w .before .befor
 add-at : tie.Need-add-at Inv-loop μ-loop
 add-at c =
     let w = c .before .before in
-    omega (arith, wrote w, room (w .before .before .before))
+    let i = w .before .before .before in
+    let l = i .before in
+    omega (arith, wrote w, room i, l .loop .inv .2, Entry i .good)
 
 loop-less : tie.Need-loop-less Inv-loop μ-loop
 loop-less c = search needs
