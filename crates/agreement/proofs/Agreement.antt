@@ -43,9 +43,12 @@ use Rattle.party.specs.Steps.{packetFor, outboxOf, found, firstValid, relayOf, 
 use Rattle.party.specs.Steps.{shareFrom, gathered, rebuilt, resultOf}
 use Rattle.party.specs.declared.Party.{Party}
 use Rattle.party.specs.declared.Opened.{Opened}
-use Rattle.party.proofs.Causes.{open-bounds}
+use Rattle.commitment.proofs.Opening.{open-bounds}
 use Rattle.party.proofs.Kept.{message-bit, message-first, message-second, share-second}
-use Rattle.party.proofs.Messages.{Coded, share-some, pathTo, packetWith, packet-bit, packet-first}
+use Rattle.commitment.specs.Commitment.{packetWith}
+use Rattle.commitment.specs.Private.{Coded}
+use Rattle.commitment.proofs.Messages.{share-some, pathTo}
+use Rattle.party.proofs.Packets.{packet-bit, packet-first}
 use Rattle.party.proofs.Ways.{Way, on, off, way, clash}
 use Rattle.party.proofs.Checks.{Passing, passing, passes-valid, Took, took, finds, in-relays, gathered-at, gathered-length}
 use Rattle.agreement.specs.Calls.{agreeBit, bitGiven, resultAfter}

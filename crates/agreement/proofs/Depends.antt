@@ -31,7 +31,8 @@ use Rattle.party.specs.declared.Settled.the-variants as answer
 use Rattle.agreement.specs.Calls.{Call, agreeRoot, agreeBit, takeShares, takeRelays, Reply, made, checkedIn}
 use Rattle.party.proofs.Ways.{Way, on, off, way}
 use Rattle.party.proofs.Kept.{message-bit}
-use Rattle.party.proofs.Messages.{Coded, fine}
+use Rattle.commitment.specs.Private.{Coded}
+use Rattle.commitment.proofs.Messages.{fine}
 
 module _ (H K : List ℕ → List ℕ) where
   agree-left : (xs ys : List (List ℕ)) → Agree H K (xs ++ ys) → Agree H K xs

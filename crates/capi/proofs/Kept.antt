@@ -21,7 +21,8 @@ use Rattle.party.specs.Private.{Fit}
 use Rattle.party.specs.declared.Party.{Party}
 use Rattle.party.specs.declared.Opened.{Opened}
 use Rattle.party.specs.declared.Settled.the-variants as answer
-use Rattle.party.proofs.Causes.{state-fit, state-sound, open-bounds, root-state, root-length, bit-state, inbox-sound}
+use Rattle.commitment.proofs.Opening.{open-bounds}
+use Rattle.party.proofs.Causes.{state-fit, state-sound, root-state, root-length, bit-state, inbox-sound}
 use Rattle.party.proofs.Outcomes.{open-given, open-refused, root-refused, root-given}
 use Rattle.party.proofs.Progress.{message-short, held-short, result-short}
 use Rattle.agreement.specs.Calls.{Call, agreeRoot, agreeBit, takeShares, takeRelays, Event, made, events, final}

@@ -22,7 +22,7 @@ use Rattle.erasure.proofs.Frame.{share-most}
 use Rattle.party.specs.State.{Result, nothing, settled, bytesOf, messageIn, atBit, atFirst, atSecond, atEnd, happy}
 use Rattle.party.specs.Steps.{stateCause, bitIn, gives, writes, bitCause, packetFor, outboxOf, agreeBitOf, inboxCause, relayOf, heldOf}
 use Rattle.party.specs.Steps.{Taken, missing, found, takenBy, packetTaken, takeSharesOf, resultOf, givesEnd, ending, takeRelaysOf}
-use Rattle.party.specs.Rooms.{maxPacket, maxOutbox}
+use Rattle.commitment.specs.Rooms.{maxPacket, maxOutbox}
 use Rattle.party.specs.Private.{Fit}
 use Rattle.party.specs.declared.Party.{Party}
 use Rattle.party.specs.declared.Vote.{Vote}
@@ -32,9 +32,9 @@ use Rattle.party.proofs.Causes.{state-fit, state-sound, bit-state, inbox-sound}
 use Rattle.party.proofs.Kept.{take-padded}
 use Rattle.party.proofs.Progress.{result-short}
 use Rattle.party.proofs.Rooms.{outbox-fits, relay-fits}
-use Rattle.party.proofs.Shared.{length-shares}
+use Rattle.commitment.proofs.Shared.{length-shares}
 use Rattle.party.proofs.Taking.{Short, short-recovered}
-use Rattle.party.proofs.Messages.{Coded}
+use Rattle.commitment.specs.Private.{Coded}
 use Rattle.capi.specs.Calls.{packed, endValue}
 
 -- what is written, or would be

@@ -59,16 +59,13 @@ sending happy g = record { happy = happy; answer = g .answer; buffer = g .buffer
 abbrev pub sent : Sent → List ℕ → Sending
 sent r out = sending (r .happy) (gave (r .answer) out)
 
--- bs, if the message has the root z, else no bytes: causes 1, 2, 3, 4, then 9 where the buffer is shorter
+-- the relay (step 4), or else the outbox (step 3 on bit 1), if the message has the root z, else no bytes: causes 1, 2, 3, 4, then 9 where the
+-- buffer is shorter
 module _ (H : List ℕ → List ℕ) where
-  abbrev pub sendingOf : ℕ → ℕ → ℕ → List ℕ → List ℕ → List ℕ → List ℕ → Sending
-  sendingOf n t own m z bs out =
+  abbrev pub mailWith : Bool → ℕ → ℕ → ℕ → List ℕ → List ℕ
+  mailWith relays n t own m = cond relays (relayWith H n t own m) (inboxOf (packetsWith H n t own m))
+
+  unfoldable pub sendOf : Bool → ℕ → ℕ → ℕ → List ℕ → List ℕ → List ℕ → Sending
+  sendOf relays n t own m z out =
       cond (not (eqb (openCause n t own (length m)) 0)) (sending false (gave (Refused (openCause n t own (length m))) out))
-      (cond (same (messageRoot H n t m) z) (sending true (written bs out)) (sending false (gave (Done 0) out)))
-
-  -- step 3 on bit 1: the outbox; and step 4: the relay
-  unfoldable pub sendOf : ℕ → ℕ → ℕ → List ℕ → List ℕ → List ℕ → Sending
-  sendOf n t own m z out = sendingOf n t own m z (inboxOf (packetsWith H n t own m)) out
-
-  unfoldable pub relayOf : ℕ → ℕ → ℕ → List ℕ → List ℕ → List ℕ → Sending
-  relayOf n t own m z out = sendingOf n t own m z (relayWith H n t own m) out
+      (cond (same (messageRoot H n t m) z) (sending true (written (mailWith relays n t own m) out)) (sending false (gave (Done 0) out)))

@@ -1,5 +1,5 @@
 -- What the private functions suppose and give. The hash of the tree is a parameter H. No public contract cites this file. Assumes nothing.
-use mathlib.Core.Bool.{Bool, cond}
+use mathlib.Core.Bool.{cond}
 use mathlib.Core.List.{List, [], _++_}
 use Prim.Native.Nat.{ℕ, zero, suc, _+_, _-_, _*_, _≤_, _<_}
 use lib.Dec.{eqb}
@@ -7,8 +7,6 @@ use lib.ListN.{length, take, drop}
 use Rattle.limits.specs.Limits.{maxParties, maxMessage}
 use Rattle.merkle.specs.Shares.{sidesOf, pathOf}
 use Rattle.packet.specs.Format.{packetOf, entryOf}
-use Rattle.packet.specs.Inbox.{inboxOf}
-use Rattle.commitment.specs.Commitment.{packetsWith, relayWith}
 
 -- a message among n parties with fault limit t, within the limits
 pub record Coded (n t : ℕ) (m : List ℕ) : Type 0 where
@@ -36,10 +34,6 @@ module _ (H : List ℕ → List ℕ) where
   unfoldable pub outboxUpTo : ℕ → ℕ → ℕ → ℕ → List ℕ → List (List ℕ) → List ℕ
   outboxUpTo zero n own s shares leaves = []
   outboxUpTo (suc k) n own s shares leaves = outboxUpTo k n own s shares leaves ++ entryFor n own s shares leaves (suc k)
-
-  -- the relay, or else the outbox
-  abbrev pub carried : Bool → ℕ → ℕ → ℕ → List ℕ → List ℕ
-  carried relays n t own m = cond relays (relayWith H n t own m) (inboxOf (packetsWith H n t own m))
 
 -- how long they are
 unfoldable pub entryLength : ℕ → ℕ → ℕ → ℕ → ℕ

@@ -9,9 +9,9 @@ ghost use Rattle.buffer.specs.Splice.{spliced};
 ghost use Rattle.buffer.specs.Given.{gave, written};
 ghost use Rattle.erasure.specs.Coding.{shareLength, shares};
 ghost use Rattle.merkle.specs.Shares.{leavesOf, nodesOf};
-ghost use Rattle.commitment.specs.Commitment.{openCause, rootedOf, sent, sendingOf, sendOf, relayOf};
+ghost use Rattle.commitment.specs.Commitment.{openCause, rootedOf, sent, sendOf};
 ghost use Rattle.commitment.specs.Rooms.{maxShares};
-ghost use Rattle.commitment.specs.Private.{Coded, carried, relayFor, entryWith, entryLength, outboxUpTo, outboxLength};
+ghost use Rattle.commitment.specs.Private.{Coded, relayFor, entryWith, entryLength, outboxUpTo, outboxLength};
 use buffer::Written;
 use limits::MAX_MESSAGE;
 use limits::MAX_PARTIES;
@@ -69,36 +69,9 @@ pub fn root(n: usize, t: usize, own: usize, message: &[u8]) -> Rooted
     }
 }
 
-// Step 3 on bit 1: the outbox of a party whose message has the agreed root, for each other party a packet with its share.
+// What a party sends whose message has the agreed root: in step 4 its relay, the packet with its own share, but none where it is alone; or else, in
+// step 3 on bit 1, its outbox, for each other party a packet with its share.
 pub fn send(
-    n: usize,
-    t: usize,
-    own: usize,
-    message: &[u8],
-    root: &[u8],
-    out: &mut [u8],
-) -> Sent
-    ensures { λ r. ⌜ sent r (now (out .exit)) ≡ sendOf sha256 n t own (now (message .entry)) (now (root .entry)) (now (out .entry)) ⌝ }
-{
-    carry(false, n, t, own, message, root, out)
-}
-
-// Step 4: the relay of such a party, the packet with its own share, but none where it is alone.
-pub fn relay(
-    n: usize,
-    t: usize,
-    own: usize,
-    message: &[u8],
-    root: &[u8],
-    out: &mut [u8],
-) -> Sent
-    ensures { λ r. ⌜ sent r (now (out .exit)) ≡ relayOf sha256 n t own (now (message .entry)) (now (root .entry)) (now (out .entry)) ⌝ }
-{
-    carry(true, n, t, own, message, root, out)
-}
-
-// The relay, or else the outbox.
-fn carry(
     relays: bool,
     n: usize,
     t: usize,
@@ -108,8 +81,7 @@ fn carry(
     out: &mut [u8],
 ) -> Sent
     ensures { λ r. ⌜ sent r (now (out .exit))
-        ≡ sendingOf sha256 n t own (now (message .entry)) (now (root .entry)) (carried sha256 relays n t own (now (message .entry)))
-        (now (out .entry)) ⌝ }
+        ≡ sendOf sha256 relays n t own (now (message .entry)) (now (root .entry)) (now (out .entry)) ⌝ }
 {
     let cause = open_cause(n, t, own, message.len());
     if cause != 0 {

@@ -13,7 +13,7 @@ use Rattle.merkle.specs.Shares.{pathLengthOf}
 use Rattle.party.specs.Steps.{openCause, openOf}
 use Rattle.party.specs.Cases.{Cases, causeOf}
 use Rattle.party.specs.declared.Opened.{Opened}
-use Rattle.party.proofs.Causes.{open-long}
+use Rattle.commitment.proofs.Opening.{open-long}
 use Rattle.party.proofs.Outcomes.{open-refused}
 use Rattle.party.proofs.Progress.{open-accepted}
 

@@ -1,5 +1,4 @@
--- The causes for which the opening and a party's steps are refused: one law for each, and what holds where none applies. A cause is a
--- chain of tests, which is 0 only if every test fails. Assumes nothing.
+-- The causes for which a party's steps are refused: one law for each, and what holds where none applies. Assumes nothing.
 use mathlib.Core.Path.{_≡_, refl}
 use mathlib.Core.Bool.{Bool, true, false, cond, not, _||_}
 use mathlib.Core.List.{List}
@@ -10,11 +9,13 @@ use lib.Dec.{ltb, eqb}
 use lib.ListN.{length}
 use Rattle.limits.specs.Limits.{maxMessage, maxShare, numbered, groupCause}
 use Rattle.limits.proofs.Ranges.{numbered-within, numbered-range}
-use Rattle.limits.proofs.Group.{group-of}
+use Rattle.limits.proofs.Group.{group-of, group-fine}
 use Rattle.buffer.specs.Entries.{fills}
 use Rattle.limits.proofs.Booleans.{neither}
+use Rattle.commitment.specs.Commitment.{openCause}
+use Rattle.commitment.proofs.Opening.{spared, cleared, open-fine}
 use Rattle.party.specs.State.{broken, overlong}
-use Rattle.party.specs.Steps.{turnOf, stateCause, openCause, rootCause, bitCause, inboxCause}
+use Rattle.party.specs.Steps.{turnOf, stateCause, rootCause, bitCause, inboxCause}
 use Rattle.party.specs.Private.{Fit}
 use Rattle.party.specs.declared.Party.{Party}
 
@@ -106,6 +107,12 @@ state-sound turn x e =
     let h = spared (broken x) 4 (cond (not (eqb (turnOf (x .stage)) turn)) 6 0) e in
     let k = spared (not (eqb (turnOf (x .stage)) turn)) 5 0 (h .1) in
     (h .0, eqb-true (turnOf (x .stage)) turn (not-false (eqb (turnOf (x .stage)) turn) (k .0)))
+
+-- the opening of such a state's message would be accepted
+pub fit-open : (x : Party) → Fit x → (len : ℕ) → len ≡ x .len → openCause (x .n) (x .t) (x .own) len ≡ 0
+fit-open x f len e =
+    open-fine (x .n) (x .t) (x .own) len (group-fine (x .n) (x .t) (f .low) (f .high) (omega (arith, f .faults))) (f .first) (f .last)
+    (omega (arith, e, f .short))
 
 pub state-fit : (turn : ℕ) (x : Party) → stateCause turn x ≡ 0 → Fit x
 state-fit turn x e = fit-of x (state-sound turn x e .0)

@@ -20,10 +20,12 @@ use Rattle.buffer.proofs.Written.{the-type as written-type}
 use Rattle.buffer.proofs.Splice.{spliced-none}
 use Rattle.erasure.specs.Rebuild.{present, recovered}
 use Rattle.merkle.specs.Shares.{blank}
+use Rattle.commitment.proofs.Answers.{not-done}
 use Rattle.party.specs.State.{nothing, settled, messageIn, atRoot, atFirst, atSecond, atEnd, blankState, messageRoot, happy}
 use Rattle.party.specs.Steps.{openCause, openOf, rootCause, withRoot, ballot, agreeRootOf, bitCause, gives, refused, writes, outboxOf}
 use Rattle.party.specs.Steps.{agreeBitOf, inboxCause, takenBy, shareTaken, packetTaken, ownRelay, relayOf, heldOf, takeSharesOf}
 use Rattle.party.specs.Steps.{gathered, rebuilt, resultOf, givesEnd, ending, takeRelaysOf}
+use Rattle.party.specs.Private.{after}
 use Rattle.party.specs.declared.Party.{Party}
 use Rattle.party.specs.declared.Vote.the-variants as vote
 use Rattle.party.specs.declared.Settled.the-variants as answer
@@ -115,25 +117,20 @@ module _ (H : List ℕ → List ℕ) where
 
 -- what is sent: the answer of the writer says whether the state is the next one
 module _ (x next : Party) where
-  abbrev pub after : Written → Party
-  after (given.Refused k) = x
-  after (given.Short k) = x
-  after (given.Done k) = next
-
-  stays : (r : Written) → OneOf (0 ∷ 1 ∷ []) (tagOf written-type r) → after r ≡ x
+  stays : (r : Written) → OneOf (0 ∷ 1 ∷ []) (tagOf written-type r) → after x next r ≡ x
   stays (given.Refused k) h = refl
   stays (given.Short k) h = refl
   stays (given.Done k) h = absurd (not-done (given.Done k) k refl h)
 
   module _ (bs out : List ℕ) (r : Written) (o : List ℕ) (e : gave r o ≡ written bs out) where
-    pub writes-given : gives (after r) r o ≡ writes x next bs out
+    pub writes-given : gives (after x next r) r o ≡ writes x next bs out
     unfolding written
     writes-given =
-        ap (λ (g : Given). gives (after (g .answer)) (g .answer) (g .buffer)) e ∙ go (ltb (length out) (length bs))
+        ap (λ (g : Given). gives (after x next (g .answer)) (g .answer) (g .buffer)) e ∙ go (ltb (length out) (length bs))
       where
         go : (t : Bool)
             → let g = cond t (gave (given.Short (length bs)) out) (gave (given.Done (length bs)) (spliced out 0 bs)) in
-            gives (after (g .answer)) (g .answer) (g .buffer)
+            gives (after x next (g .answer)) (g .answer) (g .buffer)
             ≡ cond t (gives x (given.Short (length bs)) out) (gives next (given.Done (length bs)) (spliced out 0 bs))
         go true = refl
         go false = refl
@@ -142,7 +139,7 @@ module _ (x next : Party) where
     writes-short h = ap (λ (y : Party). gives y r o) (sym (stays r h)) ∙ writes-given
 
     pub writes-done : (k : ℕ) → r ≡ given.Done k → gives next r o ≡ writes x next bs out
-    writes-done k q = ap (λ (y : Party). gives y r o) (sym (ap after q)) ∙ writes-given
+    writes-done k q = ap (λ (y : Party). gives y r o) (sym (ap (after x next) q)) ∙ writes-given
 
 -- nothing is sent
 pub writes-nothing : (x next : Party) (out : List ℕ) → writes x next [] out ≡ gives next (given.Done 0) out

@@ -20,7 +20,8 @@ use Rattle.party.specs.Steps.{turnOf, openOf, bitCause, inboxCause, agre
 use Rattle.party.specs.Steps.{shareTaken, relayOf, heldOf, takeSharesOf, gathered, rebuilt, resultOf, ending, takeRelaysOf, writes, Ballot}
 use Rattle.party.specs.declared.Party.{Party}
 use Rattle.party.specs.declared.Opened.{Opened}
-use Rattle.party.proofs.Causes.{fit-of, broken-stage, state-fine, open-fine, root-fine, bit-fine, inbox-fine}
+use Rattle.commitment.proofs.Opening.{open-fine}
+use Rattle.party.proofs.Causes.{fit-of, broken-stage, state-fine, root-fine, bit-fine, inbox-fine}
 use Rattle.party.proofs.Outcomes.{open-given, root-given}
 use Rattle.party.proofs.Taking.{Short, short-recovered}
 use Rattle.party.proofs.Checks.{took, passing}

@@ -19,12 +19,14 @@ use Rattle.packet.specs.Format.{packetOf, entryOf}
 use Rattle.packet.specs.Inbox.{inboxOf}
 use Rattle.packet.proofs.Parts.{entry-length, packet-length}
 use Rattle.packet.proofs.Reading.{fields-of, read-wide}
+use Rattle.commitment.specs.Rooms.{maxPacket, maxOutbox}
+use Rattle.commitment.specs.Private.{Coded}
+use Rattle.commitment.proofs.Shared.{shares-bound}
+use Rattle.commitment.proofs.Messages.{share-fits, pathTo, path-count, path-each}
 use Rattle.party.specs.State.{atBit, atFirst, happy}
 use Rattle.party.specs.Steps.{packetFor, outboxOf, Taken, missing, found, takenBy, packetTaken, ownRelay, relayOf}
-use Rattle.party.proofs.Shared.{shares-bound}
-use Rattle.party.proofs.Messages.{Coded, share-fits, pathTo, path-count, path-each, packet-bit, packet-first}
+use Rattle.party.proofs.Packets.{packet-bit, packet-first}
 use Rattle.party.proofs.Checks.{took, passing}
-use Rattle.party.specs.Rooms.{maxPacket, maxOutbox}
 
 -- entries of at most K bytes each
 inbox-below : (K : ℕ) (ps : List (List ℕ)) → ((k : ℕ) → k < length ps → length (getD ps k []) ≤ K) → length (inboxOf ps) ≤ length ps * (2 + K)
@@ -83,7 +85,7 @@ module _ (H : List ℕ → List ℕ) (wide : (s : List ℕ) → length (H s) ≡
       each : (k : ℕ) → k < n → (b : Bool) → length (cond b [] (packetFor H (atBit n t i m z) (k + 1))) ≤ most
       each k l true = omega arith
       each k l false =
-          subst (λ (w : List ℕ). length w ≤ most) (sym (packet-bit H n t i m z wide c (k + 1) (omega arith) (omega arith)))
+          subst (λ (w : List ℕ). length w ≤ most) (sym (packet-bit H n t i m z (k + 1)))
           (made-length (k + 1) (omega arith) (omega arith))
 
       all : (ps : List (List ℕ)) → length ps ≡ n → ((k : ℕ) → k < n → length (getD ps k []) ≤ most) → length (inboxOf ps) ≤ maxOutbox
@@ -106,7 +108,7 @@ module _ (H : List ℕ → List ℕ) (wide : (s : List ℕ) → length (H s) ≡
       alone : (b : Bool) → length (cond b [] (packetFor H (atFirst n t i m z) i)) ≤ maxPacket
       alone true = omega arith
       alone false =
-          subst (λ (w : List ℕ). length w ≤ maxPacket) (sym (packet-first H n t i m z wide c i first last)) (made-short i first last)
+          subst (λ (w : List ℕ). length w ≤ maxPacket) (sym (packet-first H n t i m z i)) (made-short i first last)
 
       go : (b : Bool) (k : Taken) → takenBy H (atFirst n t i m z) inbox ≡ k
           → length (cond b (ownRelay H (atFirst n t i m z)) (packetTaken (atFirst n t i m z) (takenBy H (atFirst n t i m z) inbox))) ≤ maxPacket

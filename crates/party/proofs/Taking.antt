@@ -37,7 +37,7 @@ use Rattle.party.specs.Steps.{Taken, missing, found, firstValid, gathere
 use Rattle.party.specs.Private.{Fit, TakenIs}
 use Rattle.party.specs.declared.Party.{Party}
 use Rattle.party.specs.declared.Placed.the-variants.{Nowhere, At}
-use Rattle.party.proofs.Outcomes.{not-done}
+use Rattle.commitment.proofs.Answers.{not-done}
 use Rattle.party.proofs.Checks.{took, passing, gathered-length}
 
 -- nothing was taken

@@ -19,7 +19,7 @@ use Rattle.packet.proofs.Packet.{the-type as packet-type}
 use Rattle.packet.proofs.Path.{length-hashes}
 use Rattle.party.specs.Private.{Lies, ClassIs}
 use Rattle.party.specs.declared.Placed.the-variants.{Nowhere, At}
-use Rattle.party.proofs.Parts.{part-part, hashes-part}
+use Rattle.packet.proofs.Slices.{part-part, hashes-part}
 
 -- a share and its path in k bytes of a list, by their place in the list
 pub lies-part : (s : List ℕ) (at k from len c : ℕ) → 1 ≤ len → len ≤ maxShare → c ≤ maxPath → from ≡ 4

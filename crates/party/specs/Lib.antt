@@ -1,6 +1,5 @@
 pub mod State
 pub mod Steps
 pub mod Private
-pub mod Rooms
 pub mod Strings
 pub mod Cases

@@ -1,13 +1,12 @@
--- What the private functions suppose and give. The hash of the tree is a parameter H. No public contract cites this file. Assumes nothing.
+-- What the private functions suppose and give. No public contract cites this file. Assumes nothing.
 use mathlib.Core.Path.{_≡_}
-use mathlib.Core.Bool.{cond}
-use mathlib.Core.List.{List, [], _++_}
-use Prim.Native.Nat.{ℕ, zero, suc, _+_, _-_, _*_, _≤_}
-use lib.Dec.{eqb}
+use mathlib.Core.List.{List}
+use Prim.Native.Nat.{ℕ, _+_, _*_, _≤_}
 use lib.ListN.{length, take, drop}
 use Rattle.limits.specs.Limits.{maxParties, maxMessage, maxShare, maxPath}
-use Rattle.merkle.specs.Shares.{sidesOf, pathOf}
-use Rattle.packet.specs.Format.{hashes, packetOf, entryOf}
+use Rattle.buffer.specs.declared.Written.{Written}
+use Rattle.buffer.specs.declared.Written.the-variants.{Refused, Short, Done}
+use Rattle.packet.specs.Format.{hashes}
 use Rattle.packet.specs.Class.{Class, silent, faulty, valid}
 use Rattle.party.specs.Steps.{Taken, missing, found}
 use Rattle.party.specs.declared.Party.{Party}
@@ -48,22 +47,8 @@ TakenIs Nowhere (found share path) s = ⊥
 TakenIs (At from len count) missing s = ⊥
 TakenIs (At from len count) (found share path) s = Lies s share path from len count
 
-module _ (H : List ℕ → List ℕ) where
-  -- of shares of s bytes that lie one behind the other, the entry for party j: its share with its path, but no bytes for the own number
-  unfoldable pub entryFor : ℕ → ℕ → ℕ → List ℕ → List (List ℕ) → ℕ → List ℕ
-  entryFor n own s shares leaves j =
-      entryOf
-      (cond (eqb j own) [] (packetOf j (take s (drop ((j - 1) * s) shares)) (take (length (sidesOf n j)) (pathOf H n j leaves))))
-
-  -- the entries for parties 1 to k, one behind the other
-  unfoldable pub outboxUpTo : ℕ → ℕ → ℕ → ℕ → List ℕ → List (List ℕ) → List ℕ
-  outboxUpTo zero n own s shares leaves = []
-  outboxUpTo (suc k) n own s shares leaves = outboxUpTo k n own s shares leaves ++ entryFor n own s shares leaves (suc k)
-
--- how long they are
-unfoldable pub entryLength : ℕ → ℕ → ℕ → ℕ → ℕ
-entryLength n own s j = cond (eqb j own) 2 (2 + 4 + s + 32 * length (sidesOf n j))
-
-unfoldable pub outboxLength : ℕ → ℕ → ℕ → ℕ → ℕ
-outboxLength zero n own s = 0
-outboxLength (suc k) n own s = outboxLength k n own s + entryLength n own s (suc k)
+-- the next state where bytes were written, else the state as it was
+abbrev pub after : Party → Party → Written → Party
+after x next (Refused k) = x
+after x next (Short k) = x
+after x next (Done k) = next

@@ -7,8 +7,8 @@ use Prim.Native.Nat.{ℕ, _-_}
 use lib.Dec.{ltb, eqb}
 use lib.ListN.{length, take, replicate}
 use Rattle.limits.specs.Limits.{maxMessage, maxShare, numbered, groupCause}
-use Rattle.erasure.specs.Coding.{shares}
-use Rattle.merkle.specs.Shares.{blank, leavesOf, rootOf, same}
+use Rattle.merkle.specs.Shares.{blank, same}
+unfoldable pub use Rattle.commitment.specs.Commitment.{messageRoot}
 use Rattle.party.specs.declared.Outcome.{Outcome}
 use Rattle.party.specs.declared.Outcome.the-variants.{Nothing, Message}
 use Rattle.party.specs.declared.Stage.{Stage}
@@ -129,10 +129,6 @@ broken x =
     || overlong (x .stage)
 
 module _ (H : List ℕ → List ℕ) where
-  -- the root of a message's shares
-  unfoldable pub messageRoot : ℕ → ℕ → List ℕ → List ℕ
-  messageRoot n t m = rootOf H n (leavesOf H n (shares n (n - t) m))
-
   -- a party is happy if the agreed root is that of its own message: worked out, never stored
   unfoldable pub happy : Party → Bool
-  happy x = same (messageRoot (x .n) (x .t) (messageIn x)) (x .root)
+  happy x = same (messageRoot H (x .n) (x .t) (messageIn x)) (x .root)

@@ -7,19 +7,19 @@ use mathlib.Core.Option.{Option, none, some}
 use Prim.Native.Nat.{ℕ, _+_, _-_}
 use lib.Dec.{ltb, eqb}
 use lib.ListN.{length, take, replicate}
-use Rattle.limits.specs.Limits.{maxMessage, numbered, groupCause}
 use Rattle.buffer.specs.Splice.{spliced, tabulate}
 use Rattle.buffer.specs.Entries.{fills, bodies}
 use Rattle.buffer.specs.declared.Written.{Written}
 use Rattle.buffer.specs.Given.{causeOf, valueOf}
 use Rattle.buffer.specs.declared.Written.the-variants as written
-use Rattle.erasure.specs.Coding.{share, shares}
 use Rattle.erasure.specs.Rebuild.{Recovered, present, recovered}
 use Rattle.erasure.specs.Rebuild as rebuild
-use Rattle.merkle.specs.Shares.{blank, sidesOf, leavesOf, pathOf}
+use Rattle.merkle.specs.Shares.{blank}
 use Rattle.packet.specs.Format.{packetOf}
 use Rattle.packet.specs.Inbox.{inboxOf}
 use Rattle.packet.specs.Class.{Class, silent, faulty, valid, classOf}
+use Rattle.commitment.specs.Commitment.{packetWith}
+unfoldable pub use Rattle.commitment.specs.Commitment.{openCause}
 use Rattle.party.specs.State.{Result, nothing, settled, messageIn, shareHeld, atRoot, atBit, atFirst, atSecond, atEnd, blankState, broken, messageRoot, happy}
 use Rattle.party.specs.declared.Stage.{Stage}
 use Rattle.party.specs.declared.Stage.the-variants as stage
@@ -45,12 +45,8 @@ turnOf (stage.Ended r) = 0
 unfoldable pub stateCause : ℕ → Party → ℕ
 stateCause turn x = cond (broken x) 5 (cond (not (eqb (turnOf (x .stage)) turn)) 6 0)
 
--- step 1, the opening: causes 1, 2, 3, 4; the root of the message's shares goes to the short agreement
-unfoldable pub openCause : ℕ → ℕ → ℕ → ℕ → ℕ
-openCause n t own len =
-    cond (not (eqb (groupCause n t) 0)) (groupCause n t) (cond (not (numbered n own)) 3 (cond (ltb maxMessage len) 4 0))
-
--- the answer and the root; a refused opening gives a blank state, which every step refuses, and no root
+-- step 1, the opening: causes 1, 2, 3, 4; the root of the message's shares goes to the short agreement. A refused
+-- opening gives a blank state, which every step refuses, and no root
 module _ (H : List ℕ → List ℕ) where
   unfoldable pub openOf : ℕ → ℕ → ℕ → List ℕ → Opened
   openOf n t own m =
@@ -115,14 +111,10 @@ writes x next bs out =
     cond (ltb (length out) (length bs)) (gives x (written.Short (length bs)) out)
     (gives next (written.Done (length bs)) (spliced out 0 bs))
 
--- a party's leaf hashes, and the packet with share j of its message
+-- the packet with share j of a party's message
 module _ (H : List ℕ → List ℕ) where
-  abbrev pub leavesIn : Party → List (List ℕ)
-  leavesIn x = leavesOf H (x .n) (shares (x .n) (x .n - x .t) (messageIn x))
-
   unfoldable pub packetFor : Party → ℕ → List ℕ
-  packetFor x j =
-      packetOf j (share (x .n - x .t) j (messageIn x)) (take (length (sidesOf (x .n) j)) (pathOf H (x .n) j (leavesIn x)))
+  packetFor x j = packetWith H (x .n) (x .t) (messageIn x) j
 
 -- step 3, the agreed bit: causes 5, 6, 7, 9. On 0 the party ends with nothing. On 1 a happy one writes for each other party j a packet
 -- with share j and its path; all else writes n lengths of zero

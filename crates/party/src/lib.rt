@@ -1,29 +1,28 @@
 // One party of a session (document 01: a box): its state, its opening, and the four steps that follow.
 ghost use mathlib.Core.Path.{_≡_};
-ghost use mathlib.Core.Bool.{true};
-ghost use mathlib.Core.List.{[]};
+ghost use mathlib.Core.Bool.{true, false};
 ghost use Prim.Native.Nat.{_+_, _-_, _*_, _≤_, _<_};
 ghost use lib.ListN.{length, take, drop, replicate};
 ghost use Rattle.sha256.specs.Sha256.{sha256};
 ghost use Rattle.limits.specs.Limits.{maxParties, maxMessage, maxShare};
 ghost use Rattle.buffer.specs.Splice.{spliced};
 ghost use Rattle.buffer.specs.Entries.{fills, bodies};
-ghost use Rattle.erasure.specs.Coding.{shareLength, shares};
 ghost use Rattle.merkle.specs.Shares.{blank};
 ghost use Rattle.packet.specs.Format.{entryOf};
 ghost use Rattle.packet.specs.Inbox.{inboxOf};
 ghost use Rattle.packet.specs.Class.{classOf};
-ghost use Rattle.party.specs.State.{padded, messageIn, settled, atFirst, atSecond, blankState, overlong, broken, happy};
-ghost use Rattle.party.specs.Steps.{turnOf, stateCause, openCause, inboxCause, leavesIn, outboxOf, firstValid, ownRelay, gathered};
+ghost use Rattle.commitment.specs.Commitment.{mailWith};
+ghost use Rattle.party.specs.State.{padded, messageIn, settled, blankState, overlong, broken, happy};
+ghost use Rattle.party.specs.Steps.{turnOf, stateCause, inboxCause, firstValid, gathered};
 ghost use Rattle.party.specs.Steps.{voted, stepped, writes, ended, ending, openOf, agreeRootOf, agreeBitOf, takeSharesOf, takeRelaysOf};
-ghost use Rattle.party.specs.Private.{Fit, ClassIs, TakenIs, entryFor, entryLength, outboxUpTo, outboxLength};
+ghost use Rattle.party.specs.Private.{Fit, ClassIs, TakenIs, after};
 use buffer::Written;
+use commitment::Rooted;
+use commitment::Sent;
 use limits::MAX_MESSAGE;
 use limits::MAX_PARTIES;
-use limits::MAX_PATH;
 use limits::MAX_SHARE;
 use merkle::Checked;
-use merkle::Counted;
 use merkle::Hash;
 use packet::Packet;
 
@@ -92,23 +91,13 @@ pub struct Ended {
     pub answer: Settled,
 }
 
-// The greatest length of all shares of a message together: n is less than 2·b, and b·s less than the message with its length and b.
-const MAX_SHARES: usize = 2 * (MAX_SHARE + MAX_PARTIES);
-
-// The greatest length of a packet that a party writes, and of its outbox: each entry has, beside its share, its length, map, number, share length
-// and path.
-pub const MAX_PACKET: usize = 4 + MAX_SHARE + 32 * MAX_PATH;
-
-pub const MAX_OUTBOX: usize = MAX_SHARES + MAX_PARTIES * (6 + 32 * MAX_PATH);
-
 // The greatest length of n entries with a share each.
 const MAX_ENTRIES: usize = MAX_PARTIES * (MAX_SHARE + 2);
 
-// A message's shares, one behind the other, and the length of each.
-struct Coded {
-    bytes: [u8; MAX_SHARES],
-    size: usize,
-    len: usize,
+// What came of sending: whether the party is happy, and the step that it then takes.
+struct Tried {
+    happy: bool,
+    step: Step,
 }
 
 impl Party {
@@ -121,12 +110,12 @@ impl Party {
     pub fn open(n: usize, t: usize, own: usize, message: &[u8]) -> Opened
         ensures { λ r. ⌜ r ≡ openOf sha256 n t own (now (message .entry)) ⌝ }
     {
-        let cause = open_cause(n, t, own, message.len());
+        let Rooted { cause, root } = commitment::root(n, t, own, message);
         if cause != 0 {
             return Opened {
                 state: blank(),
                 cause,
-                root: [0; 32],
+                root,
             };
         }
         let mut held = [0u8; MAX_MESSAGE];
@@ -142,11 +131,10 @@ impl Party {
             share: [0; MAX_SHARE],
             held: 0,
         };
-        let leaves = state.leaves();
         Opened {
             state,
-            cause: 0,
-            root: merkle::root(n, &leaves),
+            cause,
+            root,
         }
     }
 
@@ -191,11 +179,12 @@ impl Party {
             let next = self.ended(Outcome::Nothing, [0; MAX_MESSAGE]);
             return self.silent(next, out);
         }
-        if self.happy() {
-            return self.send(out);
-        }
         let root = self.root;
         let next = self.waiting(Stage::First, root, [0; MAX_SHARE], 0);
+        let Tried { happy, step } = self.send(false, next, out);
+        if happy {
+            return step;
+        }
         self.silent(next, out)
     }
 
@@ -207,15 +196,17 @@ impl Party {
         if cause != 0 {
             return self.refused(cause);
         }
-        if self.happy() {
-            return self.relay_own(out);
-        }
         let n = self.n;
         let own = self.own;
         let root = self.root;
+        let next = self.waiting(Stage::Second, root, [0; MAX_SHARE], 0);
+        let Tried { happy, step } = self.send(true, next, out);
+        if happy {
+            return step;
+        }
         let Placed::At(from, len, count) = first_valid(n, own, &root, inbox) else {
             return Step {
-                state: self.waiting(Stage::Second, root, [0; MAX_SHARE], 0),
+                state: next,
                 answer: Written::Done(0),
             };
         };
@@ -279,41 +270,35 @@ impl Party {
         8
     }
 
-    // The relay of a happy party: its own share, but none where it is alone.
-    fn relay_own(self, out: &mut [u8]) -> Step
+    // What a happy party sends, its relay or else its outbox, and the next state if it was written; nothing is touched if the party is not happy.
+    fn send(self, relays: bool, next: Party, out: &mut [u8]) -> Tried
         requires { ⌜ Fit self ⌝ }
-        ensures { λ r. ⌜ stepped r (now (out .exit)) ≡ writes self (atSecond (self .n) (self .t) (self .own) (messageIn self) (self .root) []) (ownRelay sha256 self) (now (out .entry)) ⌝ }
+        ensures { λ r. ⌜ (r .happy ≡ happy sha256 self)
+            × (r .happy ≡ true → stepped (r .step) (now (out .exit)) ≡ writes self next (mailWith sha256 relays (self .n) (self .t) (self .own) (messageIn self)) (now (out .entry)))
+            × (r .happy ≡ false → now (out .exit) ≡ now (out .entry)) ⌝ }
     {
-        let n = self.n;
-        let own = self.own;
         let root = self.root;
-        let next = self.waiting(Stage::Second, root, [0; MAX_SHARE], 0);
-        if n == 1 {
-            return Step {
-                state: next,
-                answer: Written::Done(0),
-            };
-        }
-        let coded = self.coded();
-        let len = coded.len;
-        let bytes = coded.bytes;
-        let from = (own - 1) * len;
-        let end = from + len;
-        let Counted::Hashes(count) = merkle::path_length(n, own) else {
-            return self.refused(5);
-        };
-        let leaves = self.leaves();
-        let path = merkle::path(n, own, &leaves);
-        let answer = packet::write(n, own, &bytes[from..end], path, count, out);
-        let Written::Done(_) = answer else {
-            return Step {
-                state: self,
+        let len = self.len;
+        let message = self.message;
+        let Sent { happy, answer } =
+            commitment::send(relays, self.n, self.t, self.own, &message[..len], &root, out);
+        Tried {
+            happy,
+            step: Step {
+                state: self.after(next, answer),
                 answer,
-            };
-        };
-        Step {
-            state: next,
-            answer,
+            },
+        }
+    }
+
+    // The next state where bytes were written, else this one.
+    fn after(self, next: Party, answer: Written) -> Party
+        ensures { λ r. ⌜ r ≡ after self next answer ⌝ }
+    {
+        match answer {
+            Written::Refused(_) => self,
+            Written::Short(_) => self,
+            Written::Done(_) => next,
         }
     }
 
@@ -451,47 +436,15 @@ impl Party {
         }
     }
 
-    // The shares of the message that the state holds.
-    fn coded(self) -> Coded
-        requires { ⌜ Fit self ⌝ }
-        ensures { λ r. ⌜ (r .size ≤ 2 * (maxShare + maxParties)) × (take (r .size) (r .bytes) ≡ shares (self .n) (self .n - self .t) (messageIn self)) × (r .len ≡ shareLength (self .n - self .t) (self .len)) × (r .size ≡ self .n * r .len) ⌝ }
-    {
-        let mut bytes = [0u8; MAX_SHARES];
-        let len = self.len;
-        let message = self.message;
-        let n = self.n;
-        let Written::Done(size) = erasure::encode(n, self.t, &message[..len], &mut bytes) else {
-            return Coded {
-                bytes: [0; MAX_SHARES],
-                size: 0,
-                len: 0,
-            };
-        };
-        Coded {
-            bytes,
-            size,
-            len: size / n,
-        }
-    }
-
-    fn leaves(self) -> [Hash; MAX_PARTIES]
-        requires { ⌜ Fit self ⌝ }
-        ensures { λ r. ⌜ r ≡ leavesIn sha256 self ⌝ }
-    {
-        let coded = self.coded();
-        let size = coded.size;
-        let bytes = coded.bytes;
-        merkle::leaves(self.n, &bytes[..size])
-    }
-
     // Whether the agreed root is that of the party's own message.
     fn happy(self) -> bool
         requires { ⌜ Fit self ⌝ }
         ensures { λ r. ⌜ r ≡ happy sha256 self ⌝ }
     {
-        let leaves = self.leaves();
-        let own = merkle::root(self.n, &leaves);
+        let len = self.len;
+        let message = self.message;
         let agreed = self.root;
+        let own = commitment::root(self.n, self.t, self.own, &message[..len]).root;
         check::same(&own, &agreed)
     }
 
@@ -510,33 +463,6 @@ impl Party {
         write_silence(out, need);
         Step {
             state: next,
-            answer: Written::Done(need),
-        }
-    }
-
-    // The outbox of a happy party on bit 1.
-    fn send(self, out: &mut [u8]) -> Step
-        requires { ⌜ Fit self × (happy sha256 self ≡ true) ⌝ }
-        ensures { λ r. ⌜ stepped r (now (out .exit)) ≡ writes self (atFirst (self .n) (self .t) (self .own) (messageIn self) (self .root)) (outboxOf sha256 self 1) (now (out .entry)) ⌝ }
-    {
-        let n = self.n;
-        let own = self.own;
-        let root = self.root;
-        let coded = self.coded();
-        let len = coded.len;
-        let size = coded.size;
-        let bytes = coded.bytes;
-        let need = outbox_len(n, own, len);
-        if out.len() < need {
-            return Step {
-                state: self,
-                answer: Written::Short(need),
-            };
-        }
-        let leaves = self.leaves();
-        write_outbox(n, own, len, &bytes[..size], &leaves, out);
-        Step {
-            state: self.waiting(Stage::First, root, [0; MAX_SHARE], 0),
             answer: Written::Done(need),
         }
     }
@@ -608,22 +534,6 @@ fn put_entry(entries: &mut [u8], at: usize, share: &[u8]) -> usize
     at + 2 + len
 }
 
-fn open_cause(n: usize, t: usize, own: usize, len: usize) -> u8
-    ensures { λ r. ⌜ r ≡ openCause n t own len ⌝ }
-{
-    let cause = limits::group_cause(n, t);
-    if cause != 0 {
-        return cause;
-    }
-    if !limits::numbered(n, own) {
-        return 3;
-    }
-    if MAX_MESSAGE < len {
-        return 4;
-    }
-    0
-}
-
 fn blank() -> Party
     ensures { λ r. ⌜ r ≡ blankState ⌝ }
 {
@@ -674,85 +584,4 @@ fn write_silence(out: &mut [u8], len: usize)
         out[i] = 0;
         i += 1;
     }
-}
-
-// The length of the outbox with packets for all parties but one.
-fn outbox_len(n: usize, own: usize, share: usize) -> usize
-    requires { ⌜ (1 ≤ n) × (n ≤ maxParties) × (share ≤ maxShare) ⌝ }
-    ensures { λ r. ⌜ r ≡ outboxLength n n own share ⌝ }
-{
-    let mut len: usize = 0;
-    let mut j: usize = 0;
-    while j < n {
-        j += 1;
-        len += entry_len(n, own, j, share);
-    }
-    len
-}
-
-fn entry_len(n: usize, own: usize, j: usize, share: usize) -> usize
-    requires { ⌜ (1 ≤ n) × (n ≤ maxParties) × (1 ≤ j) × (j ≤ n) × (share ≤ maxShare) ⌝ }
-    ensures { λ r. ⌜ r ≡ entryLength n own share j ⌝ }
-{
-    if j == own {
-        return 2;
-    }
-    let Counted::Hashes(count) = merkle::path_length(n, j) else {
-        return 2;
-    };
-    2 + 4 + share + 32 * count
-}
-
-// The outbox with packets for all parties but one, each with its share of `len` bytes and the path of that share.
-fn write_outbox(
-    n: usize,
-    own: usize,
-    len: usize,
-    shares: &[u8],
-    leaves: &[Hash; MAX_PARTIES],
-    out: &mut [u8],
-)
-    requires { ⌜ (1 ≤ n) × (n ≤ maxParties) × (1 ≤ len) × (len ≤ maxShare) × (n * len ≤ length (now shares))
-        × (length (outboxUpTo sha256 n n own len (now shares) (now leaves)) ≤ length (now out)) ⌝ }
-    ensures { λ _. ⌜ now (out .exit) ≡ spliced (now (out .entry)) 0 (outboxUpTo sha256 n n own len (now (shares .entry)) (now (leaves .entry))) ⌝ }
-{
-    let mut at: usize = 0;
-    let mut j: usize = 0;
-    while j < n {
-        j += 1;
-        at = write_entry(n, own, j, len, shares, leaves, out, at);
-    }
-}
-
-// The entry for party j; the place behind it.
-fn write_entry(
-    n: usize,
-    own: usize,
-    j: usize,
-    len: usize,
-    shares: &[u8],
-    leaves: &[Hash; MAX_PARTIES],
-    out: &mut [u8],
-    at: usize,
-) -> usize
-    requires { ⌜ (1 ≤ n) × (n ≤ maxParties) × (1 ≤ j) × (j ≤ n) × (1 ≤ len) × (len ≤ maxShare) × (n * len ≤ length (now shares))
-        × (at + length (entryFor sha256 n own len (now shares) (now leaves) j) ≤ length (now out)) ⌝ }
-    ensures { λ r. ⌜ (r ≡ at + length (entryFor sha256 n own len (now (shares .entry)) (now (leaves .entry)) j))
-        × (now (out .exit) ≡ spliced (now (out .entry)) at (entryFor sha256 n own len (now (shares .entry)) (now (leaves .entry)) j)) ⌝ }
-{
-    if j == own {
-        buffer::put(out, at, &[0, 0]);
-        return at + 2;
-    }
-    let Counted::Hashes(count) = merkle::path_length(n, j) else {
-        return at;
-    };
-    let path = merkle::path(n, j, leaves);
-    let from = (j - 1) * len;
-    let end = from + len;
-    let share = &shares[from..end];
-    let Written::Done(size) = packet::write_entry(n, j, share, path, count, &mut out[at..]) else {
-        return at;
-    };
-    at + size
 }

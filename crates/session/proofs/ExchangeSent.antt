@@ -19,7 +19,7 @@ use Rattle.buffer.proofs.Written.{the-type as written-type}
 use Rattle.buffer.proofs.Given.{written-done}
 use Rattle.party.specs.Steps.{Stepped, writes, refused, bitCause, outboxOf, agreeBitOf, inboxCause, relayOf, takeSharesOf}
 use Rattle.party.specs.declared.Party.{Party}
-use Rattle.party.proofs.Outcomes.{not-done}
+use Rattle.commitment.proofs.Answers.{not-done}
 use Rattle.agreement.specs.Calls.{entry}
 use Rattle.plan.specs.Layout.{packetFrom, nIn, goodIn, firstIn, secondIn}
 use Rattle.plan.specs.Plan.{bookOf, packetOf}

@@ -35,7 +35,8 @@ use Rattle.party.specs.declared.Opened.{Opened}
 use Rattle.party.specs.declared.Vote.the-variants.{Happy}
 use Rattle.party.proofs.Ways.{Way, on, off, way}
 use Rattle.party.proofs.Kept.{message-root, message-bit, message-first}
-use Rattle.party.proofs.Messages.{Coded, fine}
+use Rattle.commitment.specs.Private.{Coded}
+use Rattle.commitment.proofs.Messages.{fine}
 use Rattle.party.proofs.Causes.{state-fine, root-fine}
 use Rattle.party.proofs.Outcomes.{open-given, open-refused, root-given, root-refused}
 use Rattle.party.proofs.Progress.{open-accepted, bit-accepted, shares-accepted, relays-accepted}

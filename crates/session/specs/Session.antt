@@ -16,7 +16,7 @@ use Rattle.packet.specs.Inbox.{inboxOf}
 use Rattle.party.specs.State.{Result, nothing, settled}
 use Rattle.party.specs.Steps.{openOf, Ballot, agreeRootOf, Stepped, agreeBitOf, takeSharesOf, Ending, takeRelaysOf}
 use Rattle.party.specs.declared.Opened.{Opened}
-pub use Rattle.party.specs.Rooms.{maxPacket, maxOutbox}
+pub use Rattle.commitment.specs.Rooms.{maxPacket, maxOutbox}
 use Rattle.agreement.specs.Calls.{Call, agreeRoot, agreeBit, takeShares, takeRelays, entry, lengths}
 use Rattle.agreement.specs.Agreement.{Good}
 use Rattle.plan.specs.Layout.{names, under, packetFrom, unnamed, lowest, nIn, tIn, hasRoot, hasBit, rootIn, bitIn, goodIn, booksIn, firstIn, secondIn}

@@ -20,12 +20,12 @@ ghost use Rattle.session.specs.Session.{sameRoots, sameBits, unlawful, s
 ghost use Rattle.session.specs.Session.{step5, endsWith, sentOf, linesFrom, sentFrom, output, rehearseOf, printOf};
 ghost use Rattle.session.specs.Private.{Ready, maxEntry, maxInbox, maxLine, maxText, Slots, Dealt, Relayed, Sizes, lengthIn};
 use buffer::Written;
+use commitment::MAX_OUTBOX;
+use commitment::MAX_PACKET;
 use limits::MAX_MESSAGE;
 use limits::MAX_PARTIES;
 use merkle::Hash;
 use party::Ended;
-use party::MAX_OUTBOX;
-use party::MAX_PACKET;
 use party::Opened;
 use party::Party;
 use party::Settled;

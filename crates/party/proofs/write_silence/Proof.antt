@@ -7,7 +7,7 @@ use borrow.Author.Needs.{needs}
 use lib.ListN.{length, replicate, set, length-set}
 use Rattle.buffer.specs.Splice.{spliced}
 use Rattle.buffer.proofs.Splice.{spliced-none}
-use Rattle.party.proofs.Outbox.{silence-more}
+use Rattle.party.proofs.Silence.{silence-more}
 use Rattle.party.proofs.write_silence.Statement.{statement}
 use Rattle.party.proofs.write_silence.Tie as tie
 

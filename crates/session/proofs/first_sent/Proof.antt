@@ -9,7 +9,7 @@ use lib.ListN.{length, getD, take, drop, length-take}
 use Rattle.sha256.specs.Sha256.{sha256}
 use Rattle.buffer.specs.Splice.{spliced}
 use Rattle.buffer.proofs.Splice.{spliced-none}
-use Rattle.party.proofs.Parts.{part-ends, part-rest}
+use Rattle.packet.proofs.Slices.{part-ends, part-rest}
 use Rattle.agreement.specs.Calls.{entry}
 use Rattle.plan.specs.Layout.{names, nIn, goodIn, firstIn}
 use Rattle.plan.specs.Plan.{bookOf, packetOf}

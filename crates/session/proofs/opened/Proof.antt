@@ -7,7 +7,7 @@ use lib.ListN.{length, take, drop, replicate, length-replicate, length-drop}
 use lib.Seq.{length-take-le, take-all}
 use Rattle.limits.specs.Limits.{maxMessage}
 use Rattle.buffer.specs.Given.{gave}
-use Rattle.party.proofs.Outcomes.{not-done}
+use Rattle.commitment.proofs.Answers.{not-done}
 use Rattle.plan.specs.Plan.{bookOf}
 use Rattle.session.specs.Session.{messageOf}
 use Rattle.session.proofs.Rule.{Known, known, books-room, open-is, book-done, book-room, book-bytes}

@@ -7,7 +7,7 @@ use native.Mathlib.Nat.{sub-zero}
 use native.Mathlib.Omega.{arith}
 use Rattle.merkle.specs.Shares.{same}
 use Rattle.party.specs.declared.Opened.{Opened}
-use Rattle.party.proofs.Shared.{same-is}
+use Rattle.commitment.proofs.Shared.{same-is}
 use Rattle.plan.specs.Layout.{nIn}
 use Rattle.session.specs.Session.{isGood, opened, sameRoots}
 use Rattle.session.proofs.Rule.{Known, known, good-named, roots-end, roots-bad, roots-same, roots-other, not-true, not-false}

@@ -7,8 +7,8 @@ use lib.ListN.{length, take, drop}
 use Rattle.sha256.specs.Sha256.{sha256}
 use Rattle.buffer.specs.Splice.{spliced}
 use Rattle.packet.proofs.Parts.{entry-length}
-use Rattle.party.proofs.Outbox.{tail-spliced}
-use Rattle.party.proofs.Parts.{part-rest}
+use Rattle.commitment.proofs.Outbox.{tail-spliced}
+use Rattle.packet.proofs.Slices.{part-rest}
 use Rattle.session.specs.Session.{secondFrom}
 use Rattle.session.proofs.ExchangeEntries.{entry-headed}
 use borrow.Author.Needs.{needs}

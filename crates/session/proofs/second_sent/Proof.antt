@@ -9,7 +9,7 @@ use lib.ListN.{length, getD, take, drop}
 use Rattle.sha256.specs.Sha256.{sha256}
 use Rattle.buffer.specs.Splice.{spliced, putOf}
 use Rattle.buffer.proofs.Splice.{put-fits, spliced-none}
-use Rattle.party.proofs.Parts.{length-part, part-ends, part-rest}
+use Rattle.packet.proofs.Slices.{length-part, part-ends, part-rest}
 use Rattle.plan.specs.Layout.{names, nIn, goodIn, secondIn}
 use Rattle.plan.specs.Plan.{packetOf}
 use Rattle.session.specs.Session.{maxPacket, wroteIn, isGood, step4, secondFrom}

@@ -10,7 +10,7 @@ use lib.ListN.{length, getD, take, drop, length-take}
 use Rattle.limits.specs.Limits.{maxParties}
 use Rattle.sha256.specs.Sha256.{sha256}
 use Rattle.buffer.specs.Entries.{bodies}
-use Rattle.party.proofs.Parts.{part-ends}
+use Rattle.packet.proofs.Slices.{part-ends}
 use Rattle.agreement.specs.Calls.{lengths}
 use Rattle.plan.specs.Layout.{nIn}
 use Rattle.session.specs.Session.{isGood, maxPacket, maxOutbox, wroteIn, agreedBit, step3, step4}

@@ -9,7 +9,7 @@ use borrow.Author.Tests.{lt-ltb, le-ltb}
 use lib.Dec.{eqb}
 use Rattle.merkle.specs.Shares.{same}
 use Rattle.party.specs.declared.Opened.{Opened}
-use Rattle.party.proofs.Shared.{same-is}
+use Rattle.commitment.proofs.Shared.{same-is}
 use Rattle.plan.specs.Layout.{unnamed, nIn, tIn, goodIn, hasBit}
 use Rattle.session.specs.Session.{lowestGood, opened, agreedRoot, step2, agreedBit, sameRoots, sameBits}
 use Rattle.session.proofs.Rule.{Known, known, lowest-is, unnamed-is, firstRoot, firstBit, manyBad, noBit, otherRoot, bit-beyond, bit-low, bit-none}

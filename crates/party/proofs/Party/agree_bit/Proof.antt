@@ -1,14 +1,14 @@
 -- `party::Party::agree_bit` meets its contract: each way out is an outcome of the definition. Assumes nothing.
 use mathlib.Core.Path.{_≡_, refl, sym, ap, ap₂, _∙_}
 use mathlib.Core.List.{List, []}
-use Prim.Native.Nat.{ℕ}
+use Prim.Native.Nat.{ℕ, _*_}
 use native.Mathlib.Omega.{arith}
 use borrow.Author.Needs.{needs}
-use lib.ListN.{length}
+use lib.ListN.{length, replicate}
 use Rattle.sha256.specs.Sha256.{sha256}
 use Rattle.limits.specs.Limits.{maxMessage}
 use Rattle.party.specs.State.{nothing, messageIn, atFirst}
-use Rattle.party.specs.Steps.{stepped, stateCause, refused, writes}
+use Rattle.party.specs.Steps.{stepped, stateCause, refused, writes, outboxOf, agreeBitOf}
 use Rattle.party.specs.Private.{Fit}
 use Rattle.party.specs.declared.Party.{Party}
 use Rattle.party.specs.declared.Stage.the-variants.{First}
@@ -16,7 +16,7 @@ use Rattle.party.specs.declared.Step.{Step}
 use Rattle.party.proofs.Causes.{state-fit, bit-state, bit-wrong, bit-fine}
 use Rattle.party.proofs.Outcomes.{bit-refused, bit-end, bit-first}
 use Rattle.party.proofs.Kept.{length-message, waiting-kept, ended-kept}
-use Rattle.party.proofs.Sending.{outbox-silent}
+use Rattle.party.proofs.Silence.{outbox-silent, outbox-mail}
 use Rattle.party.proofs.Party.agree_bit.Statement.{statement}
 use Rattle.party.proofs.Party.agree_bit.Tie as tie
 
@@ -83,57 +83,72 @@ returns-3 c =
     (d .ended .ensures ∙ ended-kept (x .n) (x .t) (x .own) nothing _ refl) (sym (outbox-silent sha256 x 0 refl))
     ∙ sym (bit-end sha256 x (a .bit) (a .out .now) (bit-fine x (a .bit) (fine e) (omega (arith, t .if3 .taken))) (t .if3 .taken))
 
-happy-requires : tie.Need-happy-requires
-happy-requires c κs = fit (c .before .before)
-
-send-requires : tie.Need-send-requires
-send-requires c κs =
-    let h = c .before .before in
-    (fit (h .before .before .before), sym (h .happy .ensures) ∙ c .before .if4 .taken)
-
-same-length-2 : tie.Need-same-length-2
-same-length-2 c = search needs
-
 -- a bit that is neither above 1 nor 0
 one : (c : tie.Else3) → Entry (c .before .before) .args .bit ≡ 1
 one c = omega arith
 
-returns-4 : tie.Need-returns-4
-returns-4 c =
-    let w = c .before .before in
-    let o = w .before .before .before .before in
+waiting-requires : tie.Need-waiting-requires
+waiting-requires c κs = fit (c .before .before .before) .short
+
+-- the state that waits for the first inbox
+next : (v : tie.After-waiting) → let x = Entry (v .before .before .before .before) .args .self in
+    v .waiting .result ≡ atFirst (x .n) (x .t) (x .own) (messageIn x) (x .root)
+unfolding atFirst
+next v =
+    let e = v .before .before .before .before in
+    let x = Entry e .args .self in
+    v .waiting .ensures
+    ∙ waiting-kept (x .n) (x .t) (x .own) First _ (messageIn x) _ (x .root) _ [] (x .len) 0 refl
+    (sym (length-message x (omega (arith, fit e .short, long (Entry e))))) refl refl refl
+
+send-requires : tie.Need-send-requires
+send-requires c κs = fit (c .before .before .before .before .before)
+
+same-length-2 : tie.Need-same-length-2
+same-length-2 c = search needs
+
+-- what follows on bit 1
+first : (o : tie.Else3) → let a = Entry (o .before .before) .args in
+    writes (a .self) (atFirst (a .self .n) (a .self .t) (a .self .own) (messageIn (a .self)) (a .self .root)) (outboxOf sha256 (a .self) 1)
+    (a .out .now)
+    ≡ agreeBitOf sha256 (a .self) (a .bit) (a .out .now)
+first o =
     let e = o .before .before in
     let a = Entry e .args in
-    w .send .ensures
-    ∙ sym (bit-first sha256 (a .self) (a .bit) (a .out .now) (bit-fine (a .self) (a .bit) (fine e) (omega (arith, one o))) (one o))
+    sym (bit-first sha256 (a .self) (a .bit) (a .out .now) (bit-fine (a .self) (a .bit) (fine e) (omega (arith, one o))) (one o))
 
-waiting-requires : tie.Need-waiting-requires
-waiting-requires c κs = fit (c .before .before .before .before .before) .short
+returns-4 : tie.Need-returns-4
+returns-4 c =
+    let s = c .before .before .before .before in
+    let v = s .before .before in
+    let o = v .before .before in
+    let a = Entry (o .before .before) .args in
+    let x = a .self in
+    s .send .ensures .1 (c .if4 .taken)
+    ∙ ap₂ (λ (y : Party) (bs : List ℕ). writes x y bs (a .out .now)) (next v)
+    (sym (outbox-mail sha256 x (sym (s .send .ensures .0) ∙ c .if4 .taken)))
+    ∙ first o
 
 silent-requires-2 : tie.Need-silent-requires-2
-silent-requires-2 c κs = fit (c .before .before .before .before .before .before .before) .high
+silent-requires-2 c κs = fit (c .before .before .before .before .before .before .before .before .before .before .before) .high
 
 same-length-3 : tie.Need-same-length-3
 same-length-3 c = search needs
 
 returns-5 : tie.Need-returns-5
-unfolding atFirst
 returns-5 c =
     let w = c .before .before in
-    let v = w .before .before in
-    let l = v .before .before in
-    let h = l .before in
-    let o = h .before in
-    let e = o .before .before in
-    let a = Entry e .args in
+    let l = w .before .before in
+    let s = l .before .before .before .before in
+    let v = s .before .before in
+    let o = v .before .before in
+    let a = Entry (o .before .before) .args in
     let x = a .self in
     w .silent2 .ensures
-    ∙ ap₂ (λ (y : Party) (bs : List ℕ). writes x y bs (a .out .now))
-    (v .waiting .ensures
-    ∙ waiting-kept (x .n) (x .t) (x .own) First _ (messageIn x) _ (x .root) _ [] (x .len) 0 refl
-    (sym (length-message x (omega (arith, fit e .short, long (Entry e))))) refl refl refl)
-    (sym (outbox-silent sha256 x 1 (sym (h .happy .ensures) ∙ l .if4 .left)))
-    ∙ sym (bit-first sha256 x (a .bit) (a .out .now) (bit-fine x (a .bit) (fine e) (omega (arith, one o))) (one o))
+    ∙ ap (writes x (v .waiting .result) (replicate (2 * x .n) 0)) (s .send .ensures .2 (l .if4 .left))
+    ∙ ap₂ (λ (y : Party) (bs : List ℕ). writes x y bs (a .out .now)) (next v)
+    (sym (outbox-silent sha256 x 1 (sym (s .send .ensures .0) ∙ l .if4 .left)))
+    ∙ first o
 
 pub agree-bit-spec : {M : Type 1} → statement M
 agree-bit-spec =
@@ -148,11 +163,10 @@ agree-bit-spec =
     silent-requires
     same-length
     returns-3
-    happy-requires
+    waiting-requires
     send-requires
     same-length-2
     returns-4
-    waiting-requires
     silent-requires-2
     same-length-3
     returns-5)

@@ -16,7 +16,7 @@ use Rattle.packet.specs.Format.{hashes, packetOf}
 use Rattle.packet.specs.Answer.{writeOf}
 use Rattle.packet.proofs.Path.{padded as path-padded, path-there, length-hashes}
 use Rattle.party.specs.State.{messageIn, atSecond, happy}
-use Rattle.party.specs.Steps.{inboxCause, Taken, takenBy, shareTaken, packetTaken, ownRelay, Stepped, gives, stepped, refused}
+use Rattle.party.specs.Steps.{inboxCause, Taken, takenBy, shareTaken, packetTaken, Stepped, gives, stepped, refused}
 use Rattle.party.specs.Steps.{writes, takeSharesOf}
 use Rattle.party.specs.Private.{Fit, TakenIs}
 use Rattle.party.specs.declared.Party.{Party}
@@ -26,8 +26,9 @@ use Rattle.party.specs.declared.Placed.the-variants.{Nowhere, At}
 use Rattle.party.specs.declared.Stage.the-variants.{Second}
 use Rattle.party.proofs.Causes.{state-fit, inbox-sound}
 use Rattle.party.proofs.Outcomes.{shares-refused, shares-happy, shares-taken, writes-nothing, writes-done, writes-short}
-use Rattle.party.proofs.Parts.{length-part, part-ends}
+use Rattle.packet.proofs.Slices.{length-part, part-ends}
 use Rattle.party.proofs.Kept.{put-padded, length-message, waiting-kept}
+use Rattle.party.proofs.Silence.{relay-mail}
 use Rattle.party.proofs.Taking.{passed, write-taken, taken-none, Got, got-of}
 use borrow.Author.Needs.{needs}
 use Rattle.sha256.specs.Sha256.{sha256}
@@ -69,21 +70,34 @@ root-long st = search needs
 held : (e : tie.Else1) → length (messageIn (X (Entry e))) ≡ X (Entry e) .len
 held e = length-message (X (Entry e)) (omega (arith, message-long (Entry e), fit e .short))
 
--- a happy party
-relayed : (w : tie.After-relay-own) → let st = Entry (w .before .before .before .before) in
-    stepped (w .relay-own .result) (w .relay-own .last .1 .0) ≡ writes (X st) (Next st []) (ownRelay sha256 (X st)) (Out st)
-relayed w = w .relay-own .ensures
+-- the state that waits for the second inbox without a share
+next : (v : tie.After-waiting) → v .waiting .result ≡ Next (Entry (v .before .before)) []
+unfolding atSecond
+next v =
+    let e = v .before .before in
+    let x = X (Entry e) in
+    v .waiting .ensures
+    ∙ waiting-kept (x .n) (x .t) (x .own) Second _ (messageIn x) _ (x .root) _ [] (x .len) 0 refl (sym (held e)) refl refl refl
 
 -- a party that is not happy: what is sent goes by what was taken
 abbrev E : tie.After-first-valid → tie.Else1
-E d = d .before .before .before .before .before
+E d = d .before .before .before .before .before .before .before .before .before .before
+
+-- sending, which left the buffer as it was
+abbrev Sends : tie.After-first-valid → tie.After-send
+Sends d = d .before .before .before .before .before .before
+
+abbrev Left : tie.After-first-valid → List ℕ
+Left d = Sends d .send .last .1 .1 .1 .0
+
+left : (d : tie.After-first-valid) → Left d ≡ Out (Entry (E d))
+left d = Sends d .send .ensures .2 (d .before .before .if2 .left)
 
 taking : (d : tie.After-first-valid) → let st = Entry (E d) in
     takeSharesOf sha256 (X st) (S st) (Out st) ≡ writes (X st) (Next st (shareTaken (T st))) (packetTaken (X st) (T st)) (Out st)
 taking d =
-    let u = d .before .before .before in
     let st = Entry (E d) in
-    shares-taken sha256 (X st) (S st) (Out st) (fine (E d)) (sym (u .before .happy .ensures) ∙ u .if2 .left)
+    shares-taken sha256 (X st) (S st) (Out st) (fine (E d)) (sym (Sends d .send .ensures .0) ∙ d .before .before .if2 .left)
 
 took : (d : tie.After-first-valid) (r : Placed) → d .first-valid .result ≡ r → TakenIs r (T (Entry (E d))) (S (Entry (E d)))
 took d r q = let st = Entry (E d) in subst (λ (y : Placed). TakenIs y (T st) (S st)) q (d .first-valid .ensures)
@@ -142,7 +156,12 @@ asked : (w : tie.After-write) → let k = K w in let st = Entry (E (D k)) in
     gave (w .write .result) (O w)
     ≡ writeOf (X st .n) (X st .own) (take (F k + L k - F k) (drop (F k) (S st))) (w .before .before .before .path-at .result)
     (C k) (Out st)
-asked w = w .write .ensures
+asked w =
+    let k = K w in
+    let x = X (Entry (E (D k))) in
+    w .write .ensures
+    ∙ ap (writeOf (x .n) (x .own) (take (F k + L k - F k) (drop (F k) (S (Entry (E (D k)))))) (w .before .before .before .path-at .result) (C k))
+    (left (D k))
 
 there : (w : tie.After-write) → let k = K w in w .before .before .before .path-at .result ≡ path-padded (C k) (Q k)
 there w =
@@ -178,26 +197,29 @@ returns c =
     ap (λ (r : Step). stepped r (Out st)) (c .refused .ensures)
     ∙ sym (shares-refused sha256 (X st) (S st) (Out st) (λ q. b .if1 .taken (k ∙ q)) ∙ ap (λ (i : ℕ). refused (X st) i (Out st)) (sym k))
 
-happy-requires : tie.Need-happy-requires
-happy-requires c κs = fit c
+waiting-requires : tie.Need-waiting-requires
+waiting-requires c κs = fit (c .before) .short
 
-relay-own-requires : tie.Need-relay-own-requires
-relay-own-requires c κs = fit (c .before .before .before)
+send-requires : tie.Need-send-requires
+send-requires c κs = fit (c .before .before .before)
 
 same-length : tie.Need-same-length
 same-length c = search needs
 
 returns-2 : tie.Need-returns-2
 returns-2 c =
-    let w = c .before .before in
-    let u = w .before .before in
-    let e = u .before .before in
+    let s = c .before .before .before .before in
+    let v = s .before .before in
+    let e = v .before .before in
     let st = Entry e in
-    relayed w ∙ sym (shares-happy sha256 (X st) (S st) (Out st) (fine e) (sym (u .before .happy .ensures) ∙ u .if2 .taken))
+    let x = X st in
+    s .send .ensures .1 (c .if2 .taken)
+    ∙ ap₂ (λ (y : Party) (bs : List ℕ). writes x y bs (Out st)) (next v) (sym (relay-mail sha256 x))
+    ∙ sym (shares-happy sha256 x (S st) (Out st) (fine e) (sym (s .send .ensures .0) ∙ c .if2 .taken))
 
 first-valid-requires : tie.Need-first-valid-requires
 first-valid-requires c κs =
-    let e = c .before .before .before .before in
+    let e = c .before .before .before .before .before .before .before .before .before in
     let f = fit e in
     (f .low, f .high, f .first, f .last, inbox-sound 4 (X (Entry e)) (S (Entry e)) (fine e) .1, root-long (Entry e))
 
@@ -207,22 +229,18 @@ enum-known-from c = search needs
 enum-told : tie.Need-enum-told
 enum-told c = search needs
 
-waiting-requires : tie.Need-waiting-requires
-waiting-requires c κs = fit (E (c .before .before)) .short
+same-length-2 : tie.Need-same-length-2
+same-length-2 c = search needs
 
 returns-3 : tie.Need-returns-3
-unfolding atSecond
 returns-3 c =
-    let b = c .before in
-    let d = b .before .before in
+    let d = c .before .before in
     let st = Entry (E d) in
     let x = X st in
-    ap {B = Stepped} (λ (y : Party). gives y (given.Done 0) (Out st))
-    (c .waiting .ensures
-    ∙ waiting-kept (x .n) (x .t) (x .own) Second _ (messageIn x) _ (x .root) _ [] (x .len) 0 refl (sym (held (E d))) refl refl refl)
+    ap₂ {C = Stepped} (λ (y : Party) (o : List ℕ). gives y (given.Done 0) o) (next (Sends d .before .before)) (left d)
     ∙ sym (taking d
     ∙ ap (λ (t : Taken). writes x (Next st (shareTaken t)) (packetTaken x t) (Out st))
-    (taken-none (T st) (S st) (took d Nowhere (b .enum-told .given .1)))
+    (taken-none (T st) (S st) (took d Nowhere (c .enum-told .given .1)))
     ∙ writes-nothing x (Next st []) (Out st))
 
 add-end : tie.Need-add-end
@@ -248,8 +266,8 @@ write-requires c κs = search needs
 enum-told-2 : tie.Need-enum-told-2
 enum-told-2 c = search needs
 
-same-length-2 : tie.Need-same-length-2
-same-length-2 c = search needs
+same-length-3 : tie.Need-same-length-3
+same-length-3 c = search needs
 
 returns-4 : tie.Need-returns-4
 returns-4 c =
@@ -280,8 +298,10 @@ waiting-requires-2 c κs =
     let w = c .before .before .before .before .before .before .before .before in
     fit (E (D (K w))) .short
 
-same-length-3 : tie.Need-same-length-3
-same-length-3 c = search needs
+same-length-4 : tie.Need-same-length-4
+same-length-4 c =
+    let w = c .before .before .before .before .before .before .before .before .before in
+    w .write .kept .1 .1 .1 .1 .1 .0 ∙ Sends (D (K w)) .send .kept .1 .1 .1 .0
 
 returns-5 : tie.Need-returns-5
 unfolding atSecond
@@ -308,14 +328,14 @@ take-shares-spec =
     inbox-cause-requires
     refused-requires
     returns
-    happy-requires
-    relay-own-requires
+    waiting-requires
+    send-requires
     same-length
     returns-2
     first-valid-requires
     enum-known-from
     enum-told
-    waiting-requires
+    same-length-2
     returns-3
     add-end
     path-at-requires
@@ -324,7 +344,7 @@ take-shares-spec =
     part-write-end
     write-requires
     enum-told-2
-    same-length-2
+    same-length-3
     returns-4
     slice-aggregate-put
     sub-put
@@ -332,5 +352,5 @@ take-shares-spec =
     part-put-end
     put-requires
     waiting-requires-2
-    same-length-3
+    same-length-4
     returns-5)
