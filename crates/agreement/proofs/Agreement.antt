@@ -241,13 +241,13 @@ module _ (H : List ℕ → List ℕ) (wide : (s : List ℕ) → length (H s) ≡
 
       -- the packet of M's share j passes under z
       packetM : (j : ℕ) → 1 ≤ j → j ≤ n → List ℕ
-      packetM j first last = packetWith H wide n t M codedM j first last
+      packetM j first last = packetWith H n t M j
 
       packetM-valid : (j : ℕ) (first : 1 ≤ j) (last : j ≤ n)
           → classOf H n j z (packetM j first last) ≡ valid (share (n - t) j M) (pathTo H wide n t M codedM j first last)
       unfolding packetM
       packetM-valid j first last =
-          subst (λ (y : List ℕ). classOf H n j y (packetWith H wide n t M codedM j first last)
+          subst (λ (y : List ℕ). classOf H n j y (packetWith H n t M j)
           ≡ valid (share (n - t) j M) (pathTo H wide n t M codedM j first last)) root-M
           (own-valid H wide n t M codedM j first last)
 
@@ -286,7 +286,7 @@ module _ (H : List ℕ → List ℕ) (wide : (s : List ℕ) → length (H s) ≡
             ∙ getD-tabulate n (packets H n t (A .own) M z) k [] (omega (arith, first-B, last-B))
             ∙ ap (λ (j : ℕ). cond (eqb j (A .own)) [] (packetFor H X j)) e
             ∙ ap (λ (g : Bool). cond g [] (packetFor H X i)) (ne-eqb i (A .own) other)
-            ∙ packet-bit H n t (A .own) M z wide codedM i first-B last-B
+            ∙ packet-bit H n t (A .own) M z i
 
         -- so it finds a packet that passes
         found-one : (x : List ℕ) × (p : List (List ℕ)) × (firstValid H n i z 1 (bodies n in4) ≡ found x p)
@@ -346,8 +346,8 @@ module _ (H : List ℕ → List ℕ) (wide : (s : List ℕ) → length (H s) ≡
           let c = admitted C hC in
           rw (happy-first H n t (C .own) (C .message) z ∙ e, ne-eqb n 1 d)
           (subst (λ (m : List ℕ). packetFor H (atFirst n t (C .own) m z) (C .own)
-          ≡ packetWith H wide n t M codedM (C .own) (c .first) (c .last)) (sym (glad-M C hC e))
-          (packet-first H n t (C .own) M z wide codedM (C .own) (c .first) (c .last)))
+          ≡ packetWith H n t M (C .own)) (sym (glad-M C hC e))
+          (packet-first H n t (C .own) M z (C .own)))
 
       relays : (C : Good) (hC : In C) → n ≢ 1 → Relayed C (relayOf H (atFirst n t (C .own) (C .message) z) (ranOf C hC .in4))
       unfolding packetM
@@ -539,7 +539,7 @@ module _ (H : List ℕ → List ℕ) (wide : (s : List ℕ) → length (H s) ≡
           each k l true = omega arith
           each k l false =
               subst (λ (w : List ℕ). length w ≤ K)
-              (sym (packet-bit H n t (B .own) M z wide codedM (k + 1) (omega arith) (omega arith)))
+              (sym (packet-bit H n t (B .own) M z (k + 1)))
               (own-length H wide n t M codedM (k + 1) (omega arith) (omega arith))
 
           go : Way (isGlad B) → lengths (bodies n (outboxOf H (atBit n t (B .own) (B .message) z) 1)) ≤ (n - 1) * K

@@ -47,7 +47,7 @@ module _ (H : List ℕ → List ℕ) (wide : (s : List ℕ) → length (H s) ≡
     each = path-each H wide n t m c j first last
 
     abbrev made : List ℕ
-    made = packetWith H wide n t m c j first last
+    made = packetWith H n t m j
 
     pub own-reads : readOf n made ≡ shared j (share (n - t) j m) up
     own-reads =
