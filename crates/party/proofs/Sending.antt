@@ -21,7 +21,7 @@ use Rattle.party.specs.State.{happy}
 use Rattle.party.specs.Steps.{leavesIn, packetFor, outboxOf}
 use Rattle.party.specs.Private.{entryFor, outboxUpTo, entryLength, outboxLength}
 use Rattle.party.specs.declared.Party.{Party}
-use Rattle.party.proofs.Parts.{length-part}
+use Rattle.buffer.proofs.Parts.{length-part}
 use Rattle.party.proofs.Shared.{share-inside, shares-fine, sizeIn, sharesIn, own-share}
 use Rattle.party.proofs.Outbox.{length-own, length-other, entry-own, entry-other}
 

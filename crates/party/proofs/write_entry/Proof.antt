@@ -14,9 +14,9 @@ use Rattle.buffer.proofs.Splice.{put-fits}
 use Rattle.packet.specs.Answer.{writeEntryOf}
 use Rattle.packet.proofs.Reading.{count-hashes}
 use Rattle.party.specs.Private.{entryFor}
-use Rattle.party.proofs.Parts.{part-ends, part-rest}
+use Rattle.buffer.proofs.Parts.{part-ends, part-rest, tail-spliced}
 use Rattle.party.proofs.Shared.{share-inside}
-use Rattle.party.proofs.Outbox.{entry-own, never-refused, entry-done, tail-spliced}
+use Rattle.party.proofs.Outbox.{entry-own, never-refused, entry-done}
 use Rattle.party.proofs.Outcomes.{not-done}
 use Rattle.party.proofs.write_entry.Statement.{statement}
 use Rattle.party.proofs.write_entry.Tie as tie

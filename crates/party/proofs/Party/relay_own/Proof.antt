@@ -19,7 +19,8 @@ use Rattle.party.specs.State.{messageIn, atSecond}
 use Rattle.party.specs.Steps.{Stepped, gives, writes, packetFor, ownRelay}
 use Rattle.party.specs.declared.Party.{Party}
 use Rattle.party.specs.declared.Stage.the-variants.{Second}
-use Rattle.party.proofs.Parts.{part-ends, part-part}
+use Rattle.buffer.proofs.Parts.{part-ends}
+use Rattle.party.proofs.Parts.{part-part}
 use Rattle.party.proofs.Kept.{length-message, waiting-kept}
 use Rattle.party.proofs.Shared.{share-inside, sharesIn, all-shares, own-share}
 use Rattle.party.proofs.Outbox.{never-refused}
