@@ -46,9 +46,9 @@ writes-value x next bs out = go (ltb (length out) (length bs))
     go true = refl
     go false = refl
 
-written-value : (bs out : List ℕ) → written bs out .value ≡ length bs
+value-of : (bs out : List ℕ) → written bs out .value ≡ length bs
 unfolding written
-written-value bs out = go (ltb (length out) (length bs))
+value-of bs out = go (ltb (length out) (length bs))
   where
     go : (b : Bool)
         → cond b (gave (given.Short (length bs)) out) (gave (given.Done (length bs)) (spliced out 0 bs)) .value ≡ length bs
@@ -176,12 +176,12 @@ encode-small n t m out = elim (ℕ-discrete (groupCause n t) 0) [
         → cond b (gave (given.Refused 4) out) (written (shares n (n - t) m) out) .value < 2 ^ 32
     go e true q = omega arith
     go e false q =
-        omega (arith, written-value (shares n (n - t) m) out, fits e (ltb-false maxMessage (length m) q))
+        omega (arith, value-of (shares n (n - t) m) out, fits e (ltb-false maxMessage (length m) q))
 
 -- a message rebuilt
 answered-small : (r : Recovered) (out : List ℕ) → Short r → answered r out .value < 2 ^ 32
 answered-small (cause k) out h = omega arith
-answered-small (message m) out h = omega (arith, written-value m out, h)
+answered-small (message m) out h = omega (arith, value-of m out, h)
 
 pub rebuild-small : (n t : ℕ) (es out : List ℕ) → rebuildOf n t es out .value < 2 ^ 32
 unfolding rebuildOf
@@ -197,7 +197,7 @@ rebuild-small n t es out = elim (ℕ-discrete (groupCause n t) 0) [
 
 -- a digest
 pub digest-small : (d out : List ℕ) → length d ≡ 32 → written d out .value < 2 ^ 32
-digest-small d out e = omega (arith, written-value d out, e)
+digest-small d out e = omega (arith, value-of d out, e)
 
 -- so both halves are there: what the header's two helpers give
 pub cause-back : (k v : ℕ) → v < 2 ^ 32 → packed k v / 2 ^ 32 ≡ k

@@ -9,7 +9,7 @@ ghost use lib.ListN.{length, take, drop};
 ghost use Rattle.sha256.specs.Sha256.{sha256};
 ghost use Rattle.limits.specs.Limits.{maxMessage, maxShare};
 ghost use Rattle.buffer.specs.Splice.{spliced};
-ghost use Rattle.buffer.specs.Given.{causeOf, valueOf};
+ghost use Rattle.buffer.specs.Given.{causeOf};
 ghost use Rattle.party.specs.State.{blankState};
 ghost use Rattle.party.specs.Steps.{causeIn, bitIn, causeAt};
 ghost use Rattle.capi.specs.Layout.{headLength, stateLength, stageNumber, lengthFor, headOf, bytesOf, stageOf, readIn, stateOf};
@@ -99,7 +99,7 @@ pub extern "C" fn cipangohu_agree_bit(state: &mut [u8], bit: u8, out: &mut [u8])
     } = read_state(state).agree_bit(bit, out);
     let cause = written_cause(answer);
     keep(cause, next, state);
-    pack(cause, written_value(answer))
+    pack(cause, buffer::value_of(answer))
 }
 
 // Step 4: the first inbox. The relayed packet goes to out.
@@ -114,7 +114,7 @@ pub extern "C" fn cipangohu_take_shares(state: &mut [u8], inbox: &[u8], out: &mu
     } = read_state(state).take_shares(inbox, out);
     let cause = written_cause(answer);
     keep(cause, next, state);
-    pack(cause, written_value(answer))
+    pack(cause, buffer::value_of(answer))
 }
 
 // Step 5: the second inbox. The message, if there is one, goes to out.
@@ -180,7 +180,7 @@ pub extern "C" fn cipangohu_shares(n: usize, t: usize, message: &[u8], out: &mut
     ensures { λ r. ⌜ reply r (now (out .exit)) ≡ sharesCall n t (now (message .entry)) (now (out .entry)) ⌝ }
 {
     let answer = erasure::encode(n, t, message, out);
-    pack(written_cause(answer), written_value(answer))
+    pack(written_cause(answer), buffer::value_of(answer))
 }
 
 // The message again from n entries.
@@ -189,7 +189,7 @@ pub extern "C" fn cipangohu_rebuild(n: usize, t: usize, entries: &[u8], out: &mu
     ensures { λ r. ⌜ reply r (now (out .exit)) ≡ rebuildCall n t (now (entries .entry)) (now (out .entry)) ⌝ }
 {
     let answer = erasure::rebuild(n, t, entries, out);
-    pack(written_cause(answer), written_value(answer))
+    pack(written_cause(answer), buffer::value_of(answer))
 }
 
 // SHA-256 of a message.
@@ -204,7 +204,7 @@ pub extern "C" fn cipangohu_hash(message: &[u8], out: &mut [u8]) -> u64
     }
     let digest = hashed.digest;
     let answer = buffer::give(&digest, out);
-    pack(written_cause(answer), written_value(answer))
+    pack(written_cause(answer), buffer::value_of(answer))
 }
 
 // The cause in the upper half, the value in the lower.
@@ -419,16 +419,6 @@ fn written_cause(answer: Written) -> u8
         Written::Refused(cause) => cause,
         Written::Short(_) => 9,
         Written::Done(_) => 0,
-    }
-}
-
-fn written_value(answer: Written) -> usize
-    ensures { λ r. ⌜ r ≡ valueOf answer ⌝ }
-{
-    match answer {
-        Written::Refused(_) => 0,
-        Written::Short(len) => len,
-        Written::Done(len) => len,
     }
 }
 

@@ -2,16 +2,15 @@
 -- entry is told by whether its number is the own one, and the outbox by induction on k. Assumes nothing.
 use mathlib.Core.Path.{_≡_, refl, sym, ap, _∙_}
 use mathlib.Core.Bool.{true≢false}
-use mathlib.Core.List.{List, [], _∷_, _++_, append-nil}
+use mathlib.Core.List.{List, [], _∷_, _++_}
 use Prim.Native.Nat.{ℕ, zero, suc, _+_, _-_, _*_, _<_, _≤_}
 use native.Mathlib.Nat.{add-zero, zero-add}
 use native.Mathlib.Decide.{ℕ-discrete}
 use native.Mathlib.Numerals.{add-one}
 use native.Mathlib.Omega.{arith}
 use borrow.Author.Tests.{eq-eqb, ne-eqb}
-use lib.ListN.{length, take, drop, set, replicate, length-append, length-drop, length-replicate}
-use lib.ListN.{replicate-append-replicate, drop-of-length-le}
-use lib.Seq.{drop-drop}
+use lib.ListN.{length, take, drop, set, replicate, length-append, length-replicate}
+use lib.ListN.{replicate-append-replicate}
 use Rattle.limits.specs.Limits.{maxParties, maxPath, maxShare}
 use Rattle.limits.proofs.Ranges.{numbered-within}
 use Rattle.buffer.specs.Splice.{spliced}
@@ -27,18 +26,6 @@ use Rattle.packet.specs.Answer.{writeEntryOf}
 use Rattle.packet.proofs.Reading.{count-refused}
 use Rattle.packet.proofs.Writing.{cause-fine, entry-written}
 use Rattle.commitment.specs.Private.{entryWith, entryFor, outboxUpTo, entryLength, outboxLength}
-
--- bytes written at the start of what follows place `at`
-pub tail-spliced : (o bs : List ℕ) (at k : ℕ) → k ≡ length o - at
-    → take at o ++ (spliced (drop at o) 0 bs ++ drop k (drop at o)) ≡ spliced o at bs
-unfolding spliced
-tail-spliced o bs at k e =
-    let none : drop k (drop at o) ≡ [] = drop-of-length-le (drop at o) {i = k} (omega (arith, length-drop at o)) in
-    let past : drop (0 + length bs) (drop at o) ≡ drop (at + length bs) o =
-    ap (λ (m : ℕ). drop m (drop at o)) (zero-add (length bs)) ∙ drop-drop (length bs) at o in
-    ap (λ (l : List ℕ). take at o ++ ((take 0 (drop at o) ++ (bs ++ drop (0 + length bs) (drop at o))) ++ l)) none
-    ∙ ap (λ (l : List ℕ). take at o ++ l) (append-nil (bs ++ drop (0 + length bs) (drop at o)))
-    ∙ ap (λ (l : List ℕ). take at o ++ (bs ++ l)) past
 
 -- the length of an entry
 module _ (n own s j : ℕ) where

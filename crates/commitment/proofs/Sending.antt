@@ -18,7 +18,7 @@ use Rattle.packet.specs.Format.{packetOf, entryOf}
 use Rattle.packet.specs.Inbox.{inboxOf}
 use Rattle.packet.proofs.Parts.{packet-length, entry-length}
 use Rattle.packet.proofs.Inbox.{inbox-more}
-use Rattle.packet.proofs.Slices.{length-part}
+use Rattle.buffer.proofs.Parts.{length-part}
 use Rattle.commitment.specs.Commitment.{leavesFor, packetWith, packetsWith, relayWith}
 use Rattle.commitment.specs.Private.{Coded, entryWith, entryFor, relayFor, outboxUpTo, entryLength, outboxLength}
 use Rattle.commitment.proofs.Shared.{share-inside, shares-fine, share-at}

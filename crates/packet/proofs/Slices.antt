@@ -1,25 +1,11 @@
--- Parts of lists: how long one is, a part of a part, and the hashes read from one. By the laws of `take` and `drop`. Assumes nothing.
+-- Parts of lists: a part of a part, and the hashes read from one. By the laws of `take` and `drop`. Assumes nothing.
 use mathlib.Core.Path.{_≡_, refl, sym, ap, ap₂, _∙_}
 use mathlib.Core.List.{List, [], _∷_}
 use Prim.Native.Nat.{ℕ, zero, suc, _+_, _-_, _*_, _≤_}
-use native.Mathlib.Nat.{add-sub-cancel-left}
 use native.Mathlib.Omega.{arith}
-use lib.ListN.{length, take, drop, length-drop}
-use lib.Seq.{take-take, drop-drop, take-nil, drop-nil, take-all, length-take-le}
+use lib.ListN.{take, drop}
+use lib.Seq.{take-take, drop-drop, take-nil, drop-nil}
 use Rattle.packet.specs.Format.{hashes}
-
--- len bytes from a place on
-module _ (s : List ℕ) (from len : ℕ) where
-  pub length-part : from + len ≤ length s → length (take len (drop from s)) ≡ len
-  length-part h = length-take-le len (drop from s) (omega (arith, length-drop from s))
-
-  -- the same, by where they end
-  pub part-ends : take (from + len - from) (drop from s) ≡ take len (drop from s)
-  part-ends = ap (λ (k : ℕ). take k (drop from s)) (add-sub-cancel-left from len)
-
--- all that follows a place
-pub part-rest : (s : List ℕ) (from : ℕ) → take (length s - from) (drop from s) ≡ drop from s
-part-rest s from = take-all (length s - from) (drop from s) (omega (arith, length-drop from s))
 
 -- a part of a list's first bytes
 drop-take : (a m : ℕ) (s : List ℕ) → drop a (take (a + m) s) ≡ take m (drop a s)

@@ -118,3 +118,18 @@ lowest-named (suc k) p g h = go (names g p) refl h (lowest-named k (p + 1) g)
         → (names g (cond b p (lowest k (p + 1) g)) ≡ true) × (p ≤ cond b p (lowest k (p + 1) g)) × (cond b p (lowest k (p + 1) g) < p + suc k)
     go true e l r = (e, omega arith, omega arith)
     go false e l r = let w = r (omega arith) in (w .0, omega (arith, w .1), omega (arith, w .2))
+
+-- a plan that is taken is no longer than the limit
+long-cause : (a : Bool) (k : ℕ) (g b c : Bool) (r : ℕ) → eqb k 0 ≡ g → cond a 13 (cond (not g) k (cond (b || c) 13 r)) ≡ 0 → b ≡ false
+long-cause true k g b c r q e = absurd (omega arith)
+long-cause false k false b c r q e = absurd (eqb-false k 0 q e)
+long-cause false k true true c r q e = absurd (omega arith)
+long-cause false k true false c r q e = refl
+
+pub plan-length : (s : List ℕ) → planCause s ≡ 0 → length s ≤ maxPlan
+unfolding planCause
+plan-length s e =
+    let k : ℕ = groupCause (nIn s) (tIn s) in
+    ltb-false maxPlan (length s)
+    (long-cause (ltb (length s) 2) k (eqb k 0) (ltb maxPlan (length s)) (not (laidOut s))
+    (cond (longBook maxMessage (nIn s) 1 (goodIn s) (booksIn s)) 4 0) refl e)

@@ -7,7 +7,7 @@ use Prim.Native.Nat.{ℕ}
 use lib.ListN.{take, drop, replicate}
 use Rattle.limits.specs.Limits.{parties, groupCause}
 use Rattle.buffer.specs.Entries.{size, body, rest}
-use Rattle.plan.specs.Layout.{behind, under, within, behindBlock, behindBlocks, packetFrom, longBook, firstIn, secondIn, endOf, laidOut}
+use Rattle.plan.specs.Layout.{behind, under, within, behindBlock, behindBlocks, packetFrom, longBook, exchangeIn, endOf, laidOut}
 use Rattle.plan.specs.Plan.{planCause, planOf}
 
 -- n 3, t 1, parties 1 and 2 good with the same book, party 3 silent in both exchanges
@@ -17,7 +17,7 @@ worked =
 
 pub worked-read : planOf worked
     ≡ record { cause = 0; n = 3; t = 1; rooted = false; voted = false; good = 3; books = 5; first = 13; second = 15 }
-unfolding parties groupCause size rest behind behindBlock behindBlocks within longBook firstIn secondIn endOf laidOut planCause planOf
+unfolding parties groupCause size rest behind behindBlock behindBlocks within longBook exchangeIn endOf laidOut planCause planOf
 worked-read = refl
 
 pub worked-book : under 3 1 3 2 (drop 5 worked) ≡ 0x41 ∷ 0x42 ∷ []

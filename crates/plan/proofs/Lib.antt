@@ -1,6 +1,7 @@
 pub mod Maps
-pub mod Places
 pub mod Walks
+pub mod Tails
+pub mod Packets
 pub mod Blocks
 pub mod Reading
 pub mod Given

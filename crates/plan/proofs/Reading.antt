@@ -11,7 +11,7 @@ use lib.Dec.{ltb, eqb}
 use lib.ListN.{length, drop, length-drop}
 use Rattle.limits.specs.Limits.{maxMessage, maxPlan, groupCause}
 use Rattle.plan.specs.Layout.{behind, behindBlocks, longBook, andThen, nIn, tIn, optionsIn, hasRoot, hasBit, afterBit, goodIn, booksIn}
-use Rattle.plan.specs.Layout.{firstIn, secondIn, endOf, laidOut}
+use Rattle.plan.specs.Layout.{orEmpty, exchangeIn, exchangeAt, endOf, laidOut}
 use Rattle.plan.specs.Plan.{planCause, planOf}
 use Rattle.plan.specs.Private.{Head, turnedAway}
 
@@ -84,8 +84,8 @@ module _ (n good books : ℕ) (s : List ℕ) (h : Head books s) (en : n ≡ nIn 
   books-none q = rw (end-is, sym same-books ∙ q)
 
   module _ (x : List ℕ) (a : behind n 1 good (drop books s) ≡ some x) where
-    pub first-is : firstIn s ≡ x
-    unfolding firstIn
+    pub first-is : exchangeIn 0 s ≡ x
+    unfolding exchangeIn
     first-is = rw (sym same-books ∙ a)
 
     pub first-none : behindBlocks n 1 n good x ≡ none → laidOut s ≡ false
@@ -93,9 +93,9 @@ module _ (n good books : ℕ) (s : List ℕ) (h : Head books s) (en : n ≡ nIn 
     first-none q = rw (end-is, sym same-books ∙ a, sym (same-blocks x) ∙ q)
 
     module _ (y : List ℕ) (b : behindBlocks n 1 n good x ≡ some y) where
-      pub second-is : secondIn s ≡ y
-      unfolding secondIn
-      second-is = rw (first-is, sym (same-blocks x) ∙ b)
+      pub second-is : exchangeIn 1 s ≡ y
+      unfolding exchangeIn
+      second-is = ap (λ (l : List ℕ). orEmpty (behindBlocks (nIn s) 1 (nIn s) (goodIn s) l)) first-is ∙ ap orEmpty (sym (same-blocks x) ∙ b)
 
       pub second-none : behindBlocks n 1 n good y ≡ none → laidOut s ≡ false
       unfolding laidOut
@@ -142,8 +142,8 @@ module _ (s : List ℕ) where
           fine h = rw (le-ltb (length s) 2 two, group, le-ltb maxPlan (length s) fits, laid, h)
 
           pub plan-taken : longBook maxMessage (nIn s) 1 (goodIn s) (booksIn s) ≡ false → (n t good books first second : ℕ)
-              → n ≡ nIn s → t ≡ tIn s → good ≡ goodIn s → books ≡ afterBit s + 2 → first ≡ length s - length (firstIn s)
-              → second ≡ length s - length (secondIn s) → planOf s
+              → n ≡ nIn s → t ≡ tIn s → good ≡ goodIn s → books ≡ afterBit s + 2 → first ≡ exchangeAt 0 s
+              → second ≡ exchangeAt 1 s → planOf s
               ≡ record {
                 cause = 0;
                 n = n;

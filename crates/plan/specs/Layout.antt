@@ -8,7 +8,10 @@ use lib.Dec.{ltb, eqb}
 use lib.ListN.{length, getD, take, drop}
 use Rattle.buffer.specs.Entries.{size, body, rest}
 
--- a map names party p by the value two to the p - 1
+-- a map has two bytes, and names party p by the value two to the p - 1
+abbrev pub mapWidth : ℕ
+mapWidth = 2
+
 abbrev pub names : ℕ → ℕ → Bool
 names map p = eqb (map / 2 ^ (p - 1) % 2) 1
 
@@ -32,7 +35,7 @@ within (suc k) p r g = cond (names r p) (names g p) true && within k (p + 1) r g
 -- a bad party's block: a two-byte map of receivers, who are good parties up to n, and an entry for each; what stands behind it
 unfoldable pub behindBlock : ℕ → ℕ → List ℕ → Option (List ℕ)
 behindBlock n g s =
-    cond (ltb (length s) 2 || not (ltb (size s) (2 ^ n)) || not (within n 1 (size s) g)) none (behind n 1 (size s) (drop 2 s))
+    cond (ltb (length s) mapWidth || not (ltb (size s) (2 ^ n)) || not (within n 1 (size s) g)) none (behind n 1 (size s) (drop mapWidth s))
 
 abbrev pub andThen : Option (List ℕ) → (List ℕ → Option (List ℕ)) → Option (List ℕ)
 andThen none f = none
@@ -53,7 +56,7 @@ unfoldable pub packetFrom : ℕ → ℕ → ℕ → ℕ → ℕ → ℕ → List
 packetFrom zero p n g q i s = []
 packetFrom (suc k) p n g q i s =
     cond (names g p) (packetFrom k (p + 1) n g q i s)
-    (cond (eqb p q) (under n 1 (size s) i (drop 2 s)) (packetFrom k (p + 1) n g q i (orEmpty (behindBlock n g s))))
+    (cond (eqb p q) (under n 1 (size s) i (drop mapWidth s)) (packetFrom k (p + 1) n g q i (orEmpty (behindBlock n g s))))
 
 -- a book longer than the limit stands among the entries of the k parties from p on that g names
 unfoldable pub longBook : ℕ → ℕ → ℕ → ℕ → List ℕ → Bool
@@ -71,7 +74,7 @@ lowest zero p g = 0
 lowest (suc k) p g = cond (names g p) p (lowest k (p + 1) g)
 
 -- the parts of a plan s: n, t and the options; where a root, then a bit stands, if the options name them; the map of good parties; and what
--- stands from the books, from the first and from the second exchange on
+-- stands from the books on
 abbrev pub nIn : List ℕ → ℕ
 nIn s = getD s 0 0
 
@@ -103,19 +106,21 @@ abbrev pub goodIn : List ℕ → ℕ
 goodIn s = size (drop (afterBit s) s)
 
 abbrev pub booksIn : List ℕ → List ℕ
-booksIn s = drop (afterBit s + 2) s
+booksIn s = drop (afterBit s + mapWidth) s
 
-unfoldable pub firstIn : List ℕ → List ℕ
-firstIn s = orEmpty (behind (nIn s) 1 (goodIn s) (booksIn s))
+-- from exchange e on, counted from 0: the first one stands behind the books, each later one behind the blocks of the one before it
+unfoldable pub exchangeIn : ℕ → List ℕ → List ℕ
+exchangeIn zero s = orEmpty (behind (nIn s) 1 (goodIn s) (booksIn s))
+exchangeIn (suc e) s = orEmpty (behindBlocks (nIn s) 1 (nIn s) (goodIn s) (exchangeIn e s))
 
-unfoldable pub secondIn : List ℕ → List ℕ
-secondIn s = orEmpty (behindBlocks (nIn s) 1 (nIn s) (goodIn s) (firstIn s))
+abbrev pub exchangeAt : ℕ → List ℕ → ℕ
+exchangeAt e s = length s - length (exchangeIn e s)
 
 -- the plan is well laid out behind n and t: the options are known, the map of good parties names none beyond n, the entries and blocks are
 -- all there, and no byte is left over
 unfoldable pub endOf : List ℕ → Option (List ℕ)
 endOf s =
-    cond (ltb (length s) 3 || not (ltb (optionsIn s) 4) || ltb (length s) (afterBit s + 2) || not (ltb (goodIn s) (2 ^ nIn s))) none
+    cond (ltb (length s) 3 || not (ltb (optionsIn s) 4) || ltb (length s) (afterBit s + mapWidth) || not (ltb (goodIn s) (2 ^ nIn s))) none
     (andThen (behind (nIn s) 1 (goodIn s) (booksIn s))
     (λ first. andThen (behindBlocks (nIn s) 1 (nIn s) (goodIn s) first) (behindBlocks (nIn s) 1 (nIn s) (goodIn s))))
 

@@ -8,7 +8,7 @@ use lib.ListN.{length}
 use Rattle.limits.specs.Limits.{maxMessage, maxPlan, parties, groupCause}
 use Rattle.buffer.specs.Given.{Given, gave, written}
 use Rattle.buffer.specs.declared.Written.the-variants.{Refused}
-use Rattle.plan.specs.Layout.{under, packetFrom, longBook, nIn, tIn, hasRoot, hasBit, afterBit, goodIn, booksIn, firstIn, secondIn, laidOut}
+use Rattle.plan.specs.Layout.{mapWidth, under, packetFrom, longBook, nIn, tIn, hasRoot, hasBit, afterBit, goodIn, booksIn, exchangeAt, laidOut}
 use Rattle.plan.specs.declared.Plan.{Plan}
 
 -- 13 if under two bytes, then 1, 2, then 13 (over the greatest length, or badly laid out), then 4; 0: none
@@ -32,9 +32,9 @@ planOf s =
       rooted = hasRoot s;
       voted = hasBit s;
       good = goodIn s;
-      books = afterBit s + 2;
-      first = length s - length (firstIn s);
-      second = length s - length (secondIn s);
+      books = afterBit s + mapWidth;
+      first = exchangeAt 0 s;
+      second = exchangeAt 1 s;
     })
 
 -- good party q's book among the books s, in a lent buffer: cause 1, then 9

@@ -6,7 +6,7 @@ use mathlib.Core.Option.{Option, none, some}
 use Prim.Native.Nat.{ℕ, _+_, _-_, _≤_, _<_, _^_}
 use lib.ListN.{length, take, drop}
 use Rattle.limits.specs.Limits.{maxPlan, groupCause}
-use Rattle.plan.specs.Layout.{nIn, tIn, optionsIn, afterBit, goodIn, laidOut}
+use Rattle.plan.specs.Layout.{mapWidth, nIn, tIn, optionsIn, afterBit, goodIn, laidOut}
 use Rattle.plan.specs.declared.Plan.{Plan}
 use Rattle.plan.specs.declared.Place.{Place}
 use Rattle.plan.specs.declared.Place.the-variants.{Nowhere, At}
@@ -27,9 +27,9 @@ pub record Lies (r : Span) (bytes s : List ℕ) : Type 0 where
 pub record Head (k : ℕ) (s : List ℕ) : Type 0 where
   pub long : 3 ≤ length s
   pub known : optionsIn s < 4
-  pub room : afterBit s + 2 ≤ length s
+  pub room : afterBit s + mapWidth ≤ length s
   pub few : goodIn s < 2 ^ nIn s
-  pub there : k ≡ afterBit s + 2
+  pub there : k ≡ afterBit s + mapWidth
 
 abbrev pub Headed : Place → List ℕ → Type 0
 Headed Nowhere s = laidOut s ≡ false

@@ -1,16 +1,19 @@
 // The plan of a rehearsal: what its bytes say, and why it is turned away.
 ghost use mathlib.Core.Path.{_≡_};
-ghost use Prim.Native.Nat.{_+_, _-_, _≤_, _<_, _^_, min};
+ghost use Prim.Native.Nat.{_+_, _-_, _≤_, _<_, _^_};
 ghost use lib.Dec.{ltb};
 ghost use lib.ListN.{length, take, drop};
 ghost use Rattle.limits.specs.Limits.{maxMessage};
 ghost use Rattle.buffer.specs.Given.{gave, written};
-ghost use Rattle.plan.specs.Layout.{behind, under, within, behindBlock, behindBlocks, packetFrom, longBook, orEmpty, nIn};
+ghost use Rattle.plan.specs.Layout.{names, behind, under, within, behindBlock, behindBlocks, packetFrom, longBook, orEmpty, nIn};
 ghost use Rattle.plan.specs.Plan.{planOf, bookOf, packetOf};
 ghost use Rattle.plan.specs.Private.{Ends, Lies, Headed, Rest, turnedAway};
 use buffer::Written;
 use limits::MAX_MESSAGE;
 use limits::MAX_PLAN;
+
+// The bytes of a map of parties.
+const MAP: usize = 2;
 
 // A plan's parts: n, t, whether a root and a bit are given, the map of good parties, and where the books and the two exchanges start. The
 // cause is 0 if the plan is taken; else all parts are 0.
@@ -82,6 +85,19 @@ pub fn packet(exchange: &[u8], n: usize, good: usize, q: usize, i: usize, out: &
     give(exchange, found, out)
 }
 
+// Whether a map names party p.
+pub fn names(map: usize, p: usize) -> bool
+    ensures { λ r. ⌜ r ≡ names map p ⌝ }
+{
+    let mut m = map;
+    let mut q: usize = 1;
+    while q < p {
+        m = m / 2;
+        q += 1;
+    }
+    m % 2 == 1
+}
+
 fn turned_away(cause: u8) -> Plan
     ensures { λ r. ⌜ r ≡ turnedAway cause ⌝ }
 {
@@ -118,7 +134,7 @@ fn head(plan: &[u8], n: usize) -> Place
     }
     // A root has 32 bytes, a bit has one.
     let map = 3 + options % 2 * 32 + options / 2 % 2;
-    let books = map + 2;
+    let books = map + MAP;
     if plan.len() < books {
         return Place::Nowhere;
     }
@@ -133,7 +149,7 @@ fn parts(plan: &[u8], n: usize, t: usize, books: usize) -> Plan
     requires { ⌜ Rest n t books (now plan) ⌝ }
     ensures { λ r. ⌜ r ≡ planOf (now (plan .entry)) ⌝ }
 {
-    let good = buffer::size_at(plan, books - 2);
+    let good = buffer::size_at(plan, books - MAP);
     let Place::At(first) = behind(plan, books, n, good) else {
         return turned_away(13);
     };
@@ -194,17 +210,6 @@ fn within(n: usize, receivers: usize, good: usize) -> bool
     true
 }
 
-// The place so many bytes further; the end, if there are fewer.
-fn skip(s: &[u8], at: usize, k: usize) -> usize
-    requires { ⌜ at ≤ length (now s) ⌝ }
-    ensures { λ r. ⌜ r ≡ min (at + k) (length (now (s .entry))) ⌝ }
-{
-    if s.len() - at < k {
-        return s.len();
-    }
-    at + k
-}
-
 // The place behind the entries of those of n parties that a map names; nowhere if one runs short.
 fn behind(s: &[u8], from: usize, n: usize, map: usize) -> Place
     requires { ⌜ from ≤ length (now s) ⌝ }
@@ -248,8 +253,8 @@ fn under(s: &[u8], from: usize, n: usize, map: usize, q: usize) -> Span
             continue;
         }
         let size = buffer::size_at(s, at);
-        let start = skip(s, at, 2);
-        at = skip(s, start, size);
+        let start = buffer::skip(s, at, 2);
+        at = buffer::skip(s, start, size);
         if p == q {
             return Span {
                 from: start,
@@ -279,8 +284,8 @@ fn long_book(s: &[u8], from: usize, n: usize, good: usize) -> bool
         if MAX_MESSAGE < size {
             return true;
         }
-        let start = skip(s, at, 2);
-        at = skip(s, start, size);
+        let start = buffer::skip(s, at, 2);
+        at = buffer::skip(s, start, size);
     }
     false
 }
@@ -290,13 +295,13 @@ fn behind_block(s: &[u8], at: usize, n: usize, good: usize) -> Place
     requires { ⌜ at ≤ length (now s) ⌝ }
     ensures { λ r. ⌜ Ends r (behindBlock n good (drop at (now (s .entry)))) (now (s .entry)) ⌝ }
 {
-    if s.len() - at < 2 {
+    if s.len() - at < MAP {
         return Place::Nowhere;
     }
     let map = buffer::size_at(s, at);
     if up_to(n, map) {
         if within(n, map, good) {
-            return behind(s, at + 2, n, map);
+            return behind(s, at + MAP, n, map);
         }
     }
     Place::Nowhere
@@ -352,7 +357,7 @@ fn packet_from(s: &[u8], n: usize, good: usize, q: usize, i: usize) -> Span
         }
         if p == q {
             let map = buffer::size_at(s, at);
-            let from = skip(s, at, 2);
+            let from = buffer::skip(s, at, MAP);
             return under(s, from, n, map, i);
         }
         at = past_block(s, at, n, good);

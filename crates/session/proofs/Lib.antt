@@ -1,10 +1,8 @@
 pub mod Parties
 pub mod Played
 pub mod Rule
-pub mod ExchangeSlots
-pub mod ExchangeEntries
-pub mod ExchangePlan
-pub mod ExchangeSent
+pub mod Wrote
+pub mod Inboxes
 pub mod Sums
 pub mod Text
 pub mod Shown

@@ -20,6 +20,7 @@ use Rattle.buffer.specs.Bounds.{Bytes}
 use Rattle.buffer.specs.Splice.{tabulate}
 use Rattle.buffer.specs.Entries.{fills, bodies}
 use Rattle.buffer.proofs.Bounds.{drop-bytes}
+use Rattle.buffer.proofs.Places.{entry-of-bodies}
 use Rattle.buffer.proofs.Tabulate.{length-tabulate, getD-tabulate}
 use Rattle.erasure.specs.Coding.{shares}
 use Rattle.merkle.specs.Shares.{same}
@@ -49,13 +50,15 @@ use Rattle.agreement.proofs.Run.{did3, did4}
 use Rattle.agreement.proofs.Ran.{opened-is, result-end}
 use Rattle.agreement.proofs.Lists.{same-some}
 use Rattle.agreement.proofs.Agreement.{agreement, agreement-sha256}
-use Rattle.plan.specs.Layout.{unnamed, nIn, tIn, hasRoot, hasBit, rootIn, goodIn, booksIn}
+use Rattle.plan.specs.Layout.{unnamed, nIn, tIn, hasRoot, hasBit, rootIn, goodIn, booksIn, exchangeIn}
 use Rattle.plan.specs.Layout as layout
 use Rattle.plan.specs.Plan.{planCause}
 use Rattle.plan.proofs.Accepted.{Accepted, accepted as plan-taken, lowest-named, root-length, under-short, under-bytes}
+use Rattle.exchange.specs.Exchange.{sentTo, inboxTo}
+use Rattle.exchange.proofs.Sending.{sent-good}
 use Rattle.report.specs.Output.{sentLine}
 use Rattle.session.specs.Session.{maxPacket, maxOutbox, wroteIn, orNothing, lineWith, isGood, messageOf, lowestGood, opened, agreedRoot, step2, agreedBit}
-use Rattle.session.specs.Session.{sameRoots, sameBits, unlawful, sessionCause, step3, firstFrom, firstInbox, step4, secondFrom, secondInbox, step5}
+use Rattle.session.specs.Session.{sameRoots, sameBits, unlawful, sessionCause, step3, firstInbox, step4, secondInbox, step5}
 use Rattle.session.specs.Session.{endsWith, sentOf, linesFrom, sentFrom, output, callsOf, goodParty, goodParties}
 use Rattle.session.proofs.Parties.{named, party-in, apart, bad-count, sum-of}
 
@@ -108,6 +111,13 @@ module _ (H : List ℕ → List ℕ) (wide : (x : List ℕ) → length (H x) ≡
 
   abbrev bit : ℕ
   bit = agreedBit H s
+
+  -- what parties send in the two exchanges
+  abbrev firstFrom : ℕ → ℕ → List ℕ
+  firstFrom = sentTo n (goodIn s) false (λ p. wroteIn (step3 H s p)) (exchangeIn 0 s)
+
+  abbrev secondFrom : ℕ → ℕ → List ℕ
+  secondFrom = sentTo n (goodIn s) true (λ p. wroteIn (step4 H s p)) (exchangeIn 1 s)
 
   causes : (planCause s ≡ 0) × (unlawful H s ≡ false)
   unfolding sessionCause
@@ -275,13 +285,13 @@ module _ (H : List ℕ → List ℕ) (wide : (x : List ℕ) → length (H x) ≡
       room4 = replicate maxPacket 0
 
       cause-4 : step4 H s p .cause ≡ 0
-      unfolding step4 firstInbox atFirst
+      unfolding step4 firstInbox inboxTo atFirst
       cause-4 =
           let fits : length (relayOf H X2 (firstInbox H s p)) ≤ length room4 =
           omega (arith, relay-fits H wide n t p m z c one last (firstInbox H s p), length-replicate {A = ℕ} maxPacket 0) in
           ap (λ (x : Party). steps.takeSharesOf H x (firstInbox H s p) room4 .cause) waits
           ∙ shares-accepted H X2 (first-whole n t p (c .low) (c .high) (c .faults) one last m (c .short) z) (firstInbox H s p) room4 turn-first
-          (filled (λ k. firstFrom H s p (k + 1))) fits
+          (filled (λ k. firstFrom p (k + 1))) fits
 
       abbrev X3 : Party
       X3 = atSecond n t p m z (heldOf H X2 (firstInbox H s p))
@@ -303,7 +313,7 @@ module _ (H : List ℕ → List ℕ) (wide : (x : List ℕ) → length (H x) ≡
       room5 = replicate maxMessage 0
 
       cause-5 : step5 H s p .cause ≡ 0
-      unfolding step5 secondInbox atSecond
+      unfolding step5 secondInbox inboxTo atSecond
       cause-5 =
           let w2 = first-whole n t p (c .low) (c .high) (c .faults) one last m (c .short) z in
           let w = second-whole n t p (c .low) (c .high) (c .faults) one last m (c .short) z (heldOf H X2 (firstInbox H s p))
@@ -311,7 +321,7 @@ module _ (H : List ℕ → List ℕ) (wide : (x : List ℕ) → length (H x) ≡
           let fits : length (bytesOf (steps.resultOf H X3 (secondInbox H s p))) ≤ length room5 =
           omega (arith, result-short H X3 w (secondInbox H s p), length-replicate {A = ℕ} maxMessage 0) in
           ap (λ (x : Party). steps.takeRelaysOf H x (secondInbox H s p) room5 .cause) state-4
-          ∙ relays-accepted H X3 w (secondInbox H s p) room5 turn-second (filled (λ k. secondFrom H s p (k + 1))) fits
+          ∙ relays-accepted H X3 w (secondInbox H s p) room5 turn-second (filled (λ k. secondFrom p (k + 1))) fits
 
     -- the accepted calls are all that were made
     abbrev E2 : Event
@@ -410,13 +420,13 @@ module _ (H : List ℕ → List ℕ) (wide : (x : List ℕ) → length (H x) ≡
         ∙ ap (λ (l : List (List ℕ)). getD l (q - 1) []) (inbox-bodies (tabulate n g))
         ∙ getD-tabulate n g (q - 1) [] (omega arith) ∙ ap f e
 
-    heard-4 : bit ≡ 1 → (q : ℕ) → 1 ≤ q → q ≤ n → heard n q (first-of 4) ≡ firstFrom H s p q
-    unfolding firstInbox
-    heard-4 b q l h = ap (heard n q) (fourth-is b) ∙ entry-of (firstFrom H s p) q l h
+    heard-4 : bit ≡ 1 → (q : ℕ) → 1 ≤ q → q ≤ n → heard n q (first-of 4) ≡ firstFrom p q
+    unfolding firstInbox inboxTo
+    heard-4 b q l h = ap (heard n q) (fourth-is b) ∙ entry-of (firstFrom p) q l h
 
-    heard-5 : bit ≡ 1 → (q : ℕ) → 1 ≤ q → q ≤ n → heard n q (first-of 5) ≡ secondFrom H s p q
-    unfolding secondInbox
-    heard-5 b q l h = ap (heard n q) (fifth-is b) ∙ entry-of (secondFrom H s p) q l h
+    heard-5 : bit ≡ 1 → (q : ℕ) → 1 ≤ q → q ≤ n → heard n q (first-of 5) ≡ secondFrom p q
+    unfolding secondInbox inboxTo
+    heard-5 b q l h = ap (heard n q) (fifth-is b) ∙ entry-of (secondFrom p) q l h
 
     shows-5 : bit ≡ 1 → resultShown (first-of 5) ≡ step5 H s p .result
     unfolding made step5
@@ -496,13 +506,14 @@ module _ (H : List ℕ → List ℕ) (wide : (x : List ℕ) → length (H x) ≡
       (both-not (sameBits H s n 1 (step2 H s (lowestGood s) .bit)) (eqb bit (step2 H s (lowestGood s) .bit)) (lawful .3) all) ∙ own
 
   -- packets between good parties
-  from-first : (i p : ℕ) → i ≢ p → isGood s p ≡ true → firstFrom H s i p ≡ entry n i (wroteIn (step3 H s p))
-  unfolding firstFrom
-  from-first i p d g = rw (ne-eqb p i (λ e. d (sym e)), g)
+  from-first : (i p : ℕ) → 1 ≤ i → i ≤ n → i ≢ p → isGood s p ≡ true → firstFrom i p ≡ entry n i (wroteIn (step3 H s p))
+  unfolding entry
+  from-first i p l h d g =
+      sent-good n (goodIn s) false (λ q. wroteIn (step3 H s q)) (exchangeIn 0 s) i p (λ e. d (sym e)) g
+      ∙ sym (entry-of-bodies n (i - 1) (wroteIn (step3 H s p)) (omega arith))
 
-  from-second : (i p : ℕ) → i ≢ p → isGood s p ≡ true → secondFrom H s i p ≡ wroteIn (step4 H s p)
-  unfolding secondFrom
-  from-second i p d g = rw (ne-eqb p i (λ e. d (sym e)), g)
+  from-second : (i p : ℕ) → i ≢ p → isGood s p ≡ true → secondFrom i p ≡ wroteIn (step4 H s p)
+  from-second i p d g = sent-good n (goodIn s) true (λ q. wroteIn (step4 H s q)) (exchangeIn 1 s) i p (λ e. d (sym e)) g
 
   -- all that agreement supposes, but for the hash
   pub premises : Clean H n t good → Premises H n t good z bit
@@ -529,7 +540,7 @@ module _ (H : List ℕ → List ℕ) (wide : (x : List ℕ) → length (H x) ≡
           firstInbox = each (λ A. Each H n t good (λ B. A .own ≢ B .own
               → heard n (B .own) (step H n t good 4 A) ≡ packetTo n (A .own) (step H n t good 3 B)))
               (λ i l h g. each (λ B. i ≢ B .own → heard n (B .own) (step H n t good 4 (goodParty H s i)) ≡ packetTo n i (step H n t good 3 B))
-              (λ q k j f d. heard-4 i l h b q k j ∙ from-first i q d f ∙ ap (entry n i) (sym (wrote-3 q k j))));
+              (λ q k j f d. heard-4 i l h b q k j ∙ from-first i q l h d f ∙ ap (entry n i) (sym (wrote-3 q k j))));
           secondInbox = each (λ A. Each H n t good (λ B. A .own ≢ B .own
               → heard n (B .own) (step H n t good 5 A) ≡ wrote (step H n t good 4 B)))
               (λ i l h g. each (λ B. i ≢ B .own → heard n (B .own) (step H n t good 5 (goodParty H s i)) ≡ wrote (step H n t good 4 B))

@@ -20,7 +20,7 @@ use Rattle.buffer.proofs.Given.{written-done}
 use Rattle.merkle.specs.Shares.{same}
 use Rattle.party.specs.Steps.{openOf}
 use Rattle.plan.specs.Layout.{names, unnamed, lowest, nIn, tIn, hasRoot, hasBit, afterRoot, afterBit, rootIn, bitIn, goodIn, booksIn}
-use Rattle.plan.specs.Layout.{firstIn, secondIn, laidOut}
+use Rattle.plan.specs.Layout.{exchangeAt, laidOut}
 use Rattle.plan.specs.Plan.{planCause, planOf, bookOf}
 use Rattle.plan.specs.declared.Plan.{Plan}
 use Rattle.plan.proofs.Maps.{named}
@@ -38,8 +38,8 @@ pub record Known (s : List ℕ) (parts : Plan) : Type 0 where
   pub voted-is : parts .voted ≡ hasBit s
   pub good-is : parts .good ≡ goodIn s
   pub books-are : parts .books ≡ afterBit s + 2
-  pub first-is : parts .first ≡ length s - length (firstIn s)
-  pub second-is : parts .second ≡ length s - length (secondIn s)
+  pub first-is : parts .first ≡ exchangeAt 0 s
+  pub second-is : parts .second ≡ exchangeAt 1 s
   pub low : 1 ≤ nIn s
   pub high : nIn s ≤ maxParties
   pub faults : 2 * tIn s < nIn s
@@ -57,8 +57,8 @@ takenPlan s =
       voted = hasBit s;
       good = goodIn s;
       books = afterBit s + 2;
-      first = length s - length (firstIn s);
-      second = length s - length (secondIn s);
+      first = exchangeAt 0 s;
+      second = exchangeAt 1 s;
     }
 
 plan-is : (s : List ℕ) → planCause s ≡ 0 → planOf s ≡ takenPlan s

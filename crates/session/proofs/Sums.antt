@@ -16,9 +16,10 @@ use Rattle.buffer.specs.Entries.{size, body, rest, bodies}
 use Rattle.buffer.proofs.Entries.{bodies-more}
 use Rattle.buffer.proofs.Rows.{row-inside}
 use Rattle.agreement.specs.Calls.{lengths}
-use Rattle.plan.specs.Layout.{nIn}
+use Rattle.plan.specs.Layout.{nIn, goodIn}
+use Rattle.exchange.specs.Exchange.{Slots}
 use Rattle.session.specs.Session.{isGood, maxPacket, wroteIn, agreedBit, step3, step4, sentOf, sentFrom}
-use Rattle.session.specs.Private.{Slots, Relayed, Sizes}
+use Rattle.session.specs.Private.{Relayed, Sizes}
 
 -- the bytes of n packets: of none, and of a list with no packet left
 none-left : (n : ℕ) (s : List ℕ) → length s < 2 → lengths (bodies n s) ≡ 0
@@ -110,7 +111,7 @@ module _ (s : List ℕ) (few : nIn s ≤ maxParties) (relays sizes : List ℕ) (
       )
 
   pub relays-all : (agreedBit sha256 s ≡ 0 → ⊥) → length sizes ≡ maxParties
-      → Slots s maxPacket (λ p. wroteIn (step4 sha256 s p)) (nIn s) relays sizes → Relayed s relays sizes × Sizes s sizes
+      → Slots (goodIn s) maxPacket (λ p. wroteIn (step4 sha256 s p)) (nIn s) relays sizes → Relayed s relays sizes × Sizes s sizes
   relays-all h l all = (
     record { relays-long = long; sizes-long = l; slots = λ k. all },
     record {

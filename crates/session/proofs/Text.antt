@@ -24,8 +24,7 @@ use Rattle.party.specs.declared.Party.{Party}
 use Rattle.party.specs.declared.Settled.{Settled}
 use Rattle.party.specs.declared.Settled.the-variants as answer
 use Rattle.party.proofs.Settled.{the-type as settled-type}
-use Rattle.commitment.proofs.Outbox.{tail-spliced}
-use Rattle.packet.proofs.Slices.{part-rest}
+use Rattle.buffer.proofs.Parts.{tail-spliced, part-rest}
 use Rattle.plan.specs.Layout.{nIn}
 use Rattle.plan.specs.Plan.{planCause, planOf}
 use Rattle.report.specs.Output.{digits, decimal, shown, line, sentLine, lineOf, sentLineOf}

@@ -4,14 +4,15 @@ use mathlib.Core.Bool.{true, cond}
 use mathlib.Core.List.{List}
 use Prim.Native.Nat.{ℕ, _+_, _*_, _≤_, _<_}
 use lib.Dec.{eqb}
-use lib.ListN.{length, getD, take, drop}
+use lib.ListN.{length, getD}
 use Rattle.limits.specs.Limits.{maxParties, maxMessage}
 use Rattle.sha256.specs.Sha256.{sha256}
 use Rattle.party.specs.declared.Settled.{Settled}
 use Rattle.party.specs.declared.Settled.the-variants.{Refused, Short, Nothing, Message}
-use Rattle.plan.specs.Layout.{nIn}
+use Rattle.plan.specs.Layout.{nIn, goodIn}
 use Rattle.plan.specs.Plan.{planCause, planOf}
 use Rattle.plan.specs.declared.Plan.{Plan}
+use Rattle.exchange.specs.Exchange.{Slots, maxInbox}
 use Rattle.session.specs.Session.{isGood, maxPacket, maxOutbox, wroteIn, agreedBit, step3, step4}
 
 -- a plan that was read and taken
@@ -19,12 +20,9 @@ pub record Ready (s : List ℕ) (parts : Plan) : Type 0 where
   pub taken : planCause s ≡ 0
   pub read : parts ≡ planOf s
 
--- room for any entry, whose length stands in two bytes, and for any inbox
-abbrev pub maxEntry : ℕ
-maxEntry = 2 + 65535
-
-abbrev pub maxInbox : ℕ
-maxInbox = maxParties * maxEntry
+-- room for any inbox of an exchange
+abbrev pub inboxRoom : ℕ
+inboxRoom = maxInbox maxParties maxOutbox
 
 -- room for any line, and for any output: a line for each party, and the last one
 abbrev pub maxLine : ℕ
@@ -33,23 +31,17 @@ maxLine = 24 + 2 * maxMessage
 abbrev pub maxText : ℕ
 maxText = (maxParties + 1) * maxLine
 
--- what good parties wrote, each in a slot of its own of `size` bytes, with its length beside
-abbrev pub Slots : List ℕ → ℕ → (ℕ → List ℕ) → ℕ → List ℕ → List ℕ → Type 0
-Slots s size f k all lens =
-    (j : ℕ) → j < k → isGood s (j + 1) ≡ true
-    → (getD lens j 0 ≤ size) × (take (getD lens j 0) (drop (j * size) all) ≡ f (j + 1))
-
 -- the outboxes of all good parties
 pub record Dealt (s boxes lens : List ℕ) : Type 0 where
   pub boxes-long : length boxes ≡ maxParties * maxOutbox
   pub lens-long : length lens ≡ maxParties
-  pub slots : Slots s maxOutbox (λ p. wroteIn (step3 sha256 s p)) (nIn s) boxes lens
+  pub slots : Slots (goodIn s) maxOutbox (λ p. wroteIn (step3 sha256 s p)) (nIn s) boxes lens
 
 -- their relays; on bit 0 there are none
 pub record Relayed (s relays sizes : List ℕ) : Type 0 where
   pub relays-long : length relays ≡ maxParties * maxPacket
   pub sizes-long : length sizes ≡ maxParties
-  pub slots : (agreedBit sha256 s ≡ 0 → ⊥) → Slots s maxPacket (λ p. wroteIn (step4 sha256 s p)) (nIn s) relays sizes
+  pub slots : (agreedBit sha256 s ≡ 0 → ⊥) → Slots (goodIn s) maxPacket (λ p. wroteIn (step4 sha256 s p)) (nIn s) relays sizes
 
 -- the lengths of the relays, without them
 pub record Sizes (s sizes : List ℕ) : Type 0 where

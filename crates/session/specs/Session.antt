@@ -7,20 +7,19 @@ use Prim.Native.Nat.{ℕ, zero, suc, _+_, _-_, _*_}
 use lib.Dec.{ltb, eqb}
 use lib.ListN.{length, take, replicate}
 use Rattle.limits.specs.Limits.{maxMessage}
-use Rattle.buffer.specs.Splice.{tabulate}
 use Rattle.buffer.specs.Entries.{bodies}
 use Rattle.buffer.specs.Given.{Given, gave, written}
 use Rattle.buffer.specs.declared.Written.the-variants.{Refused}
 use Rattle.merkle.specs.Shares.{same}
-use Rattle.packet.specs.Inbox.{inboxOf}
 use Rattle.party.specs.State.{Result, nothing, settled}
 use Rattle.party.specs.Steps.{openOf, Ballot, agreeRootOf, Stepped, agreeBitOf, takeSharesOf, Ending, takeRelaysOf}
 use Rattle.party.specs.declared.Opened.{Opened}
 pub use Rattle.commitment.specs.Rooms.{maxPacket, maxOutbox}
-use Rattle.agreement.specs.Calls.{Call, agreeRoot, agreeBit, takeShares, takeRelays, entry, lengths}
+use Rattle.agreement.specs.Calls.{Call, agreeRoot, agreeBit, takeShares, takeRelays, lengths}
 use Rattle.agreement.specs.Agreement.{Good}
-use Rattle.plan.specs.Layout.{names, under, packetFrom, unnamed, lowest, nIn, tIn, hasRoot, hasBit, rootIn, bitIn, goodIn, booksIn, firstIn, secondIn}
+use Rattle.plan.specs.Layout.{names, under, unnamed, lowest, nIn, tIn, hasRoot, hasBit, rootIn, bitIn, goodIn, booksIn, exchangeIn}
 use Rattle.plan.specs.Plan.{planCause}
+use Rattle.exchange.specs.Exchange.{inboxTo}
 use Rattle.report.specs.Output.{line, sentLine, refusedLine}
 
 -- what a step that writes wrote; nothing where it was turned away, which no step of a plan without a cause is (`Played`)
@@ -84,26 +83,20 @@ module _ (H : List ℕ → List ℕ) (s : List ℕ) where
   unfoldable pub step3 : ℕ → Stepped
   step3 p = agreeBitOf H (step2 p .state) agreedBit (replicate maxOutbox 0)
 
-  -- in party i's inbox a good party p stands with its packet for i, a bad one with what the plan says, and i itself with no bytes
-  unfoldable pub firstFrom : ℕ → ℕ → List ℕ
-  firstFrom i p =
-      cond (eqb p i) []
-      (cond (isGood s p) (entry (nIn s) i (wroteIn (step3 p))) (packetFrom (nIn s) 1 (nIn s) (goodIn s) p i (firstIn s)))
+  -- party i's inbox of exchange e, where parties wrote these
+  abbrev pub inboxIn : ℕ → Bool → (ℕ → List ℕ) → ℕ → List ℕ
+  inboxIn e whole wrote i = inboxTo (nIn s) (goodIn s) whole wrote (exchangeIn e s) i
 
+  -- in the first exchange parties send packets of their outboxes
   unfoldable pub firstInbox : ℕ → List ℕ
-  firstInbox i = inboxOf (tabulate (nIn s) (λ k. firstFrom i (k + 1)))
+  firstInbox i = inboxIn 0 false (λ p. wroteIn (step3 p)) i
 
-  -- step 4, and the second inbox
+  -- step 4, and the second exchange, in which they send relays to all
   unfoldable pub step4 : ℕ → Stepped
   step4 p = takeSharesOf H (step3 p .state) (firstInbox p) (replicate maxPacket 0)
 
-  unfoldable pub secondFrom : ℕ → ℕ → List ℕ
-  secondFrom i p =
-      cond (eqb p i) []
-      (cond (isGood s p) (wroteIn (step4 p)) (packetFrom (nIn s) 1 (nIn s) (goodIn s) p i (secondIn s)))
-
   unfoldable pub secondInbox : ℕ → List ℕ
-  secondInbox i = inboxOf (tabulate (nIn s) (λ k. secondFrom i (k + 1)))
+  secondInbox i = inboxIn 1 true (λ p. wroteIn (step4 p)) i
 
   -- step 5
   unfoldable pub step5 : ℕ → Ending

@@ -4,26 +4,28 @@ ghost use mathlib.Core.Bool.{true, cond};
 ghost use mathlib.Core.List.{[], _∷_};
 ghost use Prim.Native.Nat.{_+_, _*_, _/_, _%_, _≤_, _<_};
 ghost use lib.Dec.{eqb};
-ghost use lib.ListN.{length, take, replicate};
+ghost use lib.ListN.{length, take, drop, replicate};
 ghost use Rattle.sha256.specs.Sha256.{sha256};
 ghost use Rattle.limits.specs.Limits.{maxParties, maxMessage};
 ghost use Rattle.buffer.specs.Splice.{spliced};
 ghost use Rattle.buffer.specs.Entries.{bodies};
 ghost use Rattle.buffer.specs.Given.{causeOf, valueOf, gave};
-ghost use Rattle.packet.specs.Format.{entryOf};
 ghost use Rattle.party.specs.Steps.{voted, bitIn, stepped, resultGiven, ended};
 ghost use Rattle.agreement.specs.Calls.{lengths};
-ghost use Rattle.plan.specs.Layout.{names, unnamed, lowest, nIn};
+ghost use Rattle.plan.specs.Layout.{unnamed, lowest, nIn, goodIn};
+ghost use Rattle.exchange.specs.Exchange.{inboxTo, slotOf, Slots};
 ghost use Rattle.report.specs.Output.{line};
 ghost use Rattle.session.specs.Session.{maxPacket, maxOutbox, wroteIn, orNothing, lineWith, isGood, opened, agreedRoot, step2, agreedBit};
-ghost use Rattle.session.specs.Session.{sameRoots, sameBits, unlawful, step3, firstFrom, firstInbox, step4, secondFrom, secondInbox};
+ghost use Rattle.session.specs.Session.{sameRoots, sameBits, unlawful, step3, step4};
 ghost use Rattle.session.specs.Session.{step5, endsWith, sentOf, linesFrom, sentFrom, output, rehearseOf, printOf};
-ghost use Rattle.session.specs.Private.{Ready, maxEntry, maxInbox, maxLine, maxText, Slots, Dealt, Relayed, Sizes, lengthIn};
+ghost use Rattle.session.specs.Private.{Ready, inboxRoom, maxLine, maxText, Dealt, Relayed, Sizes, lengthIn};
 use buffer::Written;
 use commitment::MAX_OUTBOX;
 use commitment::MAX_PACKET;
+use exchange::Mail;
 use limits::MAX_MESSAGE;
 use limits::MAX_PARTIES;
+use limits::MAX_PLAN;
 use merkle::Hash;
 use party::Ended;
 use party::Opened;
@@ -34,13 +36,8 @@ use party::Vote;
 use party::Voted;
 use plan::Plan;
 
-// The greatest length of an entry, and of an inbox.
-const MAX_ENTRY: usize = 2 + 65535;
-
-const MAX_INBOX: usize = MAX_PARTIES * MAX_ENTRY;
-
-// A map that names all parties.
-const ALL: usize = 65535;
+// The greatest length of an inbox: the packets of bad parties stand in the plan, and one of a good party is no longer than an outbox.
+const MAX_INBOX: usize = MAX_PLAN + MAX_PARTIES * (MAX_OUTBOX + 2);
 
 // The longest line, and the longest output: a line for each party, and the last one.
 const MAX_LINE: usize = 24 + 2 * MAX_MESSAGE;
@@ -115,7 +112,7 @@ fn play(bytes: &[u8], parts: Plan, root: &Hash, bit: u8, text: &mut [u8]) -> usi
         text,
     );
     let sent = sent_all(bytes, parts, &boxes, &lens, &sizes);
-    at + length_of(report::sent_line(sent, &mut text[at..]))
+    at + buffer::value_of(report::sent_line(sent, &mut text[at..]))
 }
 
 // The relays of all good parties; none on bit 0.
@@ -163,7 +160,7 @@ fn put_lines(
     let mut p: usize = 0;
     while p < n {
         p += 1;
-        if is_good(parts.good, p) {
+        if plan::names(parts.good, p) {
             at += put_line(
                 bytes,
                 parts,
@@ -253,7 +250,7 @@ fn write_line(q: usize, some: bool, message: &[u8], text: &mut [u8], at: usize) 
     ensures { λ r. ⌜ (r ≡ length (line q some (now (message .entry)))) × (r ≤ maxLine)
         × (now (text .exit) ≡ spliced (now (text .entry)) at (line q some (now (message .entry)))) ⌝ }
 {
-    length_of(report::line(q, some, message, &mut text[at..]))
+    buffer::value_of(report::line(q, some, message, &mut text[at..]))
 }
 
 // The bytes that all good parties sent.
@@ -266,7 +263,7 @@ fn sent_all(bytes: &[u8], parts: Plan, boxes: &[u8], lens: &[usize], sizes: &[us
     let mut p: usize = 0;
     while p < n {
         p += 1;
-        if is_good(parts.good, p) {
+        if plan::names(parts.good, p) {
             sum += sent_by(bytes, parts, boxes, lens, sizes, p);
         }
     }
@@ -315,19 +312,6 @@ fn packet_bytes(n: usize, outbox: &[u8]) -> usize
         p += 1;
     }
     sum
-}
-
-// Whether a map names party p.
-fn is_good(good: usize, p: usize) -> bool
-    ensures { λ r. ⌜ r ≡ names good p ⌝ }
-{
-    let mut m = good;
-    let mut q: usize = 1;
-    while q < p {
-        m = m / 2;
-        q += 1;
-    }
-    m % 2 == 1
 }
 
 // The lowest-numbered good party; 0 if there is none.
@@ -448,7 +432,7 @@ fn same_roots(bytes: &[u8], parts: Plan, w: &Hash) -> bool
     let mut p: usize = 0;
     while p < n {
         p += 1;
-        if is_good(parts.good, p) {
+        if plan::names(parts.good, p) {
             let own = opened(bytes, parts, p).root;
             if !check::same(&own, w) {
                 return false;
@@ -467,7 +451,7 @@ fn same_bits(bytes: &[u8], parts: Plan, root: &Hash, b: u8) -> bool
     let mut p: usize = 0;
     while p < n {
         p += 1;
-        if is_good(parts.good, p) {
+        if plan::names(parts.good, p) {
             if own_bit(bytes, parts, root, p) != b {
                 return false;
             }
@@ -550,7 +534,7 @@ fn deal(
 fn deal_all(bytes: &[u8], parts: Plan, root: &Hash, bit: u8, boxes: &mut [u8], lens: &mut [usize])
     requires { ⌜ Ready (now bytes) parts × (now root ≡ agreedRoot sha256 (now bytes)) × (bit ≡ agreedBit sha256 (now bytes))
         × (length (now boxes) ≡ maxParties * maxOutbox) × (length (now lens) ≡ maxParties) ⌝ }
-    ensures { λ _. ⌜ Slots (now (bytes .entry)) maxOutbox (λ p. wroteIn (step3 sha256 (now (bytes .entry)) p)) (nIn (now (bytes .entry)))
+    ensures { λ _. ⌜ Slots (goodIn (now (bytes .entry))) maxOutbox (λ p. wroteIn (step3 sha256 (now (bytes .entry)) p)) (nIn (now (bytes .entry)))
         (now (boxes .exit)) (now (lens .exit))
         × (length (now (boxes .exit)) ≡ maxParties * maxOutbox) × (length (now (lens .exit)) ≡ maxParties) ⌝ }
 {
@@ -560,7 +544,7 @@ fn deal_all(bytes: &[u8], parts: Plan, root: &Hash, bit: u8, boxes: &mut [u8], l
     let mut p: usize = 0;
     while p < n {
         let q = p + 1;
-        if is_good(good, q) {
+        if plan::names(good, q) {
             lens[p] = deal(bytes, parts, root, bit, q, boxes, at);
         }
         at += MAX_OUTBOX;
@@ -568,108 +552,42 @@ fn deal_all(bytes: &[u8], parts: Plan, root: &Hash, bit: u8, boxes: &mut [u8], l
     }
 }
 
-// How many bytes were written.
-fn length_of(answer: Written) -> usize
-    ensures { λ r. ⌜ r ≡ valueOf answer ⌝ }
-{
-    match answer {
-        Written::Refused(_) => 0,
-        Written::Short(len) => len,
-        Written::Done(len) => len,
-    }
+// An exchange of a plan: where its blocks start, the size of the slots in which lies what parties wrote, and whether that goes to all whole.
+struct Way {
+    at: usize,
+    size: usize,
+    whole: bool,
 }
 
-// The length of the packet behind it, put before it; the place behind the packet.
-fn head(inbox: &mut [u8], at: usize, len: usize) -> usize
-    requires { ⌜ (len < 65536) × (at + 2 + len ≤ length (now inbox)) ⌝ }
-    ensures { λ r. ⌜ (r ≡ at + 2 + len) × (now (inbox .exit) ≡ spliced (now (inbox .entry)) at (len / 256 ∷ len % 256 ∷ [])) ⌝ }
-{
-    buffer::put(inbox, at, &[(len / 256 % 256) as u8, (len % 256) as u8]);
-    at + 2 + len
-}
-
-// What party p sends to party i in the first exchange, at the start of out; its length. A good party's packets lie in its outbox as a
-// plan's books do.
-fn first_sent(
+// Party i's inbox of an exchange; its length.
+fn inbox(
     bytes: &[u8],
     parts: Plan,
-    boxes: &[u8],
+    way: Way,
+    slots: &[u8],
     lens: &[usize],
-    p: usize,
     i: usize,
     out: &mut [u8],
 ) -> usize
-    requires { ⌜ Ready (now bytes) parts × (1 ≤ p) × (p ≤ nIn (now bytes)) × (1 ≤ i) × (i ≤ nIn (now bytes))
-        × (length (now boxes) ≡ maxParties * maxOutbox) × (length (now lens) ≡ maxParties) × (maxEntry ≤ 2 + length (now out))
-        × Slots (now bytes) maxOutbox (λ q. wroteIn (step3 sha256 (now bytes) q)) (nIn (now bytes)) (now boxes) (now lens) ⌝ }
-    ensures { λ r. ⌜ (r ≡ length (firstFrom sha256 (now (bytes .entry)) i p)) × (r < 65536)
-        × (now (out .exit) ≡ spliced (now (out .entry)) 0 (firstFrom sha256 (now (bytes .entry)) i p)) ⌝ }
+    requires { ⌜ Ready (now bytes) parts × (way .at ≤ length (now bytes)) × (way .size ≤ maxOutbox) × (1 ≤ i) × (i ≤ nIn (now bytes))
+        × (length (now out) ≡ inboxRoom) ⌝ }
+    ensures { λ r. ⌜ (r ≤ length (now (out .exit)))
+        × (take r (now (out .exit)) ≡ inboxTo (nIn (now (bytes .entry))) (goodIn (now (bytes .entry))) (way .whole)
+        (slotOf (way .size) (now (slots .entry)) (now (lens .entry))) (drop (way .at) (now (bytes .entry))) i) ⌝ }
 {
-    if p == i {
-        return 0;
-    }
-    let n = parts.n;
-    let good = parts.good;
-    if is_good(good, p) {
-        let j = p - 1;
-        let from = j * MAX_OUTBOX;
-        let end = from + lens[j];
-        return length_of(plan::book(&boxes[from..end], n, ALL, i, out));
-    }
-    let first = parts.first;
-    length_of(plan::packet(&bytes[first..], n, good, p, i, out))
-}
-
-// Its entry in party i's inbox; the place behind it.
-fn first_entry(
-    bytes: &[u8],
-    parts: Plan,
-    boxes: &[u8],
-    lens: &[usize],
-    p: usize,
-    i: usize,
-    inbox: &mut [u8],
-    at: usize,
-) -> usize
-    requires { ⌜ Ready (now bytes) parts × (1 ≤ p) × (p ≤ nIn (now bytes)) × (1 ≤ i) × (i ≤ nIn (now bytes))
-        × (length (now boxes) ≡ maxParties * maxOutbox) × (length (now lens) ≡ maxParties) × (at + maxEntry ≤ length (now inbox))
-        × Slots (now bytes) maxOutbox (λ q. wroteIn (step3 sha256 (now bytes) q)) (nIn (now bytes)) (now boxes) (now lens) ⌝ }
-    ensures { λ r. ⌜ (r ≡ at + length (entryOf (firstFrom sha256 (now (bytes .entry)) i p))) × (r ≤ at + maxEntry)
-        × (now (inbox .exit) ≡ spliced (now (inbox .entry)) at (entryOf (firstFrom sha256 (now (bytes .entry)) i p))) ⌝ }
-{
-    let from = at + 2;
-    let len = first_sent(bytes, parts, boxes, lens, p, i, &mut inbox[from..]);
-    head(inbox, at, len)
-}
-
-// Party i's first inbox; its length.
-fn first_inbox(
-    bytes: &[u8],
-    parts: Plan,
-    boxes: &[u8],
-    lens: &[usize],
-    i: usize,
-    inbox: &mut [u8],
-) -> usize
-    requires { ⌜ Ready (now bytes) parts × (1 ≤ i) × (i ≤ nIn (now bytes))
-        × (length (now boxes) ≡ maxParties * maxOutbox) × (length (now lens) ≡ maxParties)
-        × (length (now inbox) ≡ maxInbox)
-        × Slots (now bytes) maxOutbox (λ q. wroteIn (step3 sha256 (now bytes) q)) (nIn (now bytes)) (now boxes) (now lens) ⌝ }
-    ensures { λ r. ⌜ (r ≤ length (now (inbox .exit))) × (take r (now (inbox .exit)) ≡ firstInbox sha256 (now (bytes .entry)) i) ⌝ }
-{
-    let n = parts.n;
-    let mut at: usize = 0;
-    let mut p: usize = 0;
-    while p < n {
-        p += 1;
-        at = first_entry(bytes, parts, boxes, lens, p, i, inbox, at);
-    }
-    at
+    let mail = Mail {
+        n: parts.n,
+        good: parts.good,
+        size: way.size,
+        whole: way.whole,
+    };
+    let at = way.at;
+    buffer::value_of(exchange::fill(mail, slots, lens, &bytes[at..], i, out))
 }
 
 // An inbox before anything stands in it, in a function of its own: its callers' proofs then meet its length and not its bytes.
 fn blank_inbox() -> [u8; MAX_INBOX]
-    ensures { λ r. ⌜ length r ≡ maxInbox ⌝ }
+    ensures { λ r. ⌜ length r ≡ inboxRoom ⌝ }
 {
     [0; MAX_INBOX]
 }
@@ -687,15 +605,20 @@ fn relayed(
 ) -> Step
     requires { ⌜ Ready (now bytes) parts × (now root ≡ agreedRoot sha256 (now bytes)) × (bit ≡ agreedBit sha256 (now bytes))
         × (1 ≤ q) × (q ≤ nIn (now bytes)) × (length (now boxes) ≡ maxParties * maxOutbox) × (length (now lens) ≡ maxParties)
-        × Slots (now bytes) maxOutbox (λ p. wroteIn (step3 sha256 (now bytes) p)) (nIn (now bytes)) (now boxes) (now lens)
+        × Slots (goodIn (now bytes)) maxOutbox (λ p. wroteIn (step3 sha256 (now bytes) p)) (nIn (now bytes)) (now boxes) (now lens)
         × (now out ≡ replicate maxPacket 0) ⌝ }
     ensures { λ r. ⌜ stepped r (now (out .exit)) ≡ step4 sha256 (now (bytes .entry)) q ⌝ }
 {
     let mut outbox = [0u8; MAX_OUTBOX];
     let Step { state, .. } = dealt(bytes, parts, root, bit, q, &mut outbox);
-    let mut inbox = blank_inbox();
-    let len = first_inbox(bytes, parts, boxes, lens, q, &mut inbox);
-    state.take_shares(&inbox[..len], out)
+    let way = Way {
+        at: parts.first,
+        size: MAX_OUTBOX,
+        whole: false,
+    };
+    let mut room = blank_inbox();
+    let len = inbox(bytes, parts, way, boxes, lens, q, &mut room);
+    state.take_shares(&room[..len], out)
 }
 
 // Party q's relay, in its slot; its length.
@@ -712,7 +635,7 @@ fn relay(
 ) -> usize
     requires { ⌜ Ready (now bytes) parts × (now root ≡ agreedRoot sha256 (now bytes)) × (bit ≡ agreedBit sha256 (now bytes))
         × (1 ≤ q) × (q ≤ nIn (now bytes)) × (length (now boxes) ≡ maxParties * maxOutbox) × (length (now lens) ≡ maxParties)
-        × Slots (now bytes) maxOutbox (λ p. wroteIn (step3 sha256 (now bytes) p)) (nIn (now bytes)) (now boxes) (now lens)
+        × Slots (goodIn (now bytes)) maxOutbox (λ p. wroteIn (step3 sha256 (now bytes) p)) (nIn (now bytes)) (now boxes) (now lens)
         × (at + maxPacket ≤ length (now relays)) ⌝ }
     ensures { λ r. ⌜ (r ≡ length (wroteIn (step4 sha256 (now (bytes .entry)) q))) × (r ≤ maxPacket)
         × (now (relays .exit) ≡ spliced (now (relays .entry)) at (wroteIn (step4 sha256 (now (bytes .entry)) q))) ⌝ }
@@ -735,9 +658,9 @@ fn relay_all(
 )
     requires { ⌜ Ready (now bytes) parts × (now root ≡ agreedRoot sha256 (now bytes)) × (bit ≡ agreedBit sha256 (now bytes))
         × (length (now boxes) ≡ maxParties * maxOutbox) × (length (now lens) ≡ maxParties)
-        × Slots (now bytes) maxOutbox (λ p. wroteIn (step3 sha256 (now bytes) p)) (nIn (now bytes)) (now boxes) (now lens)
+        × Slots (goodIn (now bytes)) maxOutbox (λ p. wroteIn (step3 sha256 (now bytes) p)) (nIn (now bytes)) (now boxes) (now lens)
         × (length (now relays) ≡ maxParties * maxPacket) × (length (now sizes) ≡ maxParties) ⌝ }
-    ensures { λ _. ⌜ Slots (now (bytes .entry)) maxPacket (λ p. wroteIn (step4 sha256 (now (bytes .entry)) p)) (nIn (now (bytes .entry)))
+    ensures { λ _. ⌜ Slots (goodIn (now (bytes .entry))) maxPacket (λ p. wroteIn (step4 sha256 (now (bytes .entry)) p)) (nIn (now (bytes .entry)))
         (now (relays .exit)) (now (sizes .exit))
         × (length (now (relays .exit)) ≡ maxParties * maxPacket) × (length (now (sizes .exit)) ≡ maxParties) ⌝ }
 {
@@ -747,91 +670,12 @@ fn relay_all(
     let mut p: usize = 0;
     while p < n {
         let q = p + 1;
-        if is_good(good, q) {
+        if plan::names(good, q) {
             sizes[p] = relay(bytes, parts, root, bit, boxes, lens, q, relays, at);
         }
         at += MAX_PACKET;
         p = q;
     }
-}
-
-// What party p sends to party i in the second exchange, at the start of out; its length.
-fn second_sent(
-    bytes: &[u8],
-    parts: Plan,
-    relays: &[u8],
-    sizes: &[usize],
-    p: usize,
-    i: usize,
-    out: &mut [u8],
-) -> usize
-    requires { ⌜ Ready (now bytes) parts × (1 ≤ p) × (p ≤ nIn (now bytes))
-        × (length (now relays) ≡ maxParties * maxPacket) × (length (now sizes) ≡ maxParties) × (maxEntry ≤ 2 + length (now out))
-        × Slots (now bytes) maxPacket (λ q. wroteIn (step4 sha256 (now bytes) q)) (nIn (now bytes)) (now relays) (now sizes) ⌝ }
-    ensures { λ r. ⌜ (r ≡ length (secondFrom sha256 (now (bytes .entry)) i p)) × (r < 65536)
-        × (now (out .exit) ≡ spliced (now (out .entry)) 0 (secondFrom sha256 (now (bytes .entry)) i p)) ⌝ }
-{
-    if p == i {
-        return 0;
-    }
-    let good = parts.good;
-    if is_good(good, p) {
-        let j = p - 1;
-        let from = j * MAX_PACKET;
-        let len = sizes[j];
-        let end = from + len;
-        buffer::put(out, 0, &relays[from..end]);
-        return len;
-    }
-    let second = parts.second;
-    length_of(plan::packet(&bytes[second..], parts.n, good, p, i, out))
-}
-
-// Its entry in party i's inbox; the place behind it.
-fn second_entry(
-    bytes: &[u8],
-    parts: Plan,
-    relays: &[u8],
-    sizes: &[usize],
-    p: usize,
-    i: usize,
-    inbox: &mut [u8],
-    at: usize,
-) -> usize
-    requires { ⌜ Ready (now bytes) parts × (1 ≤ p) × (p ≤ nIn (now bytes))
-        × (length (now relays) ≡ maxParties * maxPacket) × (length (now sizes) ≡ maxParties) × (at + maxEntry ≤ length (now inbox))
-        × Slots (now bytes) maxPacket (λ q. wroteIn (step4 sha256 (now bytes) q)) (nIn (now bytes)) (now relays) (now sizes) ⌝ }
-    ensures { λ r. ⌜ (r ≡ at + length (entryOf (secondFrom sha256 (now (bytes .entry)) i p))) × (r ≤ at + maxEntry)
-        × (now (inbox .exit) ≡ spliced (now (inbox .entry)) at (entryOf (secondFrom sha256 (now (bytes .entry)) i p))) ⌝ }
-{
-    let from = at + 2;
-    let len = second_sent(bytes, parts, relays, sizes, p, i, &mut inbox[from..]);
-    head(inbox, at, len)
-}
-
-// Party i's second inbox; its length.
-fn second_inbox(
-    bytes: &[u8],
-    parts: Plan,
-    relays: &[u8],
-    sizes: &[usize],
-    i: usize,
-    inbox: &mut [u8],
-) -> usize
-    requires { ⌜ Ready (now bytes) parts
-        × (length (now relays) ≡ maxParties * maxPacket) × (length (now sizes) ≡ maxParties)
-        × (length (now inbox) ≡ maxInbox)
-        × Slots (now bytes) maxPacket (λ q. wroteIn (step4 sha256 (now bytes) q)) (nIn (now bytes)) (now relays) (now sizes) ⌝ }
-    ensures { λ r. ⌜ (r ≤ length (now (inbox .exit))) × (take r (now (inbox .exit)) ≡ secondInbox sha256 (now (bytes .entry)) i) ⌝ }
-{
-    let n = parts.n;
-    let mut at: usize = 0;
-    let mut p: usize = 0;
-    while p < n {
-        p += 1;
-        at = second_entry(bytes, parts, relays, sizes, p, i, inbox, at);
-    }
-    at
 }
 
 // Party q after step 5, its message in out.
@@ -849,15 +693,20 @@ fn ended(
 ) -> Ended
     requires { ⌜ Ready (now bytes) parts × (now root ≡ agreedRoot sha256 (now bytes)) × (bit ≡ agreedBit sha256 (now bytes))
         × (1 ≤ q) × (q ≤ nIn (now bytes)) × (length (now boxes) ≡ maxParties * maxOutbox) × (length (now lens) ≡ maxParties)
-        × Slots (now bytes) maxOutbox (λ p. wroteIn (step3 sha256 (now bytes) p)) (nIn (now bytes)) (now boxes) (now lens)
+        × Slots (goodIn (now bytes)) maxOutbox (λ p. wroteIn (step3 sha256 (now bytes) p)) (nIn (now bytes)) (now boxes) (now lens)
         × (length (now relays) ≡ maxParties * maxPacket) × (length (now sizes) ≡ maxParties)
-        × Slots (now bytes) maxPacket (λ p. wroteIn (step4 sha256 (now bytes) p)) (nIn (now bytes)) (now relays) (now sizes)
+        × Slots (goodIn (now bytes)) maxPacket (λ p. wroteIn (step4 sha256 (now bytes) p)) (nIn (now bytes)) (now relays) (now sizes)
         × (now out ≡ replicate maxMessage 0) ⌝ }
     ensures { λ r. ⌜ ended r (now (out .exit)) ≡ step5 sha256 (now (bytes .entry)) q ⌝ }
 {
     let mut relay = [0u8; MAX_PACKET];
     let Step { state, .. } = relayed(bytes, parts, root, bit, boxes, lens, q, &mut relay);
-    let mut inbox = blank_inbox();
-    let len = second_inbox(bytes, parts, relays, sizes, q, &mut inbox);
-    state.take_relays(&inbox[..len], out)
+    let way = Way {
+        at: parts.second,
+        size: MAX_PACKET,
+        whole: true,
+    };
+    let mut room = blank_inbox();
+    let len = inbox(bytes, parts, way, relays, sizes, q, &mut room);
+    state.take_relays(&room[..len], out)
 }

@@ -52,14 +52,14 @@ keep-requires c κs = λ e.
     let st = Entry d in
     bit-long sha256 (S st) (B st) (Out st) (sym (ap (λ (g : Stepped). g .cause) (gives d)) ∙ sym (k .written-cause .ensures) ∙ e)
 
-written-value-requires : tie.Need-written-value-requires
-written-value-requires c κs = search needs
+value-of-requires : tie.Need-value-of-requires
+value-of-requires c κs = search needs
 
 pack-requires : tie.Need-pack-requires
 pack-requires c κs = let k = c .before .before .before .before .before in
     let d = k .before .before .before .before in
     let st = Entry d in
-    rw (c .written-value .ensures ∙ ap (λ (g : Stepped). g .value) (gives d)) (bit-small sha256 sha256-length (stateOf (S st)) (B st) (Out st))
+    rw (c .value-of .ensures ∙ ap (λ (g : Stepped). g .value) (gives d)) (bit-small sha256 sha256-length (stateOf (S st)) (B st) (Out st))
 
 same-length : tie.Need-same-length
 same-length c = search needs
@@ -74,8 +74,8 @@ returns c = let v = c .before in
     let k = p .before .before in
     let d = k .before .before .before .before in
     let st = Entry d in
-    step-told (S st) _ (O d) (k .written-cause .result) (v .written-value .result) _ (c .pack .ensures) (d .agree-bit .result)
-    (agreeBitOf sha256 (stateOf (S st)) (B st) (Out st)) (gives d) (k .written-cause .ensures) (v .written-value .ensures) (p .keep .ensures)
+    step-told (S st) _ (O d) (k .written-cause .result) (v .value-of .result) _ (c .pack .ensures) (d .agree-bit .result)
+    (agreeBitOf sha256 (stateOf (S st)) (B st) (Out st)) (gives d) (k .written-cause .ensures) (v .value-of .ensures) (p .keep .ensures)
 
 pub cipangohu-agree-bit-spec : {M : Type 1} → statement M
 cipangohu-agree-bit-spec =
@@ -85,7 +85,7 @@ cipangohu-agree-bit-spec =
     agree-bit-requires
     written-cause-requires
     keep-requires
-    written-value-requires
+    value-of-requires
     pack-requires
     same-length
     same-length-2

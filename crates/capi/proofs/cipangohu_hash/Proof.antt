@@ -45,12 +45,12 @@ give-requires c κs = search needs
 written-cause-requires : tie.Need-written-cause-requires
 written-cause-requires c κs = search needs
 
-written-value-requires : tie.Need-written-value-requires
-written-value-requires c κs = search needs
+value-of-requires : tie.Need-value-of-requires
+value-of-requires c κs = search needs
 
 pack-requires-2 : tie.Need-pack-requires-2
 pack-requires-2 c κs = let g = c .before .before .before .before in
-    rw (c .written-value .ensures ∙ ap (λ (y : Given). y .value) (g .give .ensures))
+    rw (c .value-of .ensures ∙ ap (λ (y : Given). y .value) (g .give .ensures))
     (digest-small (D g .hash .result .digest) (Entry (D g) .args .out .now) (long (D g)))
 
 same-length : tie.Need-same-length
@@ -63,10 +63,10 @@ returns-2 c = let v = c .before in
     let e = g .before .before .before in
     let d = D g in
     let a = Entry d .args in
-    given-told (g .give .last .1 .0) (k .written-cause .result) (v .written-value .result) _ (g .give .result)
+    given-told (g .give .last .1 .0) (k .written-cause .result) (v .value-of .result) _ (g .give .result)
     (written (hashOf (a .message .now) .digest) (a .out .now)) (c .pack2 .ensures)
     (g .give .ensures ∙ ap (λ (h : Hashed). written (h .digest) (a .out .now)) (d .hash .ensures)) (k .written-cause .ensures)
-    (v .written-value .ensures)
+    (v .value-of .ensures)
     ∙ sym (hash-given (a .message .now) (a .out .now) (sym (ap (λ (h : Hashed). h .cause) (d .hash .ensures)) ∙ e .before .if1 .left))
 
 pub cipangohu-hash-spec : {M : Type 1} → statement M
@@ -79,7 +79,7 @@ cipangohu-hash-spec =
     slice-aggregate-give
     give-requires
     written-cause-requires
-    written-value-requires
+    value-of-requires
     pack-requires-2
     same-length
     returns-2)

@@ -52,14 +52,14 @@ keep-requires c κs = λ e.
     let st = Entry d in
     shares-long sha256 (S st) (I st) (Out st) (sym (ap (λ (g : Stepped). g .cause) (gives d)) ∙ sym (k .written-cause .ensures) ∙ e)
 
-written-value-requires : tie.Need-written-value-requires
-written-value-requires c κs = search needs
+value-of-requires : tie.Need-value-of-requires
+value-of-requires c κs = search needs
 
 pack-requires : tie.Need-pack-requires
 pack-requires c κs = let k = c .before .before .before .before .before in
     let d = k .before .before .before .before in
     let st = Entry d in
-    rw (c .written-value .ensures ∙ ap (λ (g : Stepped). g .value) (gives d)) (shares-small sha256 sha256-length (stateOf (S st)) (I st) (Out st))
+    rw (c .value-of .ensures ∙ ap (λ (g : Stepped). g .value) (gives d)) (shares-small sha256 sha256-length (stateOf (S st)) (I st) (Out st))
 
 same-length : tie.Need-same-length
 same-length c = search needs
@@ -74,8 +74,8 @@ returns c = let v = c .before in
     let k = p .before .before in
     let d = k .before .before .before .before in
     let st = Entry d in
-    step-told (S st) _ (O d) (k .written-cause .result) (v .written-value .result) _ (c .pack .ensures) (d .take-shares .result)
-    (takeSharesOf sha256 (stateOf (S st)) (I st) (Out st)) (gives d) (k .written-cause .ensures) (v .written-value .ensures) (p .keep .ensures)
+    step-told (S st) _ (O d) (k .written-cause .result) (v .value-of .result) _ (c .pack .ensures) (d .take-shares .result)
+    (takeSharesOf sha256 (stateOf (S st)) (I st) (Out st)) (gives d) (k .written-cause .ensures) (v .value-of .ensures) (p .keep .ensures)
 
 pub cipangohu-take-shares-spec : {M : Type 1} → statement M
 cipangohu-take-shares-spec =
@@ -85,7 +85,7 @@ cipangohu-take-shares-spec =
     take-shares-requires
     written-cause-requires
     keep-requires
-    written-value-requires
+    value-of-requires
     pack-requires
     same-length
     same-length-2

@@ -17,7 +17,7 @@ use Rattle.merkle.proofs.Slots.{path-read}
 use Rattle.packet.specs.Format.{packetOf}
 use Rattle.packet.specs.Answer.{writeOf}
 use Rattle.packet.proofs.Reading.{count-hashes}
-use Rattle.packet.proofs.Slices.{length-part, part-ends}
+use Rattle.buffer.proofs.Parts.{length-part, part-ends}
 use Rattle.packet.proofs.Writing.{cause-fine, write-written}
 use Rattle.commitment.proofs.Shared.{share-inside}
 use Rattle.commitment.proofs.Outbox.{never-refused}

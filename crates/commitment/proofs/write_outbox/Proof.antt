@@ -8,10 +8,10 @@ use lib.ListN.{length, take, drop, length-drop}
 use Rattle.sha256.specs.Sha256.{sha256}
 use Rattle.buffer.specs.Splice.{spliced}
 use Rattle.buffer.proofs.Splice.{spliced-none}
-use Rattle.packet.proofs.Slices.{length-part, part-ends, part-rest}
+use Rattle.buffer.proofs.Parts.{length-part, part-ends, part-rest, tail-spliced}
 use Rattle.commitment.specs.Private.{entryWith, entryFor, outboxUpTo}
 use Rattle.commitment.proofs.Shared.{share-inside}
-use Rattle.commitment.proofs.Outbox.{outbox-none, outbox-length, outbox-grows, outbox-spliced, tail-spliced}
+use Rattle.commitment.proofs.Outbox.{outbox-none, outbox-length, outbox-grows, outbox-spliced}
 use Rattle.commitment.proofs.write_outbox.Statement.{statement}
 use Rattle.commitment.proofs.write_outbox.Tie as tie
 

@@ -15,7 +15,7 @@ use Rattle.packet.specs.Answer.{placed}
 use Rattle.packet.proofs.Path.{padded, path-there, length-hashes}
 use Rattle.packet.proofs.Reading.{Lies, lies-of, at-read}
 use Rattle.packet.proofs.Verdict.{passes-take, told-true, told-false}
-use Rattle.packet.proofs.Slices.{length-part, part-ends}
+use Rattle.buffer.proofs.Parts.{length-part, part-ends}
 use Rattle.party.proofs.Valid.{class-unread, class-other, class-failed, class-passed, lies-part}
 use borrow.Author.Needs.{needs}
 use Rattle.sha256.specs.Sha256.{sha256}

@@ -9,7 +9,7 @@ use Rattle.limits.specs.Limits.{maxMessage}
 use Rattle.buffer.specs.Entries.{size}
 use Rattle.plan.specs.Layout.{longBook}
 use Rattle.plan.proofs.Maps.{unhalved, halved, named, unnamed}
-use Rattle.plan.proofs.Places.{entry-rest}
+use Rattle.buffer.proofs.Places.{entry-rest}
 use Rattle.plan.proofs.Walks.{long-end, long-unnamed, long-found, long-later}
 use borrow.Author.Needs.{needs}
 use Rattle.plan.proofs.long_book.Statement.{statement}

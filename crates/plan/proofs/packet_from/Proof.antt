@@ -9,7 +9,7 @@ use lib.ListN.{length, drop}
 use lib.Seq.{drop-drop}
 use Rattle.plan.specs.Layout.{under, packetFrom}
 use Rattle.plan.proofs.Maps.{unhalved, halved, named, unnamed}
-use Rattle.plan.proofs.Places.{drop-min}
+use Rattle.buffer.proofs.Places.{drop-min}
 use Rattle.plan.proofs.Blocks.{packet-end, packet-good, packet-found, packet-later}
 use borrow.Author.Needs.{needs}
 use Rattle.plan.proofs.packet_from.Statement.{statement}

@@ -8,7 +8,7 @@ use lib.ListN.{length, drop}
 use Rattle.buffer.specs.Entries.{size}
 use Rattle.plan.specs.Layout.{under}
 use Rattle.plan.proofs.Maps.{unhalved, halved, named, unnamed}
-use Rattle.plan.proofs.Places.{entry-rest, entry-body}
+use Rattle.buffer.proofs.Places.{entry-rest, entry-body}
 use Rattle.plan.proofs.Walks.{under-end, under-unnamed, under-found, under-later}
 use borrow.Author.Needs.{needs}
 use Rattle.plan.proofs.under.Statement.{statement}

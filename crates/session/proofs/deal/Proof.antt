@@ -6,7 +6,7 @@ use Rattle.sha256.specs.Sha256.{sha256}
 use Rattle.buffer.specs.Splice.{spliced}
 use Rattle.party.specs.Steps.{Stepped}
 use Rattle.session.specs.Session.{maxOutbox, wroteIn, step3}
-use Rattle.session.proofs.ExchangeSent.{step3-room, wrote-short}
+use Rattle.session.proofs.Wrote.{step3-room, wrote-short}
 use borrow.Author.Needs.{needs}
 use Rattle.session.proofs.deal.Statement.{statement}
 use Rattle.session.proofs.deal.Tie as tie

@@ -11,7 +11,7 @@ use Rattle.buffer.specs.Splice.{spliced}
 use Rattle.buffer.specs.Given.{causeOf, valueOf}
 use Rattle.buffer.specs.declared.Written.{Written}
 use Rattle.buffer.proofs.Splice.{put-fits, spliced-none}
-use Rattle.session.proofs.ExchangeSent.{wrote-none}
+use Rattle.session.proofs.Wrote.{wrote-none}
 use borrow.Author.Needs.{needs}
 use Rattle.session.proofs.keep.Statement.{statement}
 use Rattle.session.proofs.keep.Tie as tie

@@ -35,10 +35,10 @@ long : (k : tie.After-put-lines) → length (O k) ≡ maxText
 long k = k .put-lines .kept .1 .1 .1 .1 .1 .1 .1 .1 .0 ∙ Entry (Deals (Relays k)) .pre .3
 
 -- the last line, behind them
-last : (c : tie.After-length-of) → let a = c .before .before .before .before .before in
+last : (c : tie.After-value-of) → let a = c .before .before .before .before .before in
     let p = Lines (a .before) in
     let w = sentLine (a .sent-all .result) in
-    (c .length-of .result ≤ maxLine) × (c .length-of .result ≡ length w)
+    (c .value-of .result ≤ maxLine) × (c .value-of .result ≡ length w)
     × (take (p .put-lines .result) (O p) ++ (c .before .before .before .sent-line .last .1 .0
     ++ drop (length (O p) - p .put-lines .result) (drop (p .put-lines .result) (O p))) ≡ spliced (O p) (p .put-lines .result) w)
 last c =
@@ -50,7 +50,7 @@ last c =
     let x = a .sent-all .result in
     let g = given-at o (sentLine x) at (f .sent-line .result) _ (omega (arith, sent-short x, p .put-lines .ensures .0))
     (f .sent-line .ensures ∙ sent-written x (take (length o - at) (drop at o))) in
-    let e = c .length-of .ensures ∙ g .0 in
+    let e = c .value-of .ensures ∙ g .0 in
     (omega (arith, e, sent-short x), e, g .1)
 
 slice-aggregate-deal-all : tie.Need-slice-aggregate-deal-all
@@ -120,8 +120,8 @@ part-sent-line-end c = search needs
 sent-line-requires : tie.Need-sent-line-requires
 sent-line-requires c κs = search needs
 
-length-of-requires : tie.Need-length-of-requires
-length-of-requires c κs = search needs
+value-of-requires : tie.Need-value-of-requires
+value-of-requires c κs = search needs
 
 add-result : tie.Need-add-result
 add-result c =
@@ -142,7 +142,7 @@ returns c =
     let y = last c in
     let z = p .put-lines .ensures in (
       omega (arith, y .0, z .0, y .1, ap length (y .2), length-spliced o at (sentLine x) (omega (arith, y .0, y .1, z .0))),
-      take-behind o _ (sentLine x) at (c .length-of .result) (omega (arith, z .0)) (y .1) (y .2)
+      take-behind o _ (sentLine x) at (c .value-of .result) (omega (arith, z .0)) (y .1) (y .2)
           ∙ output-is sha256 (st .args .bytes .now) (take at o) x (z .1) (a .sent-all .ensures),
     )
 
@@ -171,7 +171,7 @@ play-spec =
     part-sent-line-start
     part-sent-line-end
     sent-line-requires
-    length-of-requires
+    value-of-requires
     add-result
     same-length
     returns)

@@ -6,7 +6,7 @@ use Rattle.sha256.specs.Sha256.{sha256}
 use Rattle.buffer.specs.Splice.{spliced}
 use Rattle.party.specs.Steps.{Stepped}
 use Rattle.session.specs.Session.{maxPacket, wroteIn, step4}
-use Rattle.session.proofs.ExchangeSent.{step4-room, wrote-short}
+use Rattle.session.proofs.Wrote.{step4-room, wrote-short}
 use borrow.Author.Needs.{needs}
 use Rattle.session.proofs.relay.Statement.{statement}
 use Rattle.session.proofs.relay.Tie as tie

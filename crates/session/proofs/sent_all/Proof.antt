@@ -40,12 +40,12 @@ plan : (st : tie.Start Inv-loop μ-loop) → Known (S st) (st .args .parts)
 plan st = known (S st) (st .args .parts) (st .pre .0)
 
 -- whether the party of this turn is good
-named : (c : tie.After-is-good Inv-loop μ-loop) (b : Bool) → let l = c .before .before in c .is-good .result ≡ b
+named : (c : tie.After-names Inv-loop μ-loop) (b : Bool) → let l = c .before .before in c .names .result ≡ b
     → isGood (S (Entry l)) (P l + 1) ≡ b
 named c b h =
     let l = c .before .before in
     let st = Entry l in
-    sym (good-named (S st) (st .args .parts) (plan st) (P l + 1) (c .is-good .result) (c .is-good .ensures)) ∙ h
+    sym (good-named (S st) (st .args .parts) (plan st) (P l + 1) (c .names .result) (c .names .ensures)) ∙ h
 
 loop-holds : tie.Need-loop-holds Inv-loop μ-loop
 loop-holds c =
@@ -56,8 +56,8 @@ loop-holds c =
 add-p : tie.Need-add-p Inv-loop μ-loop
 add-p c = search needs
 
-is-good-requires : tie.Need-is-good-requires Inv-loop μ-loop
-is-good-requires c κs = search needs
+names-requires : tie.Need-names-requires Inv-loop μ-loop
+names-requires c κs = search needs
 
 sent-by-requires : tie.Need-sent-by-requires Inv-loop μ-loop
 sent-by-requires c κs =
@@ -123,7 +123,7 @@ sent-all-spec =
     μ-loop
     loop-holds
     add-p
-    is-good-requires
+    names-requires
     sent-by-requires
     add-sum
     loop-less

@@ -10,12 +10,12 @@ use lib.ListN.{length, getD, take, drop, length-take}
 use Rattle.limits.specs.Limits.{maxParties}
 use Rattle.sha256.specs.Sha256.{sha256}
 use Rattle.buffer.specs.Entries.{bodies}
-use Rattle.packet.proofs.Slices.{part-ends}
+use Rattle.buffer.proofs.Parts.{part-ends}
 use Rattle.agreement.specs.Calls.{lengths}
-use Rattle.plan.specs.Layout.{nIn}
+use Rattle.plan.specs.Layout.{nIn, goodIn}
 use Rattle.session.specs.Session.{isGood, maxPacket, maxOutbox, wroteIn, agreedBit, step3, step4}
 use Rattle.session.proofs.Rule.{Known, known}
-use Rattle.session.proofs.ExchangeSlots.{slot-of}
+use Rattle.exchange.proofs.Slots.{slot-of}
 use Rattle.session.proofs.Sums.{sent-is}
 use borrow.Author.Needs.{needs}
 use Rattle.session.proofs.sent_by.Statement.{statement}
@@ -48,7 +48,7 @@ slot : (st : tie.Start)
     → (Len st ≤ maxOutbox) × (take (Len st) (drop ((Q st - 1) * maxOutbox) (st .args .boxes .now)) ≡ wroteIn (step3 sha256 (S st) (Q st)))
 slot st =
     let a = st .args in
-    slot-of (S st) maxOutbox (λ q. wroteIn (step3 sha256 (S st) q)) (nIn (S st)) (Q st) (a .boxes .now) (a .lens .now)
+    slot-of (goodIn (S st)) maxOutbox (λ q. wroteIn (step3 sha256 (S st) q)) (nIn (S st)) (Q st) (a .boxes .now) (a .lens .now)
     (st .pre .1 .slots) (st .pre .3) (st .pre .4) (st .pre .5)
 
 relay : (st : tie.Start) → (Size st ≤ maxPacket)

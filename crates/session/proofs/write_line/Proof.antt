@@ -22,8 +22,8 @@ part-line-end c = search needs
 line-requires : tie.Need-line-requires
 line-requires c κs = search needs
 
-length-of-requires : tie.Need-length-of-requires
-length-of-requires c κs = search needs
+value-of-requires : tie.Need-value-of-requires
+value-of-requires c κs = search needs
 
 same-length : tie.Need-same-length
 same-length c = search needs
@@ -39,7 +39,7 @@ returns c =
     let w : List ℕ = line (a .q) (a .some) m in
     let g = given-at o w (a .at) (f .line .result) _ (omega (arith, short, st .pre .1))
     (f .line .ensures ∙ line-written (a .q) (a .some) m (take (length o - a .at) (drop (a .at) o)) (st .pre .0)) in
-    (c .length-of .ensures ∙ g .0, omega (arith, c .length-of .ensures, g .0, short), g .1)
+    (c .value-of .ensures ∙ g .0, omega (arith, c .value-of .ensures, g .0, short), g .1)
 
 pub write-line-spec : {M : Type 1} → statement M
 write-line-spec =
@@ -49,6 +49,6 @@ write-line-spec =
     part-line-start
     part-line-end
     line-requires
-    length-of-requires
+    value-of-requires
     same-length
     returns)

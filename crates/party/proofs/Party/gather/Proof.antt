@@ -22,7 +22,7 @@ use Rattle.party.specs.Private.{ClassIs}
 use Rattle.party.specs.declared.Placed.{Placed}
 use Rattle.party.specs.declared.Placed.the-variants.{Nowhere, At as Found}
 use Rattle.party.proofs.Walk.{picked, picked-gathered, picked-none, picked-own, picked-missed, picked-held, found-bounds}
-use Rattle.packet.proofs.Slices.{part-ends}
+use Rattle.buffer.proofs.Parts.{part-ends}
 use Rattle.party.proofs.Walk.{bodyAt, bodiesAfter, entry-behind}
 use borrow.Author.Needs.{needs}
 use Rattle.sha256.specs.Sha256.{sha256}

@@ -26,7 +26,7 @@ use Rattle.party.specs.declared.Placed.the-variants.{Nowhere, At}
 use Rattle.party.specs.declared.Stage.the-variants.{Second}
 use Rattle.party.proofs.Causes.{state-fit, inbox-sound}
 use Rattle.party.proofs.Outcomes.{shares-refused, shares-happy, shares-taken, writes-nothing, writes-done, writes-short}
-use Rattle.packet.proofs.Slices.{length-part, part-ends}
+use Rattle.buffer.proofs.Parts.{length-part, part-ends}
 use Rattle.party.proofs.Kept.{put-padded, length-message, waiting-kept}
 use Rattle.party.proofs.Silence.{relay-mail}
 use Rattle.party.proofs.Taking.{passed, write-taken, taken-none, Got, got-of}

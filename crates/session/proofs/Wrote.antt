@@ -1,85 +1,22 @@
--- What a party sends to another in an exchange, by whether it is that party itself, good or bad; and how much a step wrote. By the tests of the
--- definitions. Assumes nothing.
-use mathlib.Core.Path.{_≡_, refl, ap, _∙_}
+-- How much a step wrote, and what, by its answer. By the tests of the definitions. Assumes nothing.
+use mathlib.Core.Path.{_≡_, refl}
 use mathlib.Core.Bool.{Bool, true, false, cond, not}
 use mathlib.Core.List.{List, [], _∷_}
-use Prim.Native.Nat.{ℕ, _≤_, _<_}
+use Prim.Native.Nat.{ℕ, _≤_}
 use native.Mathlib.Omega.{arith}
-use borrow.Author.Tests.{eqb-true, eq-eqb, ne-eqb, ltb-false}
+use borrow.Author.Tests.{eqb-true, ltb-false}
 use types.Run.{OneOf}
 use denote.Enum.Declared.{tagOf}
 use lib.Dec.{ltb, eqb}
 use lib.ListN.{length, take, replicate, length-take, length-replicate}
-use Rattle.limits.specs.Limits.{maxParties}
-use Rattle.buffer.specs.Splice.{spliced}
-use Rattle.buffer.specs.Given.{Given, gave, causeOf, valueOf, written}
+use Rattle.buffer.specs.Given.{causeOf, valueOf}
 use Rattle.buffer.specs.declared.Written.{Written}
 use Rattle.buffer.specs.declared.Written.the-variants as given
 use Rattle.buffer.proofs.Written.{the-type as written-type}
-use Rattle.buffer.proofs.Given.{written-done}
 use Rattle.party.specs.Steps.{Stepped, writes, refused, bitCause, outboxOf, agreeBitOf, inboxCause, relayOf, takeSharesOf}
 use Rattle.party.specs.declared.Party.{Party}
 use Rattle.commitment.proofs.Answers.{not-done}
-use Rattle.agreement.specs.Calls.{entry}
-use Rattle.plan.specs.Layout.{packetFrom, nIn, goodIn, firstIn, secondIn}
-use Rattle.plan.specs.Plan.{bookOf, packetOf}
-use Rattle.plan.proofs.Given.{book-given, packet-given}
-use Rattle.session.specs.Session.{maxPacket, maxOutbox, wroteIn, isGood, step2, agreedBit, step3, firstFrom, firstInbox, step4, secondFrom}
-use Rattle.session.proofs.ExchangePlan.{entry-under}
-
-module _ (H : List ℕ → List ℕ) (s : List ℕ) (i p : ℕ) where
-  pub first-self : p ≡ i → firstFrom H s i p ≡ []
-  unfolding firstFrom
-  first-self e = rw (eq-eqb p i e)
-
-  pub second-self : p ≡ i → secondFrom H s i p ≡ []
-  unfolding secondFrom
-  second-self e = rw (eq-eqb p i e)
-
-  module _ (other : p ≡ i → ⊥) where
-    pub first-good : isGood s p ≡ true → firstFrom H s i p ≡ entry (nIn s) i (wroteIn (step3 H s p))
-    unfolding firstFrom
-    first-good g = rw (ne-eqb p i other, g)
-
-    pub first-bad : isGood s p ≡ false → firstFrom H s i p ≡ packetFrom (nIn s) 1 (nIn s) (goodIn s) p i (firstIn s)
-    unfolding firstFrom
-    first-bad g = rw (ne-eqb p i other, g)
-
-    pub second-good : isGood s p ≡ true → secondFrom H s i p ≡ wroteIn (step4 H s p)
-    unfolding secondFrom
-    second-good g = rw (ne-eqb p i other, g)
-
-    pub second-bad : isGood s p ≡ false → secondFrom H s i p ≡ packetFrom (nIn s) 1 (nIn s) (goodIn s) p i (secondIn s)
-    unfolding secondFrom
-    second-bad g = rw (ne-eqb p i other, g)
-
--- a packet f at the start of the buffer, and its length
-pub record Sent (r : ℕ) (o out f : List ℕ) : Type 0 where
-  pub length-is : r ≡ length f
-  pub short : r < 65536
-  pub there : o ≡ spliced out 0 f
-
-sent-done : (f out : List ℕ) (a : Written) (o : List ℕ) → length f < 65536 → gave a o ≡ gave (given.Done (length f)) (spliced out 0 f)
-    → Sent (valueOf a) o out f
-sent-done f out a o short e =
-    let l : valueOf a ≡ length f = ap (λ (g : Given). g .value) e in
-    record { length-is = l; short = omega arith; there = ap (λ (g : Given). g .buffer) e }
-
-module _ (n : ℕ) (low : 1 ≤ n) (high : n ≤ maxParties) (out : List ℕ) (room : 65535 ≤ length out) (a : Written) (o : List ℕ) where
-  -- an entry of an outbox, read as a book
-  pub book-sent : (i : ℕ) (w : List ℕ) → 1 ≤ i → length (entry n i w) < 65536 → gave a o ≡ bookOf n 65535 i w out
-      → Sent (valueOf a) o out (entry n i w)
-  book-sent i w first short e =
-      sent-done (entry n i w) out a o short
-      (e ∙ book-given n 65535 i w out low high
-      ∙ ap (λ (x : List ℕ). written x out) (entry-under n i w high first)
-      ∙ written-done (entry n i w) out (omega arith))
-
-  pub packet-sent : (g p i : ℕ) (x : List ℕ) → length (packetFrom n 1 n g p i x) < 65536 → gave a o ≡ packetOf n g p i x out
-      → Sent (valueOf a) o out (packetFrom n 1 n g p i x)
-  packet-sent g p i x short e =
-      sent-done (packetFrom n 1 n g p i x) out a o short
-      (e ∙ packet-given n g p x out low i high ∙ written-done (packetFrom n 1 n g p i x) out (omega arith))
+use Rattle.session.specs.Session.{maxPacket, maxOutbox, wroteIn, step2, agreedBit, step3, firstInbox, step4}
 
 -- a step that is accepted wrote no more than the buffer holds
 writes-room : (x next : Party) (bs out : List ℕ) → writes x next bs out .cause ≡ 0 → writes x next bs out .value ≤ length out

@@ -1,12 +1,14 @@
 -- Entries of an inbox as they are written: a length put before its packet, and an entry put behind those before it. Assumes nothing.
 use mathlib.Core.Path.{_≡_, refl, sym, ap, ap₂, _∙_}
 use mathlib.Core.List.{List, [], _∷_, _++_, append-assoc}
-use Prim.Native.Nat.{ℕ, _+_, _/_, _%_, _≤_}
+use Prim.Native.Nat.{ℕ, _+_, _/_, _%_, _≤_, _<_}
+use native.Mathlib.Nat.{zero-add}
 use native.Mathlib.Numerals.{add-one}
 use native.Mathlib.Omega.{arith}
 use lib.ListN.{length, take, drop, length-append}
-use lib.Seq.{length-take-le, take-append-le, take-take, take-at, drop-at}
+use lib.Seq.{length-take-le, take-append-le, take-take, drop-at}
 use Rattle.buffer.specs.Splice.{spliced, tabulate}
+use Rattle.buffer.proofs.Splice.{spliced-more}
 use Rattle.packet.specs.Format.{entryOf}
 use Rattle.packet.specs.Inbox.{inboxOf}
 use Rattle.packet.proofs.Inbox.{inbox-more}
@@ -27,12 +29,14 @@ spliced-before d at h p inside =
     (sym (append-assoc h p back) ∙ ap (λ (k : ℕ). (h ++ p) ++ drop k d) both)
 
 -- a length before its packet
-pub entry-headed : (o : List ℕ) (at len : ℕ) (w o' : List ℕ) → at + 2 ≤ length o → len ≡ length w → o' ≡ spliced o (at + 2) w
-    → spliced o' at (len / 256 ∷ len % 256 ∷ []) ≡ spliced o at (entryOf w)
+pub entry-headed : (o w : List ℕ) (len : ℕ) → 2 ≤ length o → len ≡ length w → len < 65536
+    → spliced (spliced o 2 w) 0 (len / 256 % 256 ∷ len % 256 ∷ []) ≡ spliced o 0 (entryOf w)
 unfolding entryOf
-entry-headed o at len w o' inside e q =
-    ap₂ (λ (x : List ℕ) (k : ℕ). spliced x at (k / 256 ∷ k % 256 ∷ [])) q e
-    ∙ spliced-before o at (length w / 256 ∷ length w % 256 ∷ []) w inside
+entry-headed o w len inside e short =
+    let high : len / 256 % 256 ≡ len / 256 = omega arith in
+    ap (λ (k : ℕ). spliced (spliced o 2 w) 0 (k ∷ len % 256 ∷ [])) high
+    ∙ ap (λ (k : ℕ). spliced (spliced o 2 w) 0 (k / 256 ∷ k % 256 ∷ [])) e
+    ∙ spliced-before o 0 (length w / 256 ∷ length w % 256 ∷ []) w inside
 
 -- the inbox of the packets f 0, f 1, .., so far
 module _ (f : ℕ → List ℕ) where
@@ -40,16 +44,14 @@ module _ (f : ℕ → List ℕ) where
   unfolding tabulate inboxOf
   inbox-none = refl
 
-  pub inbox-next : (k at r : ℕ) (o o' : List ℕ) → take at o ≡ inboxOf (tabulate k f) → at ≤ length o
-      → r ≡ at + length (entryOf (f k)) → o' ≡ spliced o at (entryOf (f k)) → take r o' ≡ inboxOf (tabulate (k + 1) f)
-  unfolding tabulate spliced
-  inbox-next k at r o o' old inside er eo =
-      let e : List ℕ = entryOf (f k) in
-      let back : List ℕ = drop (at + length e) o in
-      let front : List ℕ = take at o ++ e in
-      let long : length front ≡ r = omega (arith, length-append (take at o) e, length-take-le at o inside) in
-      ap (take r) (eo ∙ sym (append-assoc (take at o) e back))
-      ∙ take-at front back r long
-      ∙ ap (λ (l : List ℕ). l ++ e) old
-      ∙ sym (inbox-more (tabulate k f) (f k))
-      ∙ ap (λ (i : ℕ). inboxOf (tabulate i f)) (sym (add-one k))
+  pub inbox-next : (k : ℕ) → inboxOf (tabulate (k + 1) f) ≡ inboxOf (tabulate k f) ++ entryOf (f k)
+  unfolding tabulate
+  inbox-next k = ap (λ (i : ℕ). inboxOf (tabulate i f)) (add-one k) ∙ inbox-more (tabulate k f) (f k)
+
+  -- an entry written behind those before it
+  pub inbox-written : (k at : ℕ) (o o' : List ℕ) → at ≡ length (inboxOf (tabulate k f)) → at ≤ length o
+      → o' ≡ spliced (spliced o 0 (inboxOf (tabulate k f))) at (entryOf (f k)) → o' ≡ spliced o 0 (inboxOf (tabulate (k + 1) f))
+  inbox-written k at o o' e inside w =
+      let x : List ℕ = inboxOf (tabulate k f) in
+      w ∙ ap (λ (i : ℕ). spliced (spliced o 0 x) i (entryOf (f k))) (e ∙ sym (zero-add (length x)))
+      ∙ spliced-more o 0 x (entryOf (f k)) (omega arith) ∙ ap (spliced o 0) (sym (inbox-next k))

@@ -1,0 +1,4 @@
+pub mod Sending
+pub mod Slots
+pub mod Writing
+pub mod Rooms
