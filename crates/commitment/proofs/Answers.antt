@@ -11,4 +11,3 @@ use Rattle.buffer.proofs.Written.{the-type as written-type}
 -- an answer that is not Done
 pub not-done : (r : Written) (k : ℕ) → r ≡ given.Done k → OneOf (0 ∷ 1 ∷ []) (tagOf written-type r) → ⊥
 not-done r k e h = miss (0 ∷ 1 ∷ []) 2 tt (subst (λ (y : Written). OneOf (0 ∷ 1 ∷ []) (tagOf written-type y)) e h)
-

@@ -131,11 +131,7 @@ impl Party {
             share: [0; MAX_SHARE],
             held: 0,
         };
-        Opened {
-            state,
-            cause,
-            root,
-        }
+        Opened { state, cause, root }
     }
 
     // Step 2: the agreed root comes; the answer is this party's bit for the second short agreement.
@@ -280,8 +276,15 @@ impl Party {
         let root = self.root;
         let len = self.len;
         let message = self.message;
-        let Sent { happy, answer } =
-            commitment::send(relays, self.n, self.t, self.own, &message[..len], &root, out);
+        let Sent { happy, answer } = commitment::send(
+            relays,
+            self.n,
+            self.t,
+            self.own,
+            &message[..len],
+            &root,
+            out,
+        );
         Tried {
             happy,
             step: Step {

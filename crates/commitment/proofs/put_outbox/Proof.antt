@@ -45,9 +45,15 @@ write-outbox-requires : tie.Need-write-outbox-requires
 write-outbox-requires c κs =
     let e = c .before in
     let o = e .before in
-    let st = Entry o in
-    (st .pre .0, st .pre .1, st .pre .2, st .pre .3, omega (arith, st .pre .4), st .pre .6,
-    omega (arith, counted o, e .if1 .left))
+    let st = Entry o in (
+      st .pre .0,
+      st .pre .1,
+      st .pre .2,
+      st .pre .3,
+      omega (arith, st .pre .4),
+      st .pre .6,
+      omega (arith, counted o, e .if1 .left),
+    )
 
 same-length : tie.Need-same-length
 same-length c = search needs

@@ -153,10 +153,11 @@ sized s =
     let q = Coding s in
     let e = q .before in
     let a = Entry (e .before) .args in
-    let c = within e in
-    (omega (arith, q .code .ensures .2, share-some (a .n) (a .t) (a .message .now) c),
-    omega (arith, q .code .ensures .2, share-fits (a .n) (a .t) (a .message .now) c),
-    all q ∙ q .code .ensures .3)
+    let c = within e in (
+      omega (arith, q .code .ensures .2, share-some (a .n) (a .t) (a .message .now) c),
+      omega (arith, q .code .ensures .2, share-fits (a .n) (a .t) (a .message .now) c),
+      all q ∙ q .code .ensures .3,
+    )
 
 nodes-are : (s : tie.Else2) → let r = s .before .before .before in let l = Leaves r in
     r .before .before .before .nodes .result ≡ nodesOf sha256 (Entry (Coding s .before .before) .args .n) (l .leaves .result)
