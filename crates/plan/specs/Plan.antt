@@ -2,7 +2,7 @@
 -- parties' roots and bits, not here. Assumes nothing.
 use mathlib.Core.Bool.{false, cond, not, _||_}
 use mathlib.Core.List.{List}
-use Prim.Native.Nat.{ℕ, _+_, _-_}
+use Prim.Native.Nat.{ℕ, _+_}
 use lib.Dec.{ltb, eqb}
 use lib.ListN.{length}
 use Rattle.limits.specs.Limits.{maxMessage, maxPlan, parties, groupCause}

@@ -13,7 +13,7 @@ use limits::MAX_MESSAGE;
 use limits::MAX_PLAN;
 
 // The bytes of a map of parties.
-const MAP: usize = 2;
+pub const MAP: usize = 2;
 
 // A plan's parts: n, t, whether a root and a bit are given, the map of good parties, and where the books and the two exchanges start. The
 // cause is 0 if the plan is taken; else all parts are 0.

@@ -3,6 +3,7 @@ pub mod Played
 pub mod Rule
 pub mod Wrote
 pub mod Inboxes
+pub mod States
 pub mod Sums
 pub mod Text
 pub mod Shown

@@ -57,7 +57,7 @@ use Rattle.plan.proofs.Accepted.{Accepted, accepted as plan-taken, lowest-named
 use Rattle.exchange.specs.Exchange.{sentTo, inboxTo}
 use Rattle.exchange.proofs.Sending.{sent-good}
 use Rattle.report.specs.Output.{sentLine}
-use Rattle.session.specs.Session.{maxPacket, maxOutbox, wroteIn, orNothing, lineWith, isGood, messageOf, lowestGood, opened, agreedRoot, step2, agreedBit}
+use Rattle.session.specs.Session.{maxOutbox, wroteIn, orNothing, lineWith, isGood, messageOf, lowestGood, opened, agreedRoot, step2, agreedBit}
 use Rattle.session.specs.Session.{sameRoots, sameBits, unlawful, sessionCause, step3, firstInbox, step4, secondInbox, step5}
 use Rattle.session.specs.Session.{endsWith, sentOf, linesFrom, sentFrom, output, callsOf, goodParty, goodParties}
 use Rattle.session.proofs.Parties.{named, party-in, apart, bad-count, sum-of}
@@ -282,13 +282,13 @@ module _ (H : List ℕ → List ℕ) (wide : (x : List ℕ) → length (H x) ≡
       filled f = ap (λ (k : ℕ). fills k (inboxOf (tabulate n f))) (sym (length-tabulate n f)) ∙ inbox-fills (tabulate n f)
 
       abbrev room4 : List ℕ
-      room4 = replicate maxPacket 0
+      room4 = replicate maxOutbox 0
 
       cause-4 : step4 H s p .cause ≡ 0
       unfolding step4 firstInbox inboxTo atFirst
       cause-4 =
           let fits : length (relayOf H X2 (firstInbox H s p)) ≤ length room4 =
-          omega (arith, relay-fits H wide n t p m z c one last (firstInbox H s p), length-replicate {A = ℕ} maxPacket 0) in
+          omega (arith, relay-fits H wide n t p m z c one last (firstInbox H s p), length-replicate {A = ℕ} maxOutbox 0) in
           ap (λ (x : Party). steps.takeSharesOf H x (firstInbox H s p) room4 .cause) waits
           ∙ shares-accepted H X2 (first-whole n t p (c .low) (c .high) (c .faults) one last m (c .short) z) (firstInbox H s p) room4 turn-first
           (filled (λ k. firstFrom p (k + 1))) fits
@@ -334,8 +334,8 @@ module _ (H : List ℕ → List ℕ) (wide : (x : List ℕ) → length (H x) ≡
     E4 =
         record {
           before = step3 H s p .state;
-          call = takeShares (firstInbox H s p) (replicate maxPacket 0);
-          reply = made H (step3 H s p .state) (takeShares (firstInbox H s p) (replicate maxPacket 0));
+          call = takeShares (firstInbox H s p) (replicate maxOutbox 0);
+          reply = made H (step3 H s p .state) (takeShares (firstInbox H s p) (replicate maxOutbox 0));
         }
 
     abbrev E5 : Event

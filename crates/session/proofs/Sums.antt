@@ -15,11 +15,12 @@ use Rattle.sha256.specs.Sha256.{sha256}
 use Rattle.buffer.specs.Entries.{size, body, rest, bodies}
 use Rattle.buffer.proofs.Entries.{bodies-more}
 use Rattle.buffer.proofs.Rows.{row-inside}
+use Rattle.party.specs.declared.Party.{Party}
 use Rattle.agreement.specs.Calls.{lengths}
 use Rattle.plan.specs.Layout.{nIn, goodIn}
 use Rattle.exchange.specs.Exchange.{Slots}
-use Rattle.session.specs.Session.{isGood, maxPacket, wroteIn, agreedBit, step3, step4, sentOf, sentFrom}
-use Rattle.session.specs.Private.{Relayed, Sizes}
+use Rattle.session.specs.Session.{isGood, maxOutbox, wroteIn, agreedBit, step3, step4, sentOf, sentFrom}
+use Rattle.session.specs.Private.{States, Relayed, Sizes}
 
 -- the bytes of n packets: of none, and of a list with no packet left
 none-left : (n : ℕ) (s : List ℕ) → length s < 2 → lengths (bodies n s) ≡ 0
@@ -94,13 +95,13 @@ module _ (H : List ℕ → List ℕ) (s : List ℕ) where
     sent-bad g = rw (e, g) (zero-add (sentFrom H s j (p + 1)))
 
 -- the lengths of the relays: none on bit 0, and else those of what stands in the slots
-module _ (s : List ℕ) (few : nIn s ≤ maxParties) (relays sizes : List ℕ) (long : length relays ≡ maxParties * maxPacket) where
-  pub relays-none : agreedBit sha256 s ≡ 0 → sizes ≡ replicate maxParties 0 → Relayed s relays sizes × Sizes s sizes
+module _ (s : List ℕ) (few : nIn s ≤ maxParties) (relays sizes : List ℕ) (long : length relays ≡ maxParties * maxOutbox) (l : List Party) where
+  pub relays-none : agreedBit sha256 s ≡ 0 → sizes ≡ replicate maxParties 0 → Relayed s relays sizes l × Sizes s sizes
   relays-none h e =
-      let l : length sizes ≡ maxParties = ap length e ∙ length-replicate {A = ℕ} maxParties 0 in (
-        record { relays-long = long; sizes-long = l; slots = λ k. absurd (k h) },
+      let k : length sizes ≡ maxParties = ap length e ∙ length-replicate {A = ℕ} maxParties 0 in (
+        record { relays-long = long; sizes-long = k; slots = λ w. absurd (w h); states = λ w. absurd (w h) },
         record {
-          sizes-long = l;
+          sizes-long = k;
           lengths-are = λ j i g.
               let z : getD sizes j 0 ≡ 0 = ap (λ (x : List ℕ). getD x j 0) e ∙ getD-replicate maxParties j 0 0 (omega arith) in (
                 omega arith,
@@ -110,16 +111,16 @@ module _ (s : List ℕ) (few : nIn s ≤ maxParties) (relays sizes : List ℕ) (
         },
       )
 
-  pub relays-all : (agreedBit sha256 s ≡ 0 → ⊥) → length sizes ≡ maxParties
-      → Slots (goodIn s) maxPacket (λ p. wroteIn (step4 sha256 s p)) (nIn s) relays sizes → Relayed s relays sizes × Sizes s sizes
-  relays-all h l all = (
-    record { relays-long = long; sizes-long = l; slots = λ k. all },
+  pub relays-all : (agreedBit sha256 s ≡ 0 → ⊥) → length sizes ≡ maxParties → States s (λ p. step4 sha256 s p .state) 0 (nIn s) l
+      → Slots (goodIn s) maxOutbox (λ p. wroteIn (step4 sha256 s p)) (nIn s) relays sizes → Relayed s relays sizes l × Sizes s sizes
+  relays-all h k st all = (
+    record { relays-long = long; sizes-long = k; slots = λ w. all; states = λ w. st },
     record {
-      sizes-long = l;
+      sizes-long = k;
       lengths-are = λ j i g.
           let w = all j i g in
-          let z = length-take-le (getD sizes j 0) (drop (j * maxPacket) relays)
-          (omega (arith, w .0, length-drop (j * maxPacket) relays, row-inside maxParties j maxPacket (omega arith), long)) in (
+          let z = length-take-le (getD sizes j 0) (drop (j * maxOutbox) relays)
+          (omega (arith, w .0, length-drop (j * maxOutbox) relays, row-inside maxParties j maxOutbox (omega arith), long)) in (
             w .0,
             sym z ∙ ap length (w .1) ∙ ap (λ (b : Bool). cond b 0 (length (wroteIn (step4 sha256 s (j + 1)))))
                 (sym (ne-eqb (agreedBit sha256 s) 0 h)),

@@ -2,13 +2,14 @@
 use mathlib.Core.Path.{_≡_, refl}
 use mathlib.Core.Bool.{Bool, true, false, cond, not}
 use mathlib.Core.List.{List, [], _∷_}
-use Prim.Native.Nat.{ℕ, _≤_}
+use Prim.Native.Nat.{ℕ, zero, suc, _≤_}
 use native.Mathlib.Omega.{arith}
 use borrow.Author.Tests.{eqb-true, ltb-false}
 use types.Run.{OneOf}
 use denote.Enum.Declared.{tagOf}
 use lib.Dec.{ltb, eqb}
 use lib.ListN.{length, take, replicate, length-take, length-replicate}
+use Rattle.sha256.specs.Sha256.{sha256}
 use Rattle.buffer.specs.Given.{causeOf, valueOf}
 use Rattle.buffer.specs.declared.Written.{Written}
 use Rattle.buffer.specs.declared.Written.the-variants as given
@@ -16,7 +17,8 @@ use Rattle.buffer.proofs.Written.{the-type as written-type}
 use Rattle.party.specs.Steps.{Stepped, writes, refused, bitCause, outboxOf, agreeBitOf, inboxCause, relayOf, takeSharesOf}
 use Rattle.party.specs.declared.Party.{Party}
 use Rattle.commitment.proofs.Answers.{not-done}
-use Rattle.session.specs.Session.{maxPacket, maxOutbox, wroteIn, step2, agreedBit, step3, firstInbox, step4}
+use Rattle.session.specs.Session.{maxOutbox, wroteIn, step2, agreedBit, step3, firstInbox, step4}
+use Rattle.session.specs.Private.{stepOf}
 
 -- a step that is accepted wrote no more than the buffer holds
 writes-room : (x next : Party) (bs out : List ℕ) → writes x next bs out .cause ≡ 0 → writes x next bs out .value ≤ length out
@@ -43,19 +45,25 @@ module _ (H : List ℕ → List ℕ) where
   shares-room x inbox out = stepped-room (not (eqb (inboxCause 4 x inbox) 0)) x _ (inboxCause 4 x inbox) (relayOf H x inbox) out
 
   module _ (s : List ℕ) (q : ℕ) where
-    pub step3-room : step3 H s q .cause ≡ 0 → step3 H s q .value ≤ maxOutbox
+    step3-room : step3 H s q .cause ≡ 0 → step3 H s q .value ≤ maxOutbox
     unfolding step3
     step3-room e =
         omega (arith, bit-room (step2 H s q .state) (agreedBit H s) (replicate maxOutbox 0) e, length-replicate {A = ℕ} maxOutbox 0)
 
-    pub step4-room : step4 H s q .cause ≡ 0 → step4 H s q .value ≤ maxPacket
+    step4-room : step4 H s q .cause ≡ 0 → step4 H s q .value ≤ maxOutbox
     unfolding step4
     step4-room e =
         omega (
           arith,
-          shares-room (step3 H s q .state) (firstInbox H s q) (replicate maxPacket 0) e,
-          length-replicate {A = ℕ} maxPacket 0,
+          shares-room (step3 H s q .state) (firstInbox H s q) (replicate maxOutbox 0) e,
+          length-replicate {A = ℕ} maxOutbox 0,
         )
+
+-- the step in which a party writes for an exchange, 0 or 1
+pub step-room : (e : ℕ) (s : List ℕ) (q : ℕ) → stepOf e s q .cause ≡ 0 → stepOf e s q .value ≤ maxOutbox
+unfolding stepOf
+step-room zero s q = step3-room sha256 s q
+step-room (suc e) s q = step4-room sha256 s q
 
 -- what it wrote, by its answer
 pub wrote-short : (r : Stepped) (m : ℕ) → (r .cause ≡ 0 → r .value ≤ m) → length (wroteIn r) ≤ m

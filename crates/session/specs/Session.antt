@@ -14,7 +14,7 @@ use Rattle.merkle.specs.Shares.{same}
 use Rattle.party.specs.State.{Result, nothing, settled}
 use Rattle.party.specs.Steps.{openOf, Ballot, agreeRootOf, Stepped, agreeBitOf, takeSharesOf, Ending, takeRelaysOf}
 use Rattle.party.specs.declared.Opened.{Opened}
-pub use Rattle.commitment.specs.Rooms.{maxPacket, maxOutbox}
+pub use Rattle.commitment.specs.Rooms.{maxOutbox}
 use Rattle.agreement.specs.Calls.{Call, agreeRoot, agreeBit, takeShares, takeRelays, lengths}
 use Rattle.agreement.specs.Agreement.{Good}
 use Rattle.plan.specs.Layout.{names, under, unnamed, lowest, nIn, tIn, hasRoot, hasBit, rootIn, bitIn, goodIn, booksIn, exchangeIn}
@@ -44,6 +44,10 @@ messageOf s p = under (nIn s) 1 (goodIn s) p (booksIn s)
 
 abbrev pub lowestGood : List ℕ → ℕ
 lowestGood s = lowest (nIn s) 1 (goodIn s)
+
+-- in exchange 0 parties send packets of their outboxes, and in exchange 1 all that they wrote, their relays
+abbrev pub wholeIn : ℕ → Bool
+wholeIn e = not (eqb e 0)
 
 module _ (H : List ℕ → List ℕ) (s : List ℕ) where
   -- step 1, and the agreed root: the given one, or that of the lowest-numbered good party
@@ -79,24 +83,23 @@ module _ (H : List ℕ → List ℕ) (s : List ℕ) where
   unfoldable pub sessionCause : ℕ
   sessionCause = cond (not (eqb (planCause s) 0)) (planCause s) (cond unlawful 14 0)
 
-  -- step 3
+  -- step 3, and the first inbox
   unfoldable pub step3 : ℕ → Stepped
   step3 p = agreeBitOf H (step2 p .state) agreedBit (replicate maxOutbox 0)
 
   -- party i's inbox of exchange e, where parties wrote these
-  abbrev pub inboxIn : ℕ → Bool → (ℕ → List ℕ) → ℕ → List ℕ
-  inboxIn e whole wrote i = inboxTo (nIn s) (goodIn s) whole wrote (exchangeIn e s) i
+  abbrev pub inboxIn : ℕ → (ℕ → List ℕ) → ℕ → List ℕ
+  inboxIn e wrote i = inboxTo (nIn s) (goodIn s) (wholeIn e) wrote (exchangeIn e s) i
 
-  -- in the first exchange parties send packets of their outboxes
   unfoldable pub firstInbox : ℕ → List ℕ
-  firstInbox i = inboxIn 0 false (λ p. wroteIn (step3 p)) i
+  firstInbox i = inboxIn 0 (λ p. wroteIn (step3 p)) i
 
-  -- step 4, and the second exchange, in which they send relays to all
+  -- step 4, and the second inbox
   unfoldable pub step4 : ℕ → Stepped
-  step4 p = takeSharesOf H (step3 p .state) (firstInbox p) (replicate maxPacket 0)
+  step4 p = takeSharesOf H (step3 p .state) (firstInbox p) (replicate maxOutbox 0)
 
   unfoldable pub secondInbox : ℕ → List ℕ
-  secondInbox i = inboxIn 1 true (λ p. wroteIn (step4 p)) i
+  secondInbox i = inboxIn 1 (λ p. wroteIn (step4 p)) i
 
   -- step 5
   unfoldable pub step5 : ℕ → Ending
@@ -139,7 +142,7 @@ module _ (H : List ℕ → List ℕ) (s : List ℕ) where
   callsOf p =
       agreeRoot agreedRoot ∷ agreeBit agreedBit (replicate maxOutbox 0)
       ∷ cond (eqb agreedBit 0) []
-      (takeShares (firstInbox p) (replicate maxPacket 0) ∷ takeRelays (secondInbox p) (replicate maxMessage 0) ∷ [])
+      (takeShares (firstInbox p) (replicate maxOutbox 0) ∷ takeRelays (secondInbox p) (replicate maxMessage 0) ∷ [])
 
   abbrev pub goodParty : ℕ → Good
   goodParty p = record { own = p; message = messageOf s p; calls = callsOf p }

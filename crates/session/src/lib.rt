@@ -1,10 +1,10 @@
 // A rehearsal: a plan played by the parties themselves, and what it prints.
 ghost use mathlib.Core.Path.{_≡_};
 ghost use mathlib.Core.Bool.{true, cond};
-ghost use mathlib.Core.List.{[], _∷_};
+ghost use mathlib.Core.List.{[]};
 ghost use Prim.Native.Nat.{_+_, _*_, _/_, _%_, _≤_, _<_};
 ghost use lib.Dec.{eqb};
-ghost use lib.ListN.{length, take, drop, replicate};
+ghost use lib.ListN.{length, take, replicate};
 ghost use Rattle.sha256.specs.Sha256.{sha256};
 ghost use Rattle.limits.specs.Limits.{maxParties, maxMessage};
 ghost use Rattle.buffer.specs.Splice.{spliced};
@@ -12,16 +12,15 @@ ghost use Rattle.buffer.specs.Entries.{bodies};
 ghost use Rattle.buffer.specs.Given.{causeOf, valueOf, gave};
 ghost use Rattle.party.specs.Steps.{voted, bitIn, stepped, resultGiven, ended};
 ghost use Rattle.agreement.specs.Calls.{lengths};
-ghost use Rattle.plan.specs.Layout.{unnamed, lowest, nIn, goodIn};
+ghost use Rattle.plan.specs.Layout.{unnamed, lowest, nIn, goodIn, exchangeIn};
 ghost use Rattle.exchange.specs.Exchange.{inboxTo, slotOf, Slots};
 ghost use Rattle.report.specs.Output.{line};
-ghost use Rattle.session.specs.Session.{maxPacket, maxOutbox, wroteIn, orNothing, lineWith, isGood, opened, agreedRoot, step2, agreedBit};
-ghost use Rattle.session.specs.Session.{sameRoots, sameBits, unlawful, step3, step4};
+ghost use Rattle.session.specs.Session.{maxOutbox, wroteIn, orNothing, lineWith, wholeIn, isGood, opened, agreedRoot, step2, agreedBit};
+ghost use Rattle.session.specs.Session.{sameRoots, sameBits, unlawful, step4};
 ghost use Rattle.session.specs.Session.{step5, endsWith, sentOf, linesFrom, sentFrom, output, rehearseOf, printOf};
-ghost use Rattle.session.specs.Private.{Ready, inboxRoom, maxLine, maxText, Dealt, Relayed, Sizes, lengthIn};
+ghost use Rattle.session.specs.Private.{Ready, Turned, stepOf, stateOf, States, Behind, inboxRoom, maxLine, maxText, Dealt, Relayed, Sizes, Finishing, lengthIn};
 use buffer::Written;
 use commitment::MAX_OUTBOX;
-use commitment::MAX_PACKET;
 use exchange::Mail;
 use limits::MAX_MESSAGE;
 use limits::MAX_PARTIES;
@@ -34,6 +33,7 @@ use party::Settled;
 use party::Step;
 use party::Vote;
 use party::Voted;
+use plan::MAP;
 use plan::Plan;
 
 // The greatest length of an inbox: the packets of bad parties stand in the plan, and one of a good party is no longer than an outbox.
@@ -44,10 +44,15 @@ const MAX_LINE: usize = 24 + 2 * MAX_MESSAGE;
 
 pub const MAX_TEXT: usize = (MAX_PARTIES + 1) * MAX_LINE;
 
-// Room for the outboxes of all parties, and for their relays.
+// Room for what all parties write for an exchange.
 const MAX_BOXES: usize = MAX_PARTIES * MAX_OUTBOX;
 
-const MAX_RELAYS: usize = MAX_PARTIES * MAX_PACKET;
+// A plan that is taken, the agreed bit, and an exchange for which parties write: 0, their outboxes, or 1, their relays.
+struct Turn {
+    parts: Plan,
+    bit: u8,
+    e: usize,
+}
 
 // The output of a plan in a lent buffer; causes 13, 1, 2, 13, 4, 14, and 9 where the buffer is shorter.
 pub fn rehearse(bytes: &[u8], out: &mut [u8]) -> Written
@@ -85,172 +90,119 @@ fn play(bytes: &[u8], parts: Plan, root: &Hash, bit: u8, text: &mut [u8]) -> usi
         × (length (now text) ≡ maxText) ⌝ }
     ensures { λ r. ⌜ (r ≤ length (now (text .exit))) × (take r (now (text .exit)) ≡ output sha256 (now (bytes .entry))) ⌝ }
 {
+    let voted = voted_all(bytes, parts, root);
     let mut boxes = [0u8; MAX_BOXES];
     let mut lens = [0usize; MAX_PARTIES];
-    deal_all(bytes, parts, root, bit, &mut boxes, &mut lens);
-    let mut relays = [0u8; MAX_RELAYS];
+    let first = Turn { parts, bit, e: 0 };
+    let dealt = round(bytes, first, voted, &[], &[], &mut boxes, &mut lens);
+    let mut relays = [0u8; MAX_BOXES];
     let mut sizes = [0usize; MAX_PARTIES];
-    relay_on_one(
-        bytes,
-        parts,
-        root,
-        bit,
-        &boxes,
-        &lens,
-        &mut relays,
-        &mut sizes,
-    );
-    let at = put_lines(
-        bytes,
-        parts,
-        root,
-        bit,
-        &boxes,
-        &lens,
-        &relays,
-        &sizes,
-        text,
-    );
+    let second = Turn { parts, bit, e: 1 };
+    let last = relay_on_one(bytes, second, dealt, &boxes, &lens, &mut relays, &mut sizes);
+    let at = put_lines(bytes, second, last, &relays, &sizes, text);
     let sent = sent_all(bytes, parts, &boxes, &lens, &sizes);
     at + buffer::value_of(report::sent_line(sent, &mut text[at..]))
 }
 
-// The relays of all good parties; none on bit 0.
+// The good parties after step 4, and their relays; on bit 0 they have ended, and there are none.
 fn relay_on_one(
     bytes: &[u8],
-    parts: Plan,
-    root: &Hash,
-    bit: u8,
+    turn: Turn,
+    states: [Party; MAX_PARTIES],
     boxes: &[u8],
     lens: &[usize],
     relays: &mut [u8],
     sizes: &mut [usize],
-)
-    requires { ⌜ Ready (now bytes) parts × (now root ≡ agreedRoot sha256 (now bytes)) × (bit ≡ agreedBit sha256 (now bytes))
-        × Dealt (now bytes) (now boxes) (now lens) × (length (now relays) ≡ maxParties * maxPacket)
+) -> [Party; MAX_PARTIES]
+    requires { ⌜ Turned (now bytes) turn × (turn .e ≡ 1) × States (now bytes) (stateOf 1 (now bytes)) 0 (nIn (now bytes)) states
+        × Dealt (now bytes) (now boxes) (now lens) × (length (now relays) ≡ maxParties * maxOutbox)
         × (now sizes ≡ replicate maxParties 0) ⌝ }
-    ensures { λ _. ⌜ Relayed (now (bytes .entry)) (now (relays .exit)) (now (sizes .exit))
+    ensures { λ r. ⌜ Relayed (now (bytes .entry)) (now (relays .exit)) (now (sizes .exit)) r
         × Sizes (now (bytes .entry)) (now (sizes .exit)) ⌝ }
 {
-    if bit == 0 {
-        return;
+    if turn.bit == 0 {
+        return states;
     }
-    relay_all(bytes, parts, root, bit, boxes, lens, relays, sizes);
+    round(bytes, turn, states, boxes, lens, relays, sizes)
 }
 
 // The good parties' lines; the place behind them.
 fn put_lines(
     bytes: &[u8],
-    parts: Plan,
-    root: &Hash,
-    bit: u8,
-    boxes: &[u8],
-    lens: &[usize],
+    turn: Turn,
+    states: [Party; MAX_PARTIES],
     relays: &[u8],
     sizes: &[usize],
     text: &mut [u8],
 ) -> usize
-    requires { ⌜ Ready (now bytes) parts × (now root ≡ agreedRoot sha256 (now bytes)) × (bit ≡ agreedBit sha256 (now bytes))
-        × Dealt (now bytes) (now boxes) (now lens) × Relayed (now bytes) (now relays) (now sizes) × (length (now text) ≡ maxText) ⌝ }
+    requires { ⌜ Turned (now bytes) turn × Relayed (now bytes) (now relays) (now sizes) states × (length (now text) ≡ maxText) ⌝ }
     ensures { λ r. ⌜ (r + maxLine ≤ length (now (text .exit)))
         × (take r (now (text .exit)) ≡ linesFrom sha256 (now (bytes .entry)) (nIn (now (bytes .entry))) 1) ⌝ }
 {
-    let n = parts.n;
+    let n = turn.parts.n;
+    let good = turn.parts.good;
     let mut at: usize = 0;
     let mut p: usize = 0;
     while p < n {
+        let state = states[p];
         p += 1;
-        if plan::names(parts.good, p) {
-            at += put_line(
-                bytes,
-                parts,
-                root,
-                bit,
-                boxes,
-                lens,
-                relays,
-                sizes,
-                p,
-                text,
-                at,
-            );
+        if plan::names(good, p) {
+            at += put_line(bytes, turn, state, relays, sizes, p, &mut text[at..]);
         }
     }
     at
 }
 
-// Party q's line at a place; its length.
+// Party q's line at the start of `text`; its length.
 fn put_line(
     bytes: &[u8],
-    parts: Plan,
-    root: &Hash,
-    bit: u8,
-    boxes: &[u8],
-    lens: &[usize],
+    turn: Turn,
+    state: Party,
     relays: &[u8],
     sizes: &[usize],
     q: usize,
     text: &mut [u8],
-    at: usize,
 ) -> usize
-    requires { ⌜ Ready (now bytes) parts × (now root ≡ agreedRoot sha256 (now bytes)) × (bit ≡ agreedBit sha256 (now bytes))
-        × Dealt (now bytes) (now boxes) (now lens) × Relayed (now bytes) (now relays) (now sizes)
-        × (1 ≤ q) × (q ≤ nIn (now bytes)) × (at + maxLine ≤ length (now text)) ⌝ }
+    requires { ⌜ Turned (now bytes) turn × Finishing (now bytes) (now relays) (now sizes) state q × (maxLine ≤ length (now text)) ⌝ }
     ensures { λ r. ⌜ (r ≡ length (lineWith q (endsWith sha256 (now (bytes .entry)) q))) × (r ≤ maxLine)
-        × (now (text .exit) ≡ spliced (now (text .entry)) at (lineWith q (endsWith sha256 (now (bytes .entry)) q))) ⌝ }
+        × (now (text .exit) ≡ spliced (now (text .entry)) 0 (lineWith q (endsWith sha256 (now (bytes .entry)) q))) ⌝ }
 {
     let mut message = [0u8; MAX_MESSAGE];
-    let result = result_of(
-        bytes,
-        parts,
-        root,
-        bit,
-        boxes,
-        lens,
-        relays,
-        sizes,
-        q,
-        &mut message,
-    );
+    let result = result_of(bytes, turn, state, relays, sizes, q, &mut message);
     let Settled::Message(len) = result else {
-        return write_line(q, false, &[], text, at);
+        return write_line(q, false, &[], text);
     };
-    write_line(q, true, &message[..len], text, at)
+    write_line(q, true, &message[..len], text)
 }
 
 // What party q ended with, its message in out. On bit 0 it ended in step 3, with nothing.
 fn result_of(
     bytes: &[u8],
-    parts: Plan,
-    root: &Hash,
-    bit: u8,
-    boxes: &[u8],
-    lens: &[usize],
+    turn: Turn,
+    state: Party,
     relays: &[u8],
     sizes: &[usize],
     q: usize,
     out: &mut [u8],
 ) -> Settled
-    requires { ⌜ Ready (now bytes) parts × (now root ≡ agreedRoot sha256 (now bytes)) × (bit ≡ agreedBit sha256 (now bytes))
-        × Dealt (now bytes) (now boxes) (now lens) × Relayed (now bytes) (now relays) (now sizes)
-        × (1 ≤ q) × (q ≤ nIn (now bytes)) × (now out ≡ replicate maxMessage 0) ⌝ }
+    requires { ⌜ Turned (now bytes) turn × Finishing (now bytes) (now relays) (now sizes) state q × (now out ≡ replicate maxMessage 0) ⌝ }
     ensures { λ r. ⌜ (lengthIn r ≤ maxMessage)
         × (orNothing (resultGiven r (now (out .exit))) ≡ endsWith sha256 (now (bytes .entry)) q) ⌝ }
 {
-    if bit == 0 {
+    if turn.bit == 0 {
         return Settled::Nothing;
     }
-    let Ended { answer, .. } = ended(bytes, parts, root, bit, boxes, lens, relays, sizes, q, out);
+    let Ended { answer, .. } = ended(bytes, turn.parts, state, relays, sizes, q, out);
     answer
 }
 
-// A line at a place; its length.
-fn write_line(q: usize, some: bool, message: &[u8], text: &mut [u8], at: usize) -> usize
-    requires { ⌜ (length (now message) ≤ maxMessage) × (at + maxLine ≤ length (now text)) ⌝ }
+// A line at the start of `text`; its length.
+fn write_line(q: usize, some: bool, message: &[u8], text: &mut [u8]) -> usize
+    requires { ⌜ (length (now message) ≤ maxMessage) × (maxLine ≤ length (now text)) ⌝ }
     ensures { λ r. ⌜ (r ≡ length (line q some (now (message .entry)))) × (r ≤ maxLine)
-        × (now (text .exit) ≡ spliced (now (text .entry)) at (line q some (now (message .entry)))) ⌝ }
+        × (now (text .exit) ≡ spliced (now (text .entry)) 0 (line q some (now (message .entry)))) ⌝ }
 {
-    buffer::value_of(report::line(q, some, message, &mut text[at..]))
+    buffer::value_of(report::line(q, some, message, text))
 }
 
 // The bytes that all good parties sent.
@@ -281,7 +233,7 @@ fn sent_by(
 ) -> usize
     requires { ⌜ Ready (now bytes) parts × Dealt (now bytes) (now boxes) (now lens) × Sizes (now bytes) (now sizes)
         × (1 ≤ q) × (q ≤ nIn (now bytes)) × (isGood (now bytes) q ≡ true) ⌝ }
-    ensures { λ r. ⌜ (r ≡ sentOf sha256 (now (bytes .entry)) q) × (r ≤ maxOutbox + maxParties * maxPacket) ⌝ }
+    ensures { λ r. ⌜ (r ≡ sentOf sha256 (now (bytes .entry)) q) × (r ≤ maxOutbox + maxParties * maxOutbox) ⌝ }
 {
     let n = parts.n;
     let j = q - 1;
@@ -415,8 +367,9 @@ fn agreed_bit(bytes: &[u8], parts: Plan, root: &Hash) -> u8
     ensures { λ r. ⌜ r ≡ agreedBit sha256 (now (bytes .entry)) ⌝ }
 {
     if parts.voted {
-        // A bit stands before the two bytes of the map.
-        let at = parts.books - 3;
+        // A bit stands before the map.
+        let map = parts.books - MAP;
+        let at = map - 1;
         return bytes[at];
     }
     let q = lowest_good(parts.n, parts.good);
@@ -487,101 +440,161 @@ fn unlawful(bytes: &[u8], parts: Plan, root: &Hash, bit: u8) -> bool
     false
 }
 
-// Party q after step 3, its outbox in out.
-fn dealt(bytes: &[u8], parts: Plan, root: &Hash, bit: u8, q: usize, out: &mut [u8]) -> Step
-    requires { ⌜ Ready (now bytes) parts × (now root ≡ agreedRoot sha256 (now bytes)) × (bit ≡ agreedBit sha256 (now bytes))
-        × (now out ≡ replicate maxOutbox 0) ⌝ }
-    ensures { λ r. ⌜ stepped r (now (out .exit)) ≡ step3 sha256 (now (bytes .entry)) q ⌝ }
-{
-    let Voted { state, .. } = ballot(bytes, parts, root, q);
-    state.agree_bit(bit, out)
+// A party, and how many bytes it wrote.
+struct Moved {
+    state: Party,
+    len: usize,
 }
 
-// What a step wrote, copied to its slot; its length, 0 where the step was turned away.
-fn keep(answer: Written, out: &[u8], slots: &mut [u8], at: usize) -> usize
-    requires { ⌜ (causeOf answer ≡ 0 → valueOf answer ≤ length (now out)) × (at + length (now out) ≤ length (now slots)) ⌝ }
-    ensures { λ r. ⌜ (r ≡ length (cond (eqb (causeOf answer) 0) (take (valueOf answer) (now (out .entry))) []))
-        × (now (slots .exit) ≡ spliced (now (slots .entry)) at (cond (eqb (causeOf answer) 0) (take (valueOf answer) (now (out .entry))) [])) ⌝ }
-{
-    let Written::Done(len) = answer else {
-        return 0;
-    };
-    buffer::put(slots, at, &out[..len]);
-    len
-}
-
-// Party q's outbox, in its slot; its length.
-fn deal(
-    bytes: &[u8],
-    parts: Plan,
-    root: &Hash,
-    bit: u8,
-    q: usize,
-    boxes: &mut [u8],
-    at: usize,
-) -> usize
-    requires { ⌜ Ready (now bytes) parts × (now root ≡ agreedRoot sha256 (now bytes)) × (bit ≡ agreedBit sha256 (now bytes))
-        × (at + maxOutbox ≤ length (now boxes)) ⌝ }
-    ensures { λ r. ⌜ (r ≡ length (wroteIn (step3 sha256 (now (bytes .entry)) q))) × (r ≤ maxOutbox)
-        × (now (boxes .exit) ≡ spliced (now (boxes .entry)) at (wroteIn (step3 sha256 (now (bytes .entry)) q))) ⌝ }
-{
-    let mut out = [0u8; MAX_OUTBOX];
-    let Step { answer, .. } = dealt(bytes, parts, root, bit, q, &mut out);
-    keep(answer, &out, boxes, at)
-}
-
-// The outboxes of all good parties, each in its slot, and their lengths.
-fn deal_all(bytes: &[u8], parts: Plan, root: &Hash, bit: u8, boxes: &mut [u8], lens: &mut [usize])
-    requires { ⌜ Ready (now bytes) parts × (now root ≡ agreedRoot sha256 (now bytes)) × (bit ≡ agreedBit sha256 (now bytes))
-        × (length (now boxes) ≡ maxParties * maxOutbox) × (length (now lens) ≡ maxParties) ⌝ }
-    ensures { λ _. ⌜ Slots (goodIn (now (bytes .entry))) maxOutbox (λ p. wroteIn (step3 sha256 (now (bytes .entry)) p)) (nIn (now (bytes .entry)))
-        (now (boxes .exit)) (now (lens .exit))
-        × (length (now (boxes .exit)) ≡ maxParties * maxOutbox) × (length (now (lens .exit)) ≡ maxParties) ⌝ }
+// The good parties after step 2.
+fn voted_all(bytes: &[u8], parts: Plan, root: &Hash) -> [Party; MAX_PARTIES]
+    requires { ⌜ Ready (now bytes) parts × (now root ≡ agreedRoot sha256 (now bytes)) ⌝ }
+    ensures { λ r. ⌜ States (now (bytes .entry)) (stateOf 0 (now (bytes .entry))) 0 (nIn (now (bytes .entry))) r ⌝ }
 {
     let n = parts.n;
     let good = parts.good;
-    let mut at: usize = 0;
+    let Voted { state, .. } = ballot(bytes, parts, root, 1);
+    let mut states = [state; MAX_PARTIES];
     let mut p: usize = 0;
     while p < n {
         let q = p + 1;
         if plan::names(good, q) {
-            lens[p] = deal(bytes, parts, root, bit, q, boxes, at);
+            let Voted { state: own, .. } = ballot(bytes, parts, root, q);
+            states[p] = own;
         }
-        at += MAX_OUTBOX;
         p = q;
     }
+    states
 }
 
-// An exchange of a plan: where its blocks start, the size of the slots in which lies what parties wrote, and whether that goes to all whole.
-struct Way {
-    at: usize,
-    size: usize,
-    whole: bool,
+// The good parties after the step in which they write for an exchange; what each wrote, in its slot, and its length.
+fn round(
+    bytes: &[u8],
+    turn: Turn,
+    before: [Party; MAX_PARTIES],
+    slots: &[u8],
+    lens: &[usize],
+    next: &mut [u8],
+    sizes: &mut [usize],
+) -> [Party; MAX_PARTIES]
+    requires { ⌜ Turned (now bytes) turn × (turn .e ≤ 1) × Behind (turn .e) (now bytes) (now slots) (now lens)
+        × States (now bytes) (stateOf (turn .e) (now bytes)) 0 (nIn (now bytes)) before
+        × (length (now next) ≡ maxParties * maxOutbox) × (length (now sizes) ≡ maxParties) ⌝ }
+    ensures { λ r. ⌜ States (now (bytes .entry)) (λ p. stepOf (turn .e) (now (bytes .entry)) p .state) 0 (nIn (now (bytes .entry))) r
+        × Slots (goodIn (now (bytes .entry))) maxOutbox (λ p. wroteIn (stepOf (turn .e) (now (bytes .entry)) p)) (nIn (now (bytes .entry)))
+        (now (next .exit)) (now (sizes .exit))
+        × (length (now (next .exit)) ≡ maxParties * maxOutbox) × (length (now (sizes .exit)) ≡ maxParties) ⌝ }
+{
+    let n = turn.parts.n;
+    let good = turn.parts.good;
+    let mut states = before;
+    let mut p: usize = 0;
+    while p < n {
+        let at = p * MAX_OUTBOX;
+        let q = p + 1;
+        if plan::names(good, q) {
+            let old = states[p];
+            let Moved { state, len } = kept(bytes, turn, old, slots, lens, q, &mut next[at..]);
+            sizes[p] = len;
+            states[p] = state;
+        }
+        p = q;
+    }
+    states
 }
 
-// Party i's inbox of an exchange; its length.
+// Party q after that step, and what it wrote, at the start of its slot.
+fn kept(
+    bytes: &[u8],
+    turn: Turn,
+    state: Party,
+    slots: &[u8],
+    lens: &[usize],
+    q: usize,
+    slot: &mut [u8],
+) -> Moved
+    requires { ⌜ Turned (now bytes) turn × (turn .e ≤ 1) × Behind (turn .e) (now bytes) (now slots) (now lens) × (1 ≤ q) × (q ≤ nIn (now bytes))
+        × (state ≡ stateOf (turn .e) (now bytes) q) × (maxOutbox ≤ length (now slot)) ⌝ }
+    ensures { λ r. ⌜ (r .state ≡ stepOf (turn .e) (now (bytes .entry)) q .state)
+        × (r .len ≡ length (wroteIn (stepOf (turn .e) (now (bytes .entry)) q))) × (r .len ≤ maxOutbox)
+        × (now (slot .exit) ≡ spliced (now (slot .entry)) 0 (wroteIn (stepOf (turn .e) (now (bytes .entry)) q))) ⌝ }
+{
+    let mut out = [0u8; MAX_OUTBOX];
+    let Step {
+        state: after,
+        answer,
+    } = step(bytes, turn, state, slots, lens, q, &mut out);
+    let len = keep(answer, &out, slot);
+    Moved { state: after, len }
+}
+
+// The step in which party q writes for an exchange, into out: its outbox, in step 3, or its relay, in step 4, on its first inbox.
+fn step(
+    bytes: &[u8],
+    turn: Turn,
+    state: Party,
+    slots: &[u8],
+    lens: &[usize],
+    q: usize,
+    out: &mut [u8],
+) -> Step
+    requires { ⌜ Turned (now bytes) turn × (turn .e ≤ 1) × Behind (turn .e) (now bytes) (now slots) (now lens) × (1 ≤ q) × (q ≤ nIn (now bytes))
+        × (state ≡ stateOf (turn .e) (now bytes) q) × (now out ≡ replicate maxOutbox 0) ⌝ }
+    ensures { λ r. ⌜ stepped r (now (out .exit)) ≡ stepOf (turn .e) (now (bytes .entry)) q ⌝ }
+{
+    if turn.e == 0 {
+        return state.agree_bit(turn.bit, out);
+    }
+    let mut room = blank_inbox();
+    let len = inbox(bytes, turn.parts, 0, slots, lens, q, &mut room);
+    state.take_shares(&room[..len], out)
+}
+
+// What a step wrote, copied to the start of its slot; its length, 0 where the step was turned away.
+fn keep(answer: Written, out: &[u8], slot: &mut [u8]) -> usize
+    requires { ⌜ (causeOf answer ≡ 0 → valueOf answer ≤ length (now out)) × (length (now out) ≤ length (now slot)) ⌝ }
+    ensures { λ r. ⌜ (r ≡ length (cond (eqb (causeOf answer) 0) (take (valueOf answer) (now (out .entry))) []))
+        × (now (slot .exit) ≡ spliced (now (slot .entry)) 0 (cond (eqb (causeOf answer) 0) (take (valueOf answer) (now (out .entry))) [])) ⌝ }
+{
+    let Written::Done(len) = answer else {
+        return 0;
+    };
+    buffer::put(slot, 0, &out[..len]);
+    len
+}
+
+// Where exchange e of a plan starts, 0 or 1.
+fn exchange_at(parts: Plan, e: usize) -> usize
+    ensures { λ r. ⌜ r ≡ cond (eqb e 0) (parts .first) (parts .second) ⌝ }
+{
+    if e == 0 {
+        return parts.first;
+    }
+    parts.second
+}
+
+// Party i's inbox of exchange e; its length.
 fn inbox(
     bytes: &[u8],
     parts: Plan,
-    way: Way,
+    e: usize,
     slots: &[u8],
     lens: &[usize],
     i: usize,
     out: &mut [u8],
 ) -> usize
-    requires { ⌜ Ready (now bytes) parts × (way .at ≤ length (now bytes)) × (way .size ≤ maxOutbox) × (1 ≤ i) × (i ≤ nIn (now bytes))
-        × (length (now out) ≡ inboxRoom) ⌝ }
+    requires { ⌜ Ready (now bytes) parts × (e ≤ 1) × (1 ≤ i) × (i ≤ nIn (now bytes)) × (length (now out) ≡ inboxRoom) ⌝ }
     ensures { λ r. ⌜ (r ≤ length (now (out .exit)))
-        × (take r (now (out .exit)) ≡ inboxTo (nIn (now (bytes .entry))) (goodIn (now (bytes .entry))) (way .whole)
-        (slotOf (way .size) (now (slots .entry)) (now (lens .entry))) (drop (way .at) (now (bytes .entry))) i) ⌝ }
+        × (take r (now (out .exit)) ≡ inboxTo (nIn (now (bytes .entry))) (goodIn (now (bytes .entry))) (wholeIn e)
+        (slotOf maxOutbox (now (slots .entry)) (now (lens .entry))) (exchangeIn e (now (bytes .entry))) i) ⌝ }
 {
     let mail = Mail {
         n: parts.n,
         good: parts.good,
-        size: way.size,
-        whole: way.whole,
+        size: MAX_OUTBOX,
+        whole: e != 0,
     };
-    let at = way.at;
+    let at = exchange_at(parts, e);
     buffer::value_of(exchange::fill(mail, slots, lens, &bytes[at..], i, out))
 }
 
@@ -592,121 +605,22 @@ fn blank_inbox() -> [u8; MAX_INBOX]
     [0; MAX_INBOX]
 }
 
-// Party q after step 4, its relay in out.
-fn relayed(
-    bytes: &[u8],
-    parts: Plan,
-    root: &Hash,
-    bit: u8,
-    boxes: &[u8],
-    lens: &[usize],
-    q: usize,
-    out: &mut [u8],
-) -> Step
-    requires { ⌜ Ready (now bytes) parts × (now root ≡ agreedRoot sha256 (now bytes)) × (bit ≡ agreedBit sha256 (now bytes))
-        × (1 ≤ q) × (q ≤ nIn (now bytes)) × (length (now boxes) ≡ maxParties * maxOutbox) × (length (now lens) ≡ maxParties)
-        × Slots (goodIn (now bytes)) maxOutbox (λ p. wroteIn (step3 sha256 (now bytes) p)) (nIn (now bytes)) (now boxes) (now lens)
-        × (now out ≡ replicate maxPacket 0) ⌝ }
-    ensures { λ r. ⌜ stepped r (now (out .exit)) ≡ step4 sha256 (now (bytes .entry)) q ⌝ }
-{
-    let mut outbox = [0u8; MAX_OUTBOX];
-    let Step { state, .. } = dealt(bytes, parts, root, bit, q, &mut outbox);
-    let way = Way {
-        at: parts.first,
-        size: MAX_OUTBOX,
-        whole: false,
-    };
-    let mut room = blank_inbox();
-    let len = inbox(bytes, parts, way, boxes, lens, q, &mut room);
-    state.take_shares(&room[..len], out)
-}
-
-// Party q's relay, in its slot; its length.
-fn relay(
-    bytes: &[u8],
-    parts: Plan,
-    root: &Hash,
-    bit: u8,
-    boxes: &[u8],
-    lens: &[usize],
-    q: usize,
-    relays: &mut [u8],
-    at: usize,
-) -> usize
-    requires { ⌜ Ready (now bytes) parts × (now root ≡ agreedRoot sha256 (now bytes)) × (bit ≡ agreedBit sha256 (now bytes))
-        × (1 ≤ q) × (q ≤ nIn (now bytes)) × (length (now boxes) ≡ maxParties * maxOutbox) × (length (now lens) ≡ maxParties)
-        × Slots (goodIn (now bytes)) maxOutbox (λ p. wroteIn (step3 sha256 (now bytes) p)) (nIn (now bytes)) (now boxes) (now lens)
-        × (at + maxPacket ≤ length (now relays)) ⌝ }
-    ensures { λ r. ⌜ (r ≡ length (wroteIn (step4 sha256 (now (bytes .entry)) q))) × (r ≤ maxPacket)
-        × (now (relays .exit) ≡ spliced (now (relays .entry)) at (wroteIn (step4 sha256 (now (bytes .entry)) q))) ⌝ }
-{
-    let mut out = [0u8; MAX_PACKET];
-    let Step { answer, .. } = relayed(bytes, parts, root, bit, boxes, lens, q, &mut out);
-    keep(answer, &out, relays, at)
-}
-
-// The relays of all good parties, each in its slot, and their lengths.
-fn relay_all(
-    bytes: &[u8],
-    parts: Plan,
-    root: &Hash,
-    bit: u8,
-    boxes: &[u8],
-    lens: &[usize],
-    relays: &mut [u8],
-    sizes: &mut [usize],
-)
-    requires { ⌜ Ready (now bytes) parts × (now root ≡ agreedRoot sha256 (now bytes)) × (bit ≡ agreedBit sha256 (now bytes))
-        × (length (now boxes) ≡ maxParties * maxOutbox) × (length (now lens) ≡ maxParties)
-        × Slots (goodIn (now bytes)) maxOutbox (λ p. wroteIn (step3 sha256 (now bytes) p)) (nIn (now bytes)) (now boxes) (now lens)
-        × (length (now relays) ≡ maxParties * maxPacket) × (length (now sizes) ≡ maxParties) ⌝ }
-    ensures { λ _. ⌜ Slots (goodIn (now (bytes .entry))) maxPacket (λ p. wroteIn (step4 sha256 (now (bytes .entry)) p)) (nIn (now (bytes .entry)))
-        (now (relays .exit)) (now (sizes .exit))
-        × (length (now (relays .exit)) ≡ maxParties * maxPacket) × (length (now (sizes .exit)) ≡ maxParties) ⌝ }
-{
-    let n = parts.n;
-    let good = parts.good;
-    let mut at: usize = 0;
-    let mut p: usize = 0;
-    while p < n {
-        let q = p + 1;
-        if plan::names(good, q) {
-            sizes[p] = relay(bytes, parts, root, bit, boxes, lens, q, relays, at);
-        }
-        at += MAX_PACKET;
-        p = q;
-    }
-}
-
-// Party q after step 5, its message in out.
+// Step 5 of party q, on its second inbox; its message in out.
 fn ended(
     bytes: &[u8],
     parts: Plan,
-    root: &Hash,
-    bit: u8,
-    boxes: &[u8],
-    lens: &[usize],
+    state: Party,
     relays: &[u8],
     sizes: &[usize],
     q: usize,
     out: &mut [u8],
 ) -> Ended
-    requires { ⌜ Ready (now bytes) parts × (now root ≡ agreedRoot sha256 (now bytes)) × (bit ≡ agreedBit sha256 (now bytes))
-        × (1 ≤ q) × (q ≤ nIn (now bytes)) × (length (now boxes) ≡ maxParties * maxOutbox) × (length (now lens) ≡ maxParties)
-        × Slots (goodIn (now bytes)) maxOutbox (λ p. wroteIn (step3 sha256 (now bytes) p)) (nIn (now bytes)) (now boxes) (now lens)
-        × (length (now relays) ≡ maxParties * maxPacket) × (length (now sizes) ≡ maxParties)
-        × Slots (goodIn (now bytes)) maxPacket (λ p. wroteIn (step4 sha256 (now bytes) p)) (nIn (now bytes)) (now relays) (now sizes)
+    requires { ⌜ Ready (now bytes) parts × (1 ≤ q) × (q ≤ nIn (now bytes)) × (state ≡ step4 sha256 (now bytes) q .state)
+        × Slots (goodIn (now bytes)) maxOutbox (λ p. wroteIn (step4 sha256 (now bytes) p)) (nIn (now bytes)) (now relays) (now sizes)
         × (now out ≡ replicate maxMessage 0) ⌝ }
     ensures { λ r. ⌜ ended r (now (out .exit)) ≡ step5 sha256 (now (bytes .entry)) q ⌝ }
 {
-    let mut relay = [0u8; MAX_PACKET];
-    let Step { state, .. } = relayed(bytes, parts, root, bit, boxes, lens, q, &mut relay);
-    let way = Way {
-        at: parts.second,
-        size: MAX_PACKET,
-        whole: true,
-    };
     let mut room = blank_inbox();
-    let len = inbox(bytes, parts, way, relays, sizes, q, &mut room);
+    let len = inbox(bytes, parts, 1, relays, sizes, q, &mut room);
     state.take_relays(&room[..len], out)
 }

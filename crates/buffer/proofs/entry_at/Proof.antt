@@ -5,7 +5,7 @@ use Prim.Native.Nat.{ℕ, _+_, _-_, _≤_, min}
 use native.Mathlib.Nat.{sub-zero}
 use native.Mathlib.Omega.{arith}
 use lib.ListN.{length, drop}
-use Rattle.buffer.specs.Entries.{size, entryAt}
+use Rattle.buffer.specs.Entries.{entryAt}
 use Rattle.buffer.specs.Given.{written}
 use Rattle.buffer.proofs.Places.{entry-here, entry-later}
 use borrow.Author.Needs.{needs}

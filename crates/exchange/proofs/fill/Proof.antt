@@ -1,19 +1,18 @@
 -- `exchange::fill` meets its contract: a law for each outcome. Assumes nothing.
-use mathlib.Core.Path.{_≡_, sym, ap, ap₂, _∙_}
+use mathlib.Core.Path.{_≡_, sym, ap₂, _∙_}
 use mathlib.Core.Bool.{true}
 use mathlib.Core.List.{List}
 use Prim.Native.Nat.{ℕ, _+_, _*_, _≤_}
 use native.Mathlib.Nat.{mul-le-mul}
 use native.Mathlib.Omega.{arith}
 use borrow.Author.Tests.{not-false}
-use lib.ListN.{length}
 use Rattle.limits.specs.Limits.{maxParties, parties, numbered}
 use Rattle.limits.proofs.Booleans.{denied}
 use Rattle.limits.proofs.Ranges.{parties-told, numbered-told}
 use Rattle.buffer.specs.Given.{gave}
 use Rattle.buffer.specs.declared.Written.the-variants.{Done}
-use Rattle.exchange.specs.Exchange.{maxBody, maxInbox}
-use Rattle.exchange.specs.Private.{Lawful, inboxBy}
+use Rattle.exchange.specs.Exchange.{maxBody}
+use Rattle.exchange.specs.Private.{Lawful}
 use Rattle.exchange.proofs.Sending.{fill-1, fill-3, fill-4, fill-9, fill-13, fill-done}
 use borrow.Author.Needs.{needs}
 use Rattle.exchange.proofs.fill.Statement.{statement}

@@ -1,8 +1,5 @@
 -- `exchange::sent` meets its contract: no bytes to itself, what a good party hands over, or what the plan has of a bad one. Assumes nothing.
 use mathlib.Core.Path.{_≡_, sym, ap, _∙_}
-use mathlib.Core.Bool.{true, false}
-use mathlib.Core.List.{List}
-use Prim.Native.Nat.{ℕ}
 use native.Mathlib.Omega.{arith}
 use lib.ListN.{length}
 use Rattle.buffer.specs.Splice.{spliced}

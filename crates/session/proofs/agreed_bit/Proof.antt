@@ -5,7 +5,7 @@ use mathlib.Core.List.{List}
 use Prim.Native.Nat.{ℕ, _+_, _-_}
 use native.Mathlib.Omega.{arith}
 use lib.ListN.{getD}
-use Rattle.plan.specs.Layout.{hasBit, afterRoot}
+use Rattle.plan.specs.Layout.{mapWidth, hasBit, afterRoot}
 use Rattle.session.specs.Session.{step2}
 use Rattle.session.proofs.Rule.{Known, known, bit-place, lowest-is, bit-given, bit-own}
 use borrow.Author.Needs.{needs}
@@ -26,6 +26,9 @@ given c = sym (plan (c .before .before) .voted-is) ∙ c .if1 .taken
 place : (c : tie.Then1) → let st = c .before .before in st .args .parts .books ≡ afterRoot (S st) + 3
 place c = let st = c .before .before in bit-place (S st) (st .args .parts) (plan st) (given c)
 
+sub-map : tie.Need-sub-map
+sub-map c = omega (arith, place (c .before))
+
 sub-at : tie.Need-sub-at
 sub-at c = omega (arith, place (c .before))
 
@@ -39,7 +42,7 @@ returns : tie.Need-returns
 returns c =
     let t = c .before .before in
     let st = t .before .before in
-    let e : st .args .parts .books - 3 ≡ afterRoot (S st) = omega (arith, place t) in
+    let e : st .args .parts .books - mapWidth - 1 ≡ afterRoot (S st) = omega (arith, place t) in
     ap (λ (i : ℕ). getD (S st) i 0) e ∙ sym (bit-given sha256 (S st) (given t))
 
 lowest-good-requires : tie.Need-lowest-good-requires
@@ -63,6 +66,7 @@ pub agreed-bit-spec : {M : Type 1} → statement M
 agreed-bit-spec =
     tie.close
     (tie.spec
+    sub-map
     sub-at
     shared-slice-read-result
     returns

@@ -1,25 +1,21 @@
 -- `session::ended` meets its contract: step 5 of the party after step 4, on its second inbox. Assumes nothing.
 use mathlib.Core.Path.{sym, ap, ap₂, _∙_}
-use mathlib.Core.Bool.{true}
 use mathlib.Core.List.{List}
 use Prim.Native.Nat.{ℕ}
 use native.Mathlib.Omega.{arith}
 use lib.Seq.{length-take-le}
 use Rattle.sha256.specs.Sha256.{sha256}
-use Rattle.party.specs.Steps.{Stepped, takeRelaysOf}
+use Rattle.party.specs.Steps.{takeRelaysOf}
 use Rattle.party.specs.declared.Party.{Party}
-use Rattle.session.specs.Session.{maxPacket, wroteIn, step4, secondInbox, step5}
-use Rattle.session.proofs.Rule.{known}
+use Rattle.session.specs.Session.{wroteIn, step4, secondInbox, step5}
 use Rattle.session.proofs.Inboxes.{inbox-is}
 use borrow.Author.Needs.{needs}
 use Rattle.session.proofs.ended.Statement.{statement}
 use Rattle.session.proofs.ended.Tie as tie
 
-slice-aggregate-relayed : tie.Need-slice-aggregate-relayed
-slice-aggregate-relayed c = search needs
-
-relayed-requires : tie.Need-relayed-requires
-relayed-requires c κs = search needs
+-- the function's entry
+abbrev Entry : tie.After-slice-known → tie.Start
+Entry k = k .before .before .before .before
 
 blank-inbox-requires : tie.Need-blank-inbox-requires
 blank-inbox-requires c κs = search needs
@@ -30,11 +26,8 @@ slice-aggregate-inbox c = search needs
 inbox-requires : tie.Need-inbox-requires
 inbox-requires c κs =
     let b = c .before in
-    let d = b .before .before .before in
-    let st = d .before .before .before .before .before .before .before .before in
-    let a = st .args in
-    let there = known (a .bytes .now) (a .parts) (st .pre .0) .second-is in
-    (st .pre .0, omega (arith, there), omega arith, st .pre .3, st .pre .4, b .blank-inbox .ensures)
+    let st = Entry (b .before) in
+    (st .pre .0, omega arith, st .pre .1, st .pre .2, b .blank-inbox .ensures)
 
 array-share-prefix-room : tie.Need-array-share-prefix-room
 array-share-prefix-room c = c .before .inbox .ensures .0
@@ -55,24 +48,20 @@ unfolding secondInbox step5
 returns c =
     let w = c .before .before in
     let f = w .before .before .before .before in
-    let d = f .before .before .before .before .before in
-    let st = d .before .before .before .before .before .before .before .before in
+    let st = Entry (f .before .before .before) in
     let a = st .args in
     let s = a .bytes .now in
     let x : Party = step4 sha256 s (a .q) .state in
     w .take-relays .ensures
-    ∙ ap₂ (λ (y : Party) (i : List ℕ). takeRelaysOf sha256 y i (a .out .now)) (ap (λ (v : Stepped). v .state) (d .relayed .ensures))
+    ∙ ap₂ (λ (y : Party) (i : List ℕ). takeRelaysOf sha256 y i (a .out .now)) (st .pre .3)
     (f .inbox .ensures .1
-    ∙ inbox-is s 1 (a .parts .second) true maxPacket (λ p. wroteIn (step4 sha256 s p)) (a .relays .now) (a .sizes .now) (a .q)
-    (known s (a .parts) (st .pre .0) .second-is) (st .pre .10))
-    ∙ ap (takeRelaysOf sha256 x (secondInbox sha256 s (a .q))) (st .pre .11)
+    ∙ inbox-is s 1 (λ p. wroteIn (step4 sha256 s p)) (a .relays .now) (a .sizes .now) (a .q) (st .pre .4))
+    ∙ ap (takeRelaysOf sha256 x (secondInbox sha256 s (a .q))) (st .pre .5)
 
 pub ended-spec : {M : Type 1} → statement M
 ended-spec =
     tie.close
     (tie.spec
-    slice-aggregate-relayed
-    relayed-requires
     blank-inbox-requires
     slice-aggregate-inbox
     inbox-requires

@@ -35,9 +35,9 @@ enum-known-answer c = search needs
 returns : tie.Need-returns
 returns c =
     let a = c .before .before .before .args in
-    let o = a .slots .now in
+    let o = a .slot .now in
     let e = wrote-none (a .answer) (a .out .now) (c .match .keys2) in
-    (sym (ap length e), sym (ap (spliced o (a .at)) e ∙ spliced-none o (a .at)))
+    (sym (ap length e), sym (ap (spliced o 0) e ∙ spliced-none o 0))
 
 slice-aggregate-put : tie.Need-slice-aggregate-put
 slice-aggregate-put c =
@@ -61,8 +61,8 @@ returns-2 c =
     let e = ap (λ (w : Written). cond (eqb (causeOf w) 0) (take (valueOf w) o) []) (k .answer .given .1) in (
       sym (ap length e ∙ long),
       p .put .ensures .1
-          ∙ put-fits (a .slots .now) (a .at) (take (Len k) o) (omega (arith, long, few k, st .pre .1))
-          ∙ ap (spliced (a .slots .now) (a .at)) (sym e),
+          ∙ put-fits (a .slot .now) 0 (take (Len k) o) (omega (arith, long, few k, st .pre .1))
+          ∙ ap (spliced (a .slot .now) 0) (sym e),
     )
 
 pub keep-spec : {M : Type 1} → statement M

@@ -1,5 +1,5 @@
 -- `session::play` meets its contract: the lines stand at the start of the text, and the last line behind them. Assumes nothing.
-use mathlib.Core.Path.{_≡_, ap, _∙_}
+use mathlib.Core.Path.{_≡_, refl, ap, _∙_}
 use mathlib.Core.List.{List, _++_}
 use Prim.Native.Nat.{ℕ, _-_, _≤_}
 use native.Mathlib.Omega.{arith}
@@ -8,7 +8,7 @@ use Rattle.buffer.specs.Splice.{spliced}
 use Rattle.buffer.proofs.Splice.{length-spliced}
 use Rattle.report.specs.Output.{sentLine}
 use Rattle.sha256.specs.Sha256.{sha256}
-use Rattle.session.specs.Private.{maxLine, maxText}
+use Rattle.session.specs.Private.{maxLine, maxText, stepOf, stateOf, Dealt}
 use Rattle.session.proofs.Text.{sent-short, sent-written, given-at, take-behind, output-is}
 use borrow.Author.Needs.{needs}
 use Rattle.session.proofs.play.Statement.{statement}
@@ -19,20 +19,27 @@ abbrev Lines : tie.After-sizes4 → tie.After-put-lines
 Lines k = k .before .before .before .before .before
 
 abbrev Relays : tie.After-put-lines → tie.After-relay-on-one
-Relays k = k .before .before .before .before .before .before .before .before
+Relays k = k .before .before .before .before .before .before
 
-abbrev Deals : tie.After-relay-on-one → tie.After-deal-all
+abbrev Deals : tie.After-relay-on-one → tie.After-round
 Deals k = k .before .before .before .before .before .before .before
 
-abbrev Entry : tie.After-deal-all → tie.Start
-Entry k = k .before .before .before .before .before
+abbrev Votes : tie.After-round → tie.After-voted-all
+Votes k = k .before .before .before .before .before
 
--- the text with the lines
+abbrev Entry : tie.After-voted-all → tie.Start
+Entry k = k .before .before .before
+
+-- the outboxes, and the text with the lines
+outboxes : (d : tie.After-round) → Dealt (Entry (Votes d) .args .bytes .now) (d .round .last .1 .1 .1 .1 .1 .0) (d .round .last .1 .1 .1 .1 .1 .1 .0)
+unfolding stepOf
+outboxes d = let y = d .round .ensures in record { boxes-long = y .2; lens-long = y .3; slots = y .1 }
+
 abbrev O : tie.After-put-lines → List ℕ
-O k = k .put-lines .last .1 .1 .1 .1 .1 .1 .1 .1 .0
+O k = k .put-lines .last .1 .1 .1 .1 .1 .0
 
 long : (k : tie.After-put-lines) → length (O k) ≡ maxText
-long k = k .put-lines .kept .1 .1 .1 .1 .1 .1 .1 .1 .0 ∙ Entry (Deals (Relays k)) .pre .3
+long k = k .put-lines .kept .1 .1 .1 .1 .1 .0 ∙ Entry (Votes (Deals (Relays k))) .pre .3
 
 -- the last line, behind them
 last : (c : tie.After-value-of) → let a = c .before .before .before .before .before in
@@ -53,14 +60,32 @@ last c =
     let e = c .value-of .ensures ∙ g .0 in
     (omega (arith, e, sent-short x), e, g .1)
 
-slice-aggregate-deal-all : tie.Need-slice-aggregate-deal-all
-slice-aggregate-deal-all c = search needs
+voted-all-requires : tie.Need-voted-all-requires
+voted-all-requires c κs = search needs
 
-slice-aggregate-deal-all-2 : tie.Need-slice-aggregate-deal-all-2
-slice-aggregate-deal-all-2 c = search needs
+slice-aggregate-round : tie.Need-slice-aggregate-round
+slice-aggregate-round c = search needs
 
-deal-all-requires : tie.Need-deal-all-requires
-deal-all-requires c κs = search needs
+slice-aggregate-round-2 : tie.Need-slice-aggregate-round-2
+slice-aggregate-round-2 c = search needs
+
+slice-aggregate-round-3 : tie.Need-slice-aggregate-round-3
+slice-aggregate-round-3 c = search needs
+
+slice-aggregate-round-4 : tie.Need-slice-aggregate-round-4
+slice-aggregate-round-4 c = search needs
+
+round-requires : tie.Need-round-requires
+round-requires c κs =
+    let v = c .before .before .before .before in
+    let st = Entry v in (
+      record { ready = st .pre .0; bit-is = st .pre .2 },
+      omega arith,
+      λ h. absurd (omega arith),
+      v .voted-all .ensures,
+      search needs,
+      search needs,
+    )
 
 slice-aggregate-relay-on-one : tie.Need-slice-aggregate-relay-on-one
 slice-aggregate-relay-on-one c = search needs
@@ -75,19 +100,17 @@ slice-aggregate-relay-on-one-4 : tie.Need-slice-aggregate-relay-on-one-4
 slice-aggregate-relay-on-one-4 c = search needs
 
 relay-on-one-requires : tie.Need-relay-on-one-requires
-relay-on-one-requires c κs = search needs
+unfolding stepOf stateOf
+relay-on-one-requires c κs =
+    let d = c .before .before .before .before .before .before in
+    let st = Entry (Votes d) in
+    (record { ready = st .pre .0; bit-is = st .pre .2 }, refl, d .round .ensures .0, outboxes d, search needs, search needs)
 
 slice-aggregate-put-lines : tie.Need-slice-aggregate-put-lines
 slice-aggregate-put-lines c = search needs
 
 slice-aggregate-put-lines-2 : tie.Need-slice-aggregate-put-lines-2
 slice-aggregate-put-lines-2 c = search needs
-
-slice-aggregate-put-lines-3 : tie.Need-slice-aggregate-put-lines-3
-slice-aggregate-put-lines-3 c = search needs
-
-slice-aggregate-put-lines-4 : tie.Need-slice-aggregate-put-lines-4
-slice-aggregate-put-lines-4 c = search needs
 
 put-lines-requires : tie.Need-put-lines-requires
 put-lines-requires c κs = search needs
@@ -105,8 +128,7 @@ sent-all-requires : tie.Need-sent-all-requires
 sent-all-requires c κs =
     let r = Relays (Lines c) in
     let d = Deals r in
-    let y = d .deal-all .ensures in
-    (Entry d .pre .0, record { boxes-long = y .1; lens-long = y .2; slots = y .0 }, r .relay-on-one .ensures .1)
+    (Entry (Votes d) .pre .0, outboxes d, r .relay-on-one .ensures .1)
 
 sub-sent-line : tie.Need-sub-sent-line
 sub-sent-line c = search needs
@@ -135,7 +157,7 @@ returns : tie.Need-returns
 returns c =
     let a = c .before .before .before .before .before in
     let p = Lines (a .before) in
-    let st = Entry (Deals (Relays p)) in
+    let st = Entry (Votes (Deals (Relays p))) in
     let o = O p in
     let at = p .put-lines .result in
     let x = a .sent-all .result in
@@ -150,9 +172,12 @@ pub play-spec : {M : Type 1} → statement M
 play-spec =
     tie.close
     (tie.spec
-    slice-aggregate-deal-all
-    slice-aggregate-deal-all-2
-    deal-all-requires
+    voted-all-requires
+    slice-aggregate-round
+    slice-aggregate-round-2
+    slice-aggregate-round-3
+    slice-aggregate-round-4
+    round-requires
     slice-aggregate-relay-on-one
     slice-aggregate-relay-on-one-2
     slice-aggregate-relay-on-one-3
@@ -160,8 +185,6 @@ play-spec =
     relay-on-one-requires
     slice-aggregate-put-lines
     slice-aggregate-put-lines-2
-    slice-aggregate-put-lines-3
-    slice-aggregate-put-lines-4
     put-lines-requires
     slice-aggregate-sent-all
     slice-aggregate-sent-all-2

@@ -19,10 +19,10 @@ use Rattle.session.proofs.put_line.Tie as tie
 
 -- the function's entry, and the message's buffer after step 5
 abbrev Entry : tie.After-result-of → tie.Start
-Entry k = k .before .before .before .before .before .before .before .before
+Entry k = k .before .before .before .before .before .before
 
 abbrev O : tie.After-result-of → List ℕ
-O k = k .result-of .last .1 .1 .1 .1 .1 .1 .1 .1 .1 .0
+O k = k .result-of .last .1 .1 .1 .1 .1 .1 .0
 
 abbrev Len : tie.After-result → ℕ
 Len k = k .result .given .0 .0
@@ -35,7 +35,7 @@ inside k =
 room : (k : tie.After-result) → Len k ≤ length (O (k .before .before .before))
 room k =
     let r = k .before .before .before in
-    omega (arith, inside k, r .result-of .kept .1 .1 .1 .1 .1 .1 .1 .1 .1 .0, length-replicate maxMessage zero)
+    omega (arith, inside k, r .result-of .kept .1 .1 .1 .1 .1 .1 .0, length-replicate maxMessage zero)
 
 slice-aggregate-result-of : tie.Need-slice-aggregate-result-of
 slice-aggregate-result-of c = search needs
@@ -65,7 +65,7 @@ returns c =
     let y = w .write-line .ensures in (
       y .0 ∙ ap (λ (x : Result). length (lineWith (a .q) x)) e,
       y .1,
-      y .2 ∙ ap (λ (x : Result). spliced (a .text .now) (a .at) (lineWith (a .q) x)) e,
+      y .2 ∙ ap (λ (x : Result). spliced (a .text .now) 0 (lineWith (a .q) x)) e,
     )
 
 array-share-prefix-message : tie.Need-array-share-prefix-message
@@ -80,7 +80,7 @@ write-line-requires-2 : tie.Need-write-line-requires-2
 write-line-requires-2 c κs =
     let k = c .before .before .before in
     let r = k .before .before .before in
-    (omega (arith, length-take (Len k) (O r), inside k), Entry r .pre .7)
+    (omega (arith, length-take (Len k) (O r), inside k), Entry r .pre .2)
 
 same-length-2 : tie.Need-same-length-2
 same-length-2 c = search needs
@@ -95,7 +95,7 @@ returns-2 c =
     let y = w .write-line2 .ensures in (
       y .0 ∙ ap (λ (x : Result). length (lineWith (a .q) x)) e,
       y .1,
-      y .2 ∙ ap (λ (x : Result). spliced (a .text .now) (a .at) (lineWith (a .q) x)) e,
+      y .2 ∙ ap (λ (x : Result). spliced (a .text .now) 0 (lineWith (a .q) x)) e,
     )
 
 pub put-line-spec : {M : Type 1} → statement M

@@ -12,40 +12,27 @@ use borrow.Author.Needs.{needs}
 use Rattle.session.proofs.result_of.Statement.{statement}
 use Rattle.session.proofs.result_of.Tie as tie
 
-abbrev Entry : tie.After-slice-known → tie.Start
-Entry k = k .before .before .before .before .before .before
+abbrev Entry : tie.After-struct-known → tie.Start
+Entry k = k .before .before .before .before .before
 
 abbrev S : tie.Start → List ℕ
 S st = st .args .bytes .now
 
 -- the bit is not 0
 one : (e : tie.Else1) → agreedBit sha256 (S (Entry (e .before))) ≡ 0 → ⊥
-one e h = e .if1 .left (Entry (e .before) .pre .2 ∙ h)
+one e h = e .if1 .left (Entry (e .before) .pre .0 .bit-is ∙ h)
 
 returns : tie.Need-returns
 returns c =
     let st = Entry (c .before) in
-    (omega arith, sym (ends-zero sha256 (S st) (st .args .q) (sym (st .pre .2) ∙ c .if1 .taken)))
+    (omega arith, sym (ends-zero sha256 (S st) (st .args .q) (sym (st .pre .0 .bit-is) ∙ c .if1 .taken)))
 
 ended-requires : tie.Need-ended-requires
 ended-requires c κs =
     let e = c .before in
     let st = Entry (e .before) in
-    let d = st .pre .3 in
-    let r = st .pre .4 in (
-      st .pre .0,
-      st .pre .1,
-      st .pre .2,
-      st .pre .5,
-      st .pre .6,
-      d .boxes-long,
-      d .lens-long,
-      d .slots,
-      r .relays-long,
-      r .sizes-long,
-      r .slots (one e),
-      st .pre .7,
-    )
+    let f = st .pre .1 in
+    (st .pre .0 .ready, f .low, f .high, f .state-is (one e), f .slots (one e), st .pre .2)
 
 same-length : tie.Need-same-length
 same-length c = search needs

@@ -8,7 +8,7 @@ use native.Mathlib.Omega.{arith}
 use Rattle.limits.specs.Limits.{maxParties}
 use Rattle.sha256.specs.Sha256.{sha256}
 use Rattle.plan.specs.Layout.{nIn}
-use Rattle.session.specs.Session.{isGood, maxPacket, maxOutbox, sentFrom}
+use Rattle.session.specs.Session.{isGood, maxOutbox, sentFrom}
 use Rattle.session.proofs.Rule.{Known, known, good-named}
 use Rattle.session.proofs.Sums.{sent-end, sent-good, sent-bad}
 use borrow.Author.Needs.{needs}
@@ -17,7 +17,7 @@ use Rattle.session.proofs.sent_all.Tie as tie
 
 abbrev Inv-loop : tie.InvT-loop
 Inv-loop bytes parts boxes lens sizes n sum₀ p₀ sum p =
-    (p ≤ n) × (sum ≤ p * (maxOutbox + maxParties * maxPacket))
+    (p ≤ n) × (sum ≤ p * (maxOutbox + maxParties * maxOutbox))
     × (sentFrom sha256 bytes (nIn bytes) 1 ≡ sum + sentFrom sha256 bytes (n - p) (p + 1))
 
 abbrev μ-loop : tie.MeasureT-loop

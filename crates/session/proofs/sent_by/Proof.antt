@@ -13,7 +13,7 @@ use Rattle.buffer.specs.Entries.{bodies}
 use Rattle.buffer.proofs.Parts.{part-ends}
 use Rattle.agreement.specs.Calls.{lengths}
 use Rattle.plan.specs.Layout.{nIn, goodIn}
-use Rattle.session.specs.Session.{isGood, maxPacket, maxOutbox, wroteIn, agreedBit, step3, step4}
+use Rattle.session.specs.Session.{isGood, maxOutbox, wroteIn, agreedBit, step3, step4}
 use Rattle.session.proofs.Rule.{Known, known}
 use Rattle.exchange.proofs.Slots.{slot-of}
 use Rattle.session.proofs.Sums.{sent-is}
@@ -51,14 +51,14 @@ slot st =
     slot-of (goodIn (S st)) maxOutbox (λ q. wroteIn (step3 sha256 (S st) q)) (nIn (S st)) (Q st) (a .boxes .now) (a .lens .now)
     (st .pre .1 .slots) (st .pre .3) (st .pre .4) (st .pre .5)
 
-relay : (st : tie.Start) → (Size st ≤ maxPacket)
+relay : (st : tie.Start) → (Size st ≤ maxOutbox)
     × (Size st ≡ cond (eqb (agreedBit sha256 (S st)) 0) 0 (length (wroteIn (step4 sha256 (S st) (Q st)))))
 relay st =
     let e : Q st - 1 + 1 ≡ Q st = omega (arith, st .pre .3) in
     let w = st .pre .2 .lengths-are (Q st - 1) (omega (arith, st .pre .3, st .pre .4)) (ap (isGood (S st)) e ∙ st .pre .5) in
     (w .0, w .1 ∙ ap (λ (q : ℕ). cond (eqb (agreedBit sha256 (S st)) 0) 0 (length (wroteIn (step4 sha256 (S st) q)))) e)
 
-relays : (st : tie.Start) → (st .args .parts .n - 1) * Size st ≤ maxParties * maxPacket
+relays : (st : tie.Start) → (st .args .parts .n - 1) * Size st ≤ maxParties * maxOutbox
 relays st =
     let others : st .args .parts .n - 1 ≤ maxParties = omega (arith, few st .1) in
     mul-le-mul {n₂ = maxParties} others (relay st .0)
