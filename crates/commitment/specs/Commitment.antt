@@ -23,7 +23,7 @@ openCause n t own len =
     cond (not (eqb (groupCause n t) 0)) (groupCause n t) (cond (not (numbered n own)) 3 (cond (ltb maxMessage len) 4 0))
 
 module _ (H : List ℕ → List ℕ) where
-  -- the leaf hashes of a message's shares, and their root
+  -- the leaf hashes of a message's shares, and their root (where openCause gives 0; so of the packets below)
   abbrev pub leavesFor : ℕ → ℕ → List ℕ → List (List ℕ)
   leavesFor n t m = leavesOf H n (shares n (n - t) m)
 
@@ -47,7 +47,7 @@ module _ (H : List ℕ → List ℕ) where
   abbrev pub relayWith : ℕ → ℕ → ℕ → List ℕ → List ℕ
   relayWith n t own m = cond (eqb n 1) [] (packetWith n t m own)
 
--- what a party sends once a root is agreed: whether its message has that root, the answer, and the lent buffer
+-- what comes of sending: that no cause applies and the message has the agreed root, the answer with the bytes written, and the lent buffer
 pub record Sending : Type 0 where
   pub happy : Bool
   pub answer : Written
@@ -59,12 +59,13 @@ sending happy g = record { happy = happy; answer = g .answer; buffer = g .buffer
 abbrev pub sent : Sent → List ℕ → Sending
 sent r out = sending (r .happy) (gave (r .answer) out)
 
--- the relay (step 4), or else the outbox (step 3 on bit 1), if the message has the root z, else no bytes: causes 1, 2, 3, 4, then 9 where the
--- buffer is shorter
 module _ (H : List ℕ → List ℕ) where
+  -- what a happy party sends: where `relays` says so its relay (step 4), else its outbox (step 3 on bit 1)
   abbrev pub mailWith : Bool → ℕ → ℕ → ℕ → List ℕ → List ℕ
   mailWith relays n t own m = cond relays (relayWith H n t own m) (inboxOf (packetsWith H n t own m))
 
+  -- that, if the message has the root z; with another root no bytes are written, and the party itself says what an unhappy one sends. Causes 1, 2,
+  -- 3, 4, then 9 where the buffer is shorter
   unfoldable pub sendOf : Bool → ℕ → ℕ → ℕ → List ℕ → List ℕ → List ℕ → Sending
   sendOf relays n t own m z out =
       cond (not (eqb (openCause n t own (length m)) 0)) (sending false (gave (Refused (openCause n t own (length m))) out))

@@ -77,7 +77,7 @@ pub fn send(
     t: usize,
     own: usize,
     message: &[u8],
-    root: &[u8],
+    root: &Hash,
     out: &mut [u8],
 ) -> Sent
     ensures { λ r. ⌜ sent r (now (out .exit))

@@ -26,7 +26,8 @@ module _ (n g : ℕ) (whole : Bool) (wrote : ℕ → List ℕ) (blocks : List �
   unfoldable pub inboxTo : ℕ → List ℕ
   inboxTo i = inboxOf (tabulate n (λ k. sentTo i (k + 1)))
 
--- What good parties wrote lies in slots of one size, party 1's first, with the lengths beside.
+-- What good parties wrote lies in slots of one size, party 1's first, with the lengths beside; a length over the size counts as the size, and one
+-- that is not there as 0.
 unfoldable pub slotOf : ℕ → List ℕ → List ℕ → ℕ → List ℕ
 slotOf size slots lens p = take (min (getD lens (p - 1) 0) size) (drop ((p - 1) * size) slots)
 
@@ -36,11 +37,11 @@ Slots g size f k slots lens =
     (j : ℕ) → j < k → names g (j + 1) ≡ true
     → (getD lens j 0 ≤ size) × (take (getD lens j 0) (drop (j * size) slots) ≡ f (j + 1))
 
--- an entry's bytes are as many as two bytes can tell
+-- an entry has at most as many bytes as two bytes can tell
 abbrev pub maxBody : ℕ
 maxBody = 65535
 
--- No inbox is longer than this (proved: `Rooms`): packets of bad parties stand in the plan, and one of a good party is no longer than its slot.
+-- No inbox is longer than this, where the blocks are no longer than a plan (proved: `Rooms`): packets of bad parties stand in the plan, and one of a good party is no longer than its slot.
 abbrev pub maxInbox : ℕ → ℕ → ℕ
 maxInbox n size = maxPlan + n * (size + 2)
 
@@ -48,8 +49,8 @@ maxInbox n size = maxPlan + n * (size + 2)
 abbrev filled : List ℕ → List ℕ → Given
 filled x out = gave (Done (length x)) (spliced out 0 x)
 
--- party i's inbox at the start of a lent buffer: causes 1 and 3, 4 for slots over the length of an entry, 9 where the buffer is shorter than an
--- inbox can be, and 13 for blocks longer than a plan
+-- party i's inbox at the start of a lent buffer: causes 1 and 3, 4 for slots over the length of an entry, 9 where the buffer is shorter than the
+-- longest inbox, and 13 for blocks longer than a plan. Blocks and outboxes are read as they stand: that they are laid out well is judged before
 unfoldable pub fillOf : Mail → List ℕ → List ℕ → List ℕ → ℕ → List ℕ → Given
 fillOf m slots lens blocks i out =
     cond (not (parties (m .n))) (gave (Refused 1) out)

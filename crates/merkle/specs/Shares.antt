@@ -45,7 +45,8 @@ unfoldable pub pathLengthOf : ℕ → ℕ → Counted
 pathLengthOf n j =
     cond (not (parties n)) (counted.Refused 1) (cond (not (numbered n j)) (counted.Refused 3) (counted.Hashes (length (sidesOf n j))))
 
--- the root over the first n leaf hashes, read from them and from the node hashes; blank where n is out of its range
+-- where the root over the first n leaf hashes stands among them and the hashes of their nodes (nodesOf, below: then it is the root, proved in
+-- `Slots`); blank where n is out of its range
 unfoldable pub rootIn : ℕ → List (List ℕ) → List (List ℕ) → List ℕ
 rootIn n leaves nodes = cond (parties n) (topAt (shape n) 0 leaves nodes) blank
 

@@ -29,7 +29,7 @@ use Rattle.commitment.proofs.send.Tie as tie
 
 -- the function's entry, from where the cause is known
 abbrev Entry : tie.After-open-cause → tie.Start
-Entry o = o .before .before .before .before
+Entry o = o .before .before .before
 
 abbrev M : tie.Start → List ℕ
 M st = st .args .message .now
@@ -79,14 +79,14 @@ root-is r =
 
 -- whether the message has the agreed root
 abbrev Cause : tie.After-same → tie.Else1
-Cause s = Leaves (s .before .before) .before .before .before .before
+Cause s = Leaves (s .before .before .before) .before .before .before .before
 
 happy-is : (s : tie.After-same) → let st = Entry (Cause s .before) in
     s .same .result ≡ same (messageRoot sha256 (st .args .n) (st .args .t) (M st)) (st .args .root .now)
 happy-is s =
     let st = Entry (Cause s .before) in
-    same-is (s .before .before .root-in .result) (st .args .root .now) (s .same .result) (s .same .ensures .0) (s .same .ensures .1)
-    ∙ ap (λ (r : List ℕ). same r (st .args .root .now)) (root-is (s .before .before))
+    same-is (s .before .before .before .root-in .result) (st .args .root .now) (s .same .result) (s .same .ensures .0) (s .same .ensures .1)
+    ∙ ap (λ (r : List ℕ). same r (st .args .root .now)) (root-is (s .before .before .before))
 
 open-cause-requires : tie.Need-open-cause-requires
 open-cause-requires c κs = search needs
@@ -145,7 +145,7 @@ given s b =
 
 -- the shares handed over, their number and length, and the nodes over their leaves
 abbrev Coding : tie.Else2 → tie.After-code
-Coding s = Leaves (s .before .before .before) .before .before .before
+Coding s = Leaves (s .before .before .before .before) .before .before .before
 
 sized : (s : tie.Else2) → let q = Coding s in let n = Entry (q .before .before) .args .n in
     (1 ≤ q .code .result .len) × (q .code .result .len ≤ maxShare) × (length (take (q .code .result .size) (q .code .result .bytes)) ≡ n * q .code .result .len)
@@ -159,20 +159,20 @@ sized s =
       all q ∙ q .code .ensures .3,
     )
 
-nodes-are : (s : tie.Else2) → let r = s .before .before .before in let l = Leaves r in
+nodes-are : (s : tie.Else2) → let r = s .before .before .before .before in let l = Leaves r in
     r .before .before .before .nodes .result ≡ nodesOf sha256 (Entry (Coding s .before .before) .args .n) (l .leaves .result)
-nodes-are s = s .before .before .before .before .before .before .nodes .ensures
+nodes-are s = s .before .before .before .before .before .before .before .nodes .ensures
 
 -- the relay and the outbox over these are those of the message
 relayed : (s : tie.Else2) → let q = Coding s in let st = Entry (q .before .before) in let r = q .code .result in
-    relayFor sha256 (st .args .n) (st .args .own) (r .len) (take (r .size) (r .bytes)) (Leaves (s .before .before .before) .leaves .result)
+    relayFor sha256 (st .args .n) (st .args .own) (r .len) (take (r .size) (r .bytes)) (Leaves (s .before .before .before .before) .leaves .result)
     ≡ Bytes true st
 relayed s =
     let q = Coding s in
     let e = q .before in
     let st = Entry (e .before) in
     let a = st .args in
-    let l = Leaves (s .before .before .before) in
+    let l = Leaves (s .before .before .before .before) in
     let b = open-bounds (a .n) (a .t) (a .own) (length (M st)) (fine e) in
     ap₂ (λ (k : ℕ) (all : List ℕ). relayFor sha256 (a .n) (a .own) k all (l .leaves .result)) (q .code .ensures .2) (q .code .ensures .1)
     ∙ ap (relayFor sha256 (a .n) (a .own) (shareLength (a .n - a .t) (length (M st))) (shares (a .n) (a .n - a .t) (M st))) (leaves-are l)
@@ -180,14 +180,14 @@ relayed s =
 
 sent-out : (s : tie.Else2) → let q = Coding s in let st = Entry (q .before .before) in let r = q .code .result in
     outboxUpTo sha256 (st .args .n) (st .args .n) (st .args .own) (r .len) (take (r .size) (r .bytes))
-    (Leaves (s .before .before .before) .leaves .result)
+    (Leaves (s .before .before .before .before) .leaves .result)
     ≡ Bytes false st
 sent-out s =
     let q = Coding s in
     let e = q .before in
     let st = Entry (e .before) in
     let a = st .args in
-    let l = Leaves (s .before .before .before) in
+    let l = Leaves (s .before .before .before .before) in
     ap₂ (λ (k : ℕ) (all : List ℕ). outboxUpTo sha256 (a .n) (a .n) (a .own) k all (l .leaves .result)) (q .code .ensures .2)
     (q .code .ensures .1)
     ∙ ap (outboxUpTo sha256 (a .n) (a .n) (a .own) (shareLength (a .n - a .t) (length (M st))) (shares (a .n) (a .n - a .t) (M st)))
@@ -236,7 +236,7 @@ put-outbox-requires c κs =
     let e = Coding s .before in
     let w = within e in
     let z = sized s in
-    (w .low, w .high, z .0, z .1, z .2, Leaves (s .before .before .before) .leaves .ensures, nodes-are s)
+    (w .low, w .high, z .0, z .1, z .2, Leaves (s .before .before .before .before) .leaves .ensures, nodes-are s)
 
 same-length-2 : tie.Need-same-length-2
 same-length-2 c = search needs

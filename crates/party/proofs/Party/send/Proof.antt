@@ -41,9 +41,6 @@ array-share-prefix-message c = held (c .before .before .before)
 slice-aggregate-send : tie.Need-slice-aggregate-send
 slice-aggregate-send c = sym (kept (c .before .before .before .before))
 
-slice-aggregate-send-2 : tie.Need-slice-aggregate-send-2
-slice-aggregate-send-2 c = search needs
-
 send-requires : tie.Need-send-requires
 send-requires c κs = search needs
 
@@ -107,7 +104,6 @@ send-spec =
     (tie.spec
     array-share-prefix-message
     slice-aggregate-send
-    slice-aggregate-send-2
     send-requires
     after-requires
     same-length
