@@ -2,37 +2,37 @@
 use buffer::Written;
 
 // More bytes than any buffer has: what is handed in is not as its kind says, and nothing agrees with that.
-pub const MALFORMED: usize = 1 << 63;
+pub(crate) const MALFORMED: usize = 1 << 63;
 
 // The length of an answer in bytes: its code (1) and its value (8).
-pub const ANSWER: usize = 9;
+pub(crate) const ANSWER: usize = 9;
 
 // An answer. The codes: 0 done, with the bytes written or another result; 1 nothing; 2 short, with the length needed; 3 refused, with
 // the cause.
-pub struct Answer {
+pub(crate) struct Answer {
     pub code: u8,
     pub value: usize,
 }
 
-pub fn done(value: usize) -> Answer {
+pub(crate) fn done(value: usize) -> Answer {
     Answer { code: 0, value }
 }
 
-pub fn short(needed: usize) -> Answer {
+pub(crate) fn short(needed: usize) -> Answer {
     Answer {
         code: 2,
         value: needed,
     }
 }
 
-pub fn refused(cause: u8) -> Answer {
+pub(crate) fn refused(cause: u8) -> Answer {
     Answer {
         code: 3,
         value: stream::wide(cause),
     }
 }
 
-pub fn written(got: Written) -> Answer {
+pub(crate) fn written(got: Written) -> Answer {
     match got {
         Written::Refused(cause) => refused(cause),
         Written::Short(needed) => short(needed),
@@ -41,21 +41,21 @@ pub fn written(got: Written) -> Answer {
 }
 
 // Writes an answer from a place on.
-pub fn put(out: &mut [u8], at: usize, answer: Answer) {
+pub(crate) fn put(out: &mut [u8], at: usize, answer: Answer) {
     let mut bytes = [answer.code; ANSWER];
     buffer::put(&mut bytes, 1, &spelled(answer.value));
     buffer::put(out, at, &bytes);
 }
 
 // Writes one byte, with which its length comes back.
-pub fn put_byte(out: &mut [u8], value: u8) -> usize {
+pub(crate) fn put_byte(out: &mut [u8], value: u8) -> usize {
     let bytes = [value; 1];
     buffer::put(out, 0, &bytes);
     1
 }
 
 // A number in eight bytes.
-pub fn spelled(number: usize) -> [u8; 8] {
+pub(crate) fn spelled(number: usize) -> [u8; 8] {
     let mut bytes = [0u8; 8];
     let mut rest = number;
     let mut i: usize = 8;
@@ -68,7 +68,7 @@ pub fn spelled(number: usize) -> [u8; 8] {
 }
 
 // The number in so many bytes from a place on; 0 where there are fewer.
-pub fn number_at(bytes: &[u8], at: usize, width: usize) -> usize {
+pub(crate) fn number_at(bytes: &[u8], at: usize, width: usize) -> usize {
     if bytes.len() < at {
         return 0;
     }

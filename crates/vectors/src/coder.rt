@@ -18,7 +18,7 @@ const MAX_ROOM: usize = 20_000;
 // The bytes in front of what is encoded or rebuilt.
 const FRONT: usize = 8;
 
-pub fn run(kind: usize, input: &[u8], out: &mut [u8]) -> usize {
+pub(crate) fn run(kind: usize, input: &[u8], out: &mut [u8]) -> usize {
     if kind == 1 {
         return row(true, number_at(input, 0, 1), out);
     }
@@ -83,7 +83,7 @@ fn call(encodes: bool, n: usize, t: usize, input: &[u8], out: &mut [u8]) -> Writ
 }
 
 // A line for each kind that had cases.
-pub fn print(tallies: [Tally; KINDS], before: u64) -> u64 {
+pub(crate) fn print(tallies: [Tally; KINDS], before: u64) -> u64 {
     let mut failed = before;
     failed = stream::print_tally(b"products", tallies[0], failed);
     failed = stream::print_tally(b"inverses", tallies[1], failed);

@@ -32,7 +32,7 @@ const AT_SHARE: usize = AT_PATH + MAX_PATH * 32;
 // The greatest length of a buffer lent.
 const MAX_ROOM: usize = 2_000;
 
-pub fn run(kind: usize, input: &[u8], out: &mut [u8]) -> usize {
+pub(crate) fn run(kind: usize, input: &[u8], out: &mut [u8]) -> usize {
     if kind == 1 {
         return reading(input, out);
     }
@@ -166,7 +166,7 @@ fn writing(input: &[u8], out: &mut [u8]) -> usize {
 }
 
 // A line for each kind that had cases.
-pub fn print(tallies: [Tally; KINDS], before: u64) -> u64 {
+pub(crate) fn print(tallies: [Tally; KINDS], before: u64) -> u64 {
     let mut failed = before;
     failed = stream::print_tally(b"reads", tallies[9], failed);
     failed = stream::print_tally(b"judgements", tallies[10], failed);

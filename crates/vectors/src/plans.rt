@@ -6,9 +6,9 @@ use crate::answer::ANSWER;
 use crate::answer::MALFORMED;
 
 // The bytes in front of the place that the text is printed at.
-pub const FRONT: usize = ANSWER + 32;
+pub(crate) const FRONT: usize = ANSWER + 32;
 
-pub fn run(plan: &[u8], out: &mut [u8]) -> usize {
+pub(crate) fn run(plan: &[u8], out: &mut [u8]) -> usize {
     if out.len() < FRONT {
         return MALFORMED;
     }

@@ -52,13 +52,13 @@ const AT_OUT: usize = AT_SHARE + MAX_SHARE;
 const DIGESTED: usize = AT_OUT + 32;
 
 // What a case finds.
-pub struct World {
+pub(crate) struct World {
     pub state: Party,
     pub inbox: [u8; MAX_INBOX],
 }
 
 // What the next case finds, and how many bytes came of this one.
-pub struct Moved {
+pub(crate) struct Moved {
     pub world: World,
     pub len: usize,
 }
@@ -76,7 +76,7 @@ struct Stepped {
 }
 
 // What the first case finds.
-pub fn blank() -> World {
+pub(crate) fn blank() -> World {
     World {
         state: Party {
             n: 0,
@@ -93,7 +93,7 @@ pub fn blank() -> World {
     }
 }
 
-pub fn run(kind: usize, world: World, input: &[u8], out: &mut [u8]) -> Moved {
+pub(crate) fn run(kind: usize, world: World, input: &[u8], out: &mut [u8]) -> Moved {
     let mut inbox = world.inbox;
     if kind == 8 && number_at(input, 0, 1) == 3 {
         let len = put_bytes(&mut inbox, input);
@@ -397,7 +397,7 @@ fn put_bytes(bytes: &mut [u8], input: &[u8]) -> usize {
 }
 
 // A line for each kind that had cases.
-pub fn print(tallies: [Tally; KINDS], before: u64) -> u64 {
+pub(crate) fn print(tallies: [Tally; KINDS], before: u64) -> u64 {
     let mut failed = before;
     failed = stream::print_tally(b"openings", tallies[13], failed);
     failed = stream::print_tally(b"agreed roots", tallies[14], failed);

@@ -28,7 +28,7 @@ const LEAF: usize = ANSWER + PATH;
 // The place of the root in a check.
 const AT_ROOT: usize = 6 + PATH;
 
-pub fn run(kind: usize, input: &[u8], out: &mut [u8]) -> usize {
+pub(crate) fn run(kind: usize, input: &[u8], out: &mut [u8]) -> usize {
     if kind == 1 {
         return hash(input, out);
     }
@@ -148,7 +148,7 @@ fn path_lengths(n: usize, out: &mut [u8]) -> usize {
 }
 
 // A line for each kind that had cases.
-pub fn print(tallies: [Tally; KINDS], before: u64) -> u64 {
+pub(crate) fn print(tallies: [Tally; KINDS], before: u64) -> u64 {
     let mut failed = before;
     failed = stream::print_tally(b"hashes", tallies[5], failed);
     failed = stream::print_tally(b"trees", tallies[6], failed);
