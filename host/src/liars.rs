@@ -1,14 +1,15 @@
 //! What lying boxes do, by name. A liar knows the whole sitting, and may see what good boxes send
 //! before it speaks itself.
 
-use std::io;
+use std::io::{self, Read};
+use std::net::Shutdown;
 use std::str::FromStr;
 
 use cipangohu::{hash, lay_out, Cause, Hash, Party, MAX_OUTBOX};
 
 use crate::agreement::Agreement;
 use crate::clock::Clock;
-use crate::links::{connect, packets_in, Links};
+use crate::links::{connect, packets_in, Links, PATIENCE};
 use crate::options::{Options, USAGE};
 use crate::roster::Roster;
 use crate::wire::{self, Hello, ROUNDS};
@@ -184,11 +185,15 @@ impl Liar {
     }
 }
 
-/// Connects as somebody else and sends no bytes in both exchanges.
+/// Says silence in both exchanges under a sender's number. Whoever listens hangs up after the last
+/// frame, or at once if the token is wrong; so with the answer all of it has been heard.
 fn say_nothing(port: u16, sender: usize) -> io::Result<()> {
     let token = [0; 16];
     let mut stream = connect(port, &Hello { sender, token })?;
-    (0..ROUNDS).try_for_each(|exchange| wire::write_frame(&mut stream, exchange, &[]))
+    (0..ROUNDS).try_for_each(|exchange| wire::write_frame(&mut stream, exchange, &[]))?;
+    stream.shutdown(Shutdown::Write)?;
+    stream.set_read_timeout(Some(PATIENCE))?;
+    stream.read(&mut [0]).map(drop)
 }
 
 /// Up to 1,275 bytes, every other time starting as a packet does.
