@@ -8,7 +8,7 @@ use native.Mathlib.Omega.{arith}
 use borrow.Author.Tests.{eq-eqb, ne-eqb, lt-ltb, le-ltb}
 use lib.Dec.{eqb}
 use lib.ListN.{length}
-use Rattle.limits.specs.Limits.{maxPlan, parties, numbered}
+use Rattle.limits.specs.Limits.{maxEntry, maxPlan, parties, numbered}
 use Rattle.buffer.specs.Splice.{spliced, tabulate}
 use Rattle.buffer.specs.Entries.{entryAt}
 use Rattle.buffer.specs.Given.{Given, gave, valueOf, written}
@@ -17,7 +17,7 @@ use Rattle.buffer.proofs.Given.{written-done}
 use Rattle.buffer.specs.declared.Written.the-variants.{Refused, Short, Done}
 use Rattle.packet.specs.Inbox.{inboxOf}
 use Rattle.plan.specs.Layout.{names, packetFrom}
-use Rattle.exchange.specs.Exchange.{sentTo, inboxTo, maxBody, maxInbox, fillOf}
+use Rattle.exchange.specs.Exchange.{sentTo, inboxTo, maxInbox, fillOf}
 use Rattle.exchange.specs.Private.{inboxBy}
 use Rattle.exchange.specs.declared.Mail.{Mail}
 
@@ -83,15 +83,15 @@ module _ (m : Mail) (slots lens blocks : List ℕ) (i : ℕ) (out : List ℕ) wh
     fill-3 b = rw (a, b)
 
     module _ (b : numbered (m .n) i ≡ true) where
-      pub fill-4 : maxBody < m .size → fillOf m slots lens blocks i out ≡ gave (Refused 4) out
+      pub fill-4 : maxEntry < m .size → fillOf m slots lens blocks i out ≡ gave (Refused 4) out
       unfolding fillOf
-      fill-4 c = rw (a, b, lt-ltb maxBody (m .size) c)
+      fill-4 c = rw (a, b, lt-ltb maxEntry (m .size) c)
 
-      module _ (c : m .size ≤ maxBody) where
+      module _ (c : m .size ≤ maxEntry) where
         pub fill-9 : length out < maxInbox (m .n) (m .size)
             → fillOf m slots lens blocks i out ≡ gave (Short (maxInbox (m .n) (m .size))) out
         unfolding fillOf
-        fill-9 d = rw (a, b, le-ltb maxBody (m .size) c, lt-ltb (length out) (maxInbox (m .n) (m .size)) d)
+        fill-9 d = rw (a, b, le-ltb maxEntry (m .size) c, lt-ltb (length out) (maxInbox (m .n) (m .size)) d)
 
         module _ (d : maxInbox (m .n) (m .size) ≤ length out) where
           pub fill-13 : maxPlan < length blocks → fillOf m slots lens blocks i out ≡ gave (Refused 13) out
@@ -100,7 +100,7 @@ module _ (m : Mail) (slots lens blocks : List ℕ) (i : ℕ) (out : List ℕ) wh
               rw (
                 a,
                 b,
-                le-ltb maxBody (m .size) c,
+                le-ltb maxEntry (m .size) c,
                 le-ltb (length out) (maxInbox (m .n) (m .size)) d,
                 lt-ltb maxPlan (length blocks) e,
               )
@@ -112,7 +112,7 @@ module _ (m : Mail) (slots lens blocks : List ℕ) (i : ℕ) (out : List ℕ) wh
               rw (
                 a,
                 b,
-                le-ltb maxBody (m .size) c,
+                le-ltb maxEntry (m .size) c,
                 le-ltb (length out) (maxInbox (m .n) (m .size)) d,
                 le-ltb maxPlan (length blocks) e,
               )

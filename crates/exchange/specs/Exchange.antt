@@ -5,7 +5,7 @@ use mathlib.Core.List.{List, []}
 use Prim.Native.Nat.{ℕ, _+_, _-_, _*_, _≤_, _<_, min}
 use lib.Dec.{ltb, eqb}
 use lib.ListN.{length, getD, take, drop}
-use Rattle.limits.specs.Limits.{maxPlan, parties, numbered}
+use Rattle.limits.specs.Limits.{maxEntry, maxPlan, parties, numbered}
 use Rattle.buffer.specs.Splice.{spliced, tabulate}
 use Rattle.buffer.specs.Entries.{entryAt}
 use Rattle.buffer.specs.Given.{Given, gave}
@@ -37,10 +37,6 @@ Slots g size f k slots lens =
     (j : ℕ) → j < k → names g (j + 1) ≡ true
     → (getD lens j 0 ≤ size) × (take (getD lens j 0) (drop (j * size) slots) ≡ f (j + 1))
 
--- an entry has at most as many bytes as two bytes can tell
-abbrev pub maxBody : ℕ
-maxBody = 65535
-
 -- No inbox is longer than this, where the blocks are no longer than a plan (proved: `Rooms`): packets of bad parties stand in the plan, and one of a good party is no longer than its slot.
 abbrev pub maxInbox : ℕ → ℕ → ℕ
 maxInbox n size = maxPlan + n * (size + 2)
@@ -55,7 +51,7 @@ unfoldable pub fillOf : Mail → List ℕ → List ℕ → List ℕ → ℕ → 
 fillOf m slots lens blocks i out =
     cond (not (parties (m .n))) (gave (Refused 1) out)
     (cond (not (numbered (m .n) i)) (gave (Refused 3) out)
-    (cond (ltb maxBody (m .size)) (gave (Refused 4) out)
+    (cond (ltb maxEntry (m .size)) (gave (Refused 4) out)
     (cond (ltb (length out) (maxInbox (m .n) (m .size))) (gave (Short (maxInbox (m .n) (m .size))) out)
     (cond (ltb maxPlan (length blocks)) (gave (Refused 13) out)
     (filled (inboxTo (m .n) (m .good) (m .whole) (slotOf (m .size) slots lens) blocks i) out)))))

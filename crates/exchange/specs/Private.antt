@@ -3,9 +3,9 @@ use mathlib.Core.Bool.{cond}
 use mathlib.Core.List.{List}
 use Prim.Native.Nat.{ℕ, _-_, _≤_}
 use lib.ListN.{length}
-use Rattle.limits.specs.Limits.{maxParties, maxPlan}
+use Rattle.limits.specs.Limits.{maxParties, maxEntry, maxPlan}
 use Rattle.buffer.specs.Entries.{entryAt}
-use Rattle.exchange.specs.Exchange.{maxBody, slotOf, sentTo, inboxTo}
+use Rattle.exchange.specs.Exchange.{slotOf, sentTo, inboxTo}
 use Rattle.exchange.specs.declared.Mail.{Mail}
 
 -- an exchange and a receiver for which there is no cause
@@ -14,7 +14,7 @@ pub record Lawful (m : Mail) (blocks : List ℕ) (i : ℕ) : Type 0 where
   pub few : m .n ≤ maxParties
   pub first : 1 ≤ i
   pub last : i ≤ m .n
-  pub short : m .size ≤ maxBody
+  pub short : m .size ≤ maxEntry
   pub planned : length blocks ≤ maxPlan
 
 -- by the slots: what good party p sends to party i, what any party sends, and party i's inbox

@@ -2,17 +2,15 @@
 ghost use mathlib.Core.Path.{_≡_};
 ghost use Prim.Native.Nat.{_+_, _≤_, min};
 ghost use lib.ListN.{length, getD};
-ghost use Rattle.limits.specs.Limits.{maxParties};
+ghost use Rattle.limits.specs.Limits.{maxParties, maxEntry};
 ghost use Rattle.buffer.specs.Splice.{spliced};
 ghost use Rattle.buffer.specs.Given.{gave};
 ghost use Rattle.packet.specs.Format.{entryOf};
-ghost use Rattle.exchange.specs.Exchange.{maxBody, maxInbox, fillOf};
+ghost use Rattle.exchange.specs.Exchange.{maxInbox, fillOf};
 ghost use Rattle.exchange.specs.Private.{Lawful, handedBy, sentBy, inboxBy};
 use buffer::Written;
+use limits::MAX_ENTRY;
 use limits::MAX_PLAN;
-
-// An entry's bytes are as many as two bytes can tell.
-const MAX_BODY: usize = 65535;
 
 // An exchange among n parties, of whom a map names the good ones. What a good party wrote lies in a slot of so many bytes; it goes to every
 // other party whole, or has an entry for each.
@@ -44,7 +42,7 @@ pub fn fill(
     if !limits::numbered(n, i) {
         return Written::Refused(3);
     }
-    if MAX_BODY < size {
+    if MAX_ENTRY < size {
         return Written::Refused(4);
     }
     let room = MAX_PLAN + n * (size + 2);
@@ -127,7 +125,7 @@ fn sent(
 
 // What good party p sends to party i, out of its slot.
 fn handed(mail: Mail, slots: &[u8], lens: &[usize], p: usize, i: usize, out: &mut [u8]) -> usize
-    requires { ⌜ (1 ≤ p) × (p ≤ maxParties) × (1 ≤ i) × (mail .size ≤ maxBody)
+    requires { ⌜ (1 ≤ p) × (p ≤ maxParties) × (1 ≤ i) × (mail .size ≤ maxEntry)
         × (length (handedBy mail (now slots) (now lens) i p) ≤ length (now out)) ⌝ }
     ensures { λ r. ⌜ (r ≡ length (handedBy mail (now (slots .entry)) (now (lens .entry)) i p))
         × (now (out .exit) ≡ spliced (now (out .entry)) 0 (handedBy mail (now (slots .entry)) (now (lens .entry)) i p)) ⌝ }

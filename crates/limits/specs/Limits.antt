@@ -24,13 +24,25 @@ maxPath = 4
 abbrev pub maxHashed : ℕ
 maxHashed = 65535
 
+-- an entry of an inbox has up to maxEntry bytes behind its length, which has two bytes
+abbrev pub maxEntry : ℕ
+maxEntry = 65535
+
 -- a plan has up to maxPlan bytes
 abbrev pub maxPlan : ℕ
 maxPlan = 60000
 
 abbrev pub greatest : Greatest
 greatest =
-    record { parties = maxParties; message = maxMessage; share = maxShare; path = maxPath; hashed = maxHashed; plan = maxPlan }
+    record {
+      parties = maxParties;
+      message = maxMessage;
+      share = maxShare;
+      path = maxPath;
+      hashed = maxHashed;
+      entry = maxEntry;
+      plan = maxPlan;
+    }
 
 -- n is 1 to maxParties
 unfoldable pub parties : ℕ → Bool

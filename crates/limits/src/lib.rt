@@ -17,6 +17,9 @@ pub const MAX_PATH: usize = 4;
 // The greatest length of a string that is hashed.
 pub const MAX_HASHED: usize = 65535;
 
+// The greatest length of an entry of an inbox, which is told by two bytes.
+pub const MAX_ENTRY: usize = 65535;
+
 // The greatest length of a plan.
 pub const MAX_PLAN: usize = 60000;
 
@@ -27,6 +30,7 @@ pub struct Greatest {
     pub share: usize,
     pub path: usize,
     pub hashed: usize,
+    pub entry: usize,
     pub plan: usize,
 }
 
@@ -40,6 +44,7 @@ pub fn all() -> Greatest
         share: MAX_SHARE,
         path: MAX_PATH,
         hashed: MAX_HASHED,
+        entry: MAX_ENTRY,
         plan: MAX_PLAN,
     }
 }

@@ -5,14 +5,14 @@ use Prim.Native.Nat.{ℕ, _+_, _-_, _*_, _≤_}
 use native.Mathlib.Nat.{mul-le-mul}
 use native.Mathlib.Omega.{arith}
 use lib.ListN.{length, take, drop, length-append, length-drop}
-use Rattle.limits.specs.Limits.{maxParties}
+use Rattle.limits.specs.Limits.{maxParties, maxEntry}
 use Rattle.buffer.specs.Splice.{spliced, tabulate}
 use Rattle.buffer.proofs.Splice.{spliced-none, length-spliced}
 use Rattle.buffer.proofs.Parts.{part-rest, tail-spliced}
 use Rattle.packet.specs.Format.{entryOf}
 use Rattle.packet.specs.Inbox.{inboxOf}
 use Rattle.packet.proofs.Parts.{entry-length}
-use Rattle.exchange.specs.Exchange.{inboxTo, maxBody, maxInbox}
+use Rattle.exchange.specs.Exchange.{inboxTo, maxInbox}
 use Rattle.exchange.specs.Private.{sentBy}
 use Rattle.exchange.specs.declared.Mail.{Mail}
 use Rattle.exchange.proofs.Writing.{inbox-none, inbox-next, inbox-written}
@@ -57,9 +57,9 @@ fits d =
 room : (d : tie.In-loop Inv-loop μ-loop) → let l = d .before in l .loop .at + (2 + length (G l (l .loop .p))) ≤ length (l .loop .out)
 room d = let l = d .before in omega (arith, fits d, l .loop .inv .2, Entry l .pre .1)
 
-small : (st : tie.Start Inv-loop μ-loop) → st .args .mail .n * (st .args .mail .size + 2) ≤ maxParties * (maxBody + 2)
+small : (st : tie.Start Inv-loop μ-loop) → st .args .mail .n * (st .args .mail .size + 2) ≤ maxParties * (maxEntry + 2)
 small st =
-    let h : st .args .mail .size + 2 ≤ maxBody + 2 = omega (arith, st .pre .0 .short) in
+    let h : st .args .mail .size + 2 ≤ maxEntry + 2 = omega (arith, st .pre .0 .short) in
     mul-le-mul {n₂ = maxParties} (st .pre .0 .few) h
 
 loop-holds : tie.Need-loop-holds Inv-loop μ-loop

@@ -8,7 +8,7 @@ use Rattle.buffer.specs.Splice.{spliced, putOf}
 use Rattle.buffer.proofs.Splice.{put-fits, length-spliced}
 use Rattle.buffer.proofs.Parts.{part-rest, tail-spliced}
 use Rattle.packet.proofs.Parts.{entry-length}
-use Rattle.exchange.specs.Exchange.{maxBody}
+use Rattle.limits.specs.Limits.{maxEntry}
 use Rattle.exchange.specs.Private.{sentBy}
 use Rattle.exchange.proofs.Writing.{entry-headed}
 use Rattle.exchange.proofs.Rooms.{sent-within}
@@ -68,7 +68,7 @@ returns c =
     let short : k < 65536 = omega (
       arith,
       y .0,
-      sent-within (a .mail) (a .slots .now) (a .lens .now) (a .blocks .now) (a .i) maxBody (a .p) (st .pre .1) (st .pre .2) (l .short) (omega (arith, l .planned)),
+      sent-within (a .mail) (a .slots .now) (a .lens .now) (a .blocks .now) (a .i) maxEntry (a .p) (st .pre .1) (st .pre .2) (l .short) (omega (arith, l .planned)),
     ) in
     let q = ap (λ (x : List ℕ). take 2 o ++ (x ++ drop (length o - 2) (drop 2 o))) (y .1 ∙ ap (λ (d : List ℕ). spliced d 0 w) (part-rest o 2))
     ∙ tail-spliced o w 2 (length o - 2) refl in

@@ -6,12 +6,11 @@ use Prim.Native.Nat.{ℕ, _+_, _*_, _≤_}
 use native.Mathlib.Nat.{mul-le-mul}
 use native.Mathlib.Omega.{arith}
 use borrow.Author.Tests.{not-false}
-use Rattle.limits.specs.Limits.{maxParties, parties, numbered}
+use Rattle.limits.specs.Limits.{maxParties, maxEntry, parties, numbered}
 use Rattle.limits.proofs.Booleans.{denied}
 use Rattle.limits.proofs.Ranges.{parties-told, numbered-told}
 use Rattle.buffer.specs.Given.{gave}
 use Rattle.buffer.specs.declared.Written.the-variants.{Done}
-use Rattle.exchange.specs.Exchange.{maxBody}
 use Rattle.exchange.specs.Private.{Lawful}
 use Rattle.exchange.proofs.Sending.{fill-1, fill-3, fill-4, fill-9, fill-13, fill-done}
 use borrow.Author.Needs.{needs}
@@ -33,10 +32,10 @@ range : (e : tie.Else1) → let n = Entry (e .before) .args .mail .n in (1 ≤ n
 range e = parties-told _ (e .before .parties .ensures) (e .if1 .left)
 
 -- all slots, with a length each
-slots : (f : tie.Else3) → let m = Entry (f .before .before .before .before) .args .mail in m .n * (m .size + 2) ≤ maxParties * (maxBody + 2)
+slots : (f : tie.Else3) → let m = Entry (f .before .before .before .before) .args .mail in m .n * (m .size + 2) ≤ maxParties * (maxEntry + 2)
 slots f =
     let m = Entry (f .before .before .before .before) .args .mail in
-    let small : m .size + 2 ≤ maxBody + 2 = omega (arith, f .if3 .left) in
+    let small : m .size + 2 ≤ maxEntry + 2 = omega (arith, f .if3 .left) in
     mul-le-mul {n₂ = maxParties} (range (f .before .before .before) .1) small
 
 lawful : (d : tie.Else5) → let a = Entry (d .before .before .before .before .before .before) .args in Lawful (a .mail) (a .blocks .now) (a .i)
