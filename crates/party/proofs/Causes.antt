@@ -21,22 +21,22 @@ use Rattle.party.specs.declared.Party.{Party}
 
 -- a broken state
 module _ (x : Party) where
-  pub broken-group : (groupCause (x .n) (x .t) ≡ 0 → ⊥) → broken x ≡ true
+  pub broken-group : (groupCause (x .seat .n) (x .seat .t) ≡ 0 → ⊥) → broken x ≡ true
   unfolding broken
-  broken-group h = rw (ne-eqb (groupCause (x .n) (x .t)) 0 h)
+  broken-group h = rw (ne-eqb (groupCause (x .seat .n) (x .seat .t)) 0 h)
 
-  module _ (group : groupCause (x .n) (x .t) ≡ 0) where
-    pub broken-number : numbered (x .n) (x .own) ≡ false → broken x ≡ true
+  module _ (group : groupCause (x .seat .n) (x .seat .t) ≡ 0) where
+    pub broken-number : numbered (x .seat .n) (x .seat .own) ≡ false → broken x ≡ true
     unfolding broken
-    broken-number h = rw (eq-eqb (groupCause (x .n) (x .t)) 0 group, h)
+    broken-number h = rw (eq-eqb (groupCause (x .seat .n) (x .seat .t)) 0 group, h)
 
-    module _ (first : 1 ≤ x .own) (last : x .own ≤ x .n) where
+    module _ (first : 1 ≤ x .seat .own) (last : x .seat .own ≤ x .seat .n) where
       pub broken-long : maxMessage < x .len → broken x ≡ true
       unfolding broken
       broken-long h =
           rw (
-            eq-eqb (groupCause (x .n) (x .t)) 0 group,
-            numbered-within (x .n) (x .own) first last,
+            eq-eqb (groupCause (x .seat .n) (x .seat .t)) 0 group,
+            numbered-within (x .seat .n) (x .seat .own) first last,
             lt-ltb maxMessage (x .len) h,
           )
 
@@ -45,8 +45,8 @@ module _ (x : Party) where
         unfolding broken
         broken-held h =
             rw (
-              eq-eqb (groupCause (x .n) (x .t)) 0 group,
-              numbered-within (x .n) (x .own) first last,
+              eq-eqb (groupCause (x .seat .n) (x .seat .t)) 0 group,
+              numbered-within (x .seat .n) (x .seat .own) first last,
               le-ltb maxMessage (x .len) short,
               lt-ltb maxShare (x .held) h,
             )
@@ -55,8 +55,8 @@ module _ (x : Party) where
         unfolding broken
         broken-stage h =
             rw (
-              eq-eqb (groupCause (x .n) (x .t)) 0 group,
-              numbered-within (x .n) (x .own) first last,
+              eq-eqb (groupCause (x .seat .n) (x .seat .t)) 0 group,
+              numbered-within (x .seat .n) (x .seat .own) first last,
               le-ltb maxMessage (x .len) short,
               le-ltb maxShare (x .held) h,
             )
@@ -65,16 +65,16 @@ module _ (x : Party) where
 pub fit-of : (x : Party) → broken x ≡ false → Fit x
 unfolding broken
 fit-of x e =
-    let g : Bool = not (eqb (groupCause (x .n) (x .t)) 0) in
-    let o : Bool = not (numbered (x .n) (x .own)) in
+    let g : Bool = not (eqb (groupCause (x .seat .n) (x .seat .t)) 0) in
+    let o : Bool = not (numbered (x .seat .n) (x .seat .own)) in
     let l : Bool = ltb maxMessage (x .len) in
     let h : Bool = ltb maxShare (x .held) in
     let stage = neither (g || o || l || h) (overlong (x .stage)) e in
     let held = neither (g || o || l) h (stage .0) in
     let long = neither (g || o) l (held .0) in
     let first = neither g o (long .0) in
-    let group = group-of (x .n) (x .t) (eqb-true (groupCause (x .n) (x .t)) 0 (not-false (eqb (groupCause (x .n) (x .t)) 0) (first .0))) in
-    let own = numbered-range (x .n) (x .own) (not-false (numbered (x .n) (x .own)) (first .1)) in
+    let group = group-of (x .seat .n) (x .seat .t) (eqb-true (groupCause (x .seat .n) (x .seat .t)) 0 (not-false (eqb (groupCause (x .seat .n) (x .seat .t)) 0) (first .0))) in
+    let own = numbered-range (x .seat .n) (x .seat .own) (not-false (numbered (x .seat .n) (x .seat .own)) (first .1)) in
     record {
       low = group .low;
       high = group .high;
@@ -109,9 +109,9 @@ state-sound turn x e =
     (h .0, eqb-true (turnOf (x .stage)) turn (not-false (eqb (turnOf (x .stage)) turn) (k .0)))
 
 -- the opening of such a state's message would be accepted
-pub fit-open : (x : Party) → Fit x → (len : ℕ) → len ≡ x .len → openCause (x .n) (x .t) (x .own) len ≡ 0
+pub fit-open : (x : Party) → Fit x → (len : ℕ) → len ≡ x .len → openCause (x .seat .n) (x .seat .t) (x .seat .own) len ≡ 0
 fit-open x f len e =
-    open-fine (x .n) (x .t) (x .own) len (group-fine (x .n) (x .t) (f .low) (f .high) (omega (arith, f .faults))) (f .first) (f .last)
+    open-fine (x .seat .n) (x .seat .t) (x .seat .own) len (group-fine (x .seat .n) (x .seat .t) (f .low) (f .high) (omega (arith, f .faults))) (f .first) (f .last)
     (omega (arith, e, f .short))
 
 pub state-fit : (turn : ℕ) (x : Party) → stateCause turn x ≡ 0 → Fit x
@@ -154,18 +154,18 @@ module _ (turn : ℕ) (x : Party) (inbox : List ℕ) where
   inbox-state h = rw (ne-eqb (stateCause turn x) 0 h)
 
   module _ (fine : stateCause turn x ≡ 0) where
-    pub inbox-uneven : fills (x .n) inbox ≡ false → inboxCause turn x inbox ≡ 8
+    pub inbox-uneven : fills (x .seat .n) inbox ≡ false → inboxCause turn x inbox ≡ 8
     unfolding inboxCause
     inbox-uneven h = rw (eq-eqb (stateCause turn x) 0 fine, h)
 
-    pub inbox-fine : fills (x .n) inbox ≡ true → inboxCause turn x inbox ≡ 0
+    pub inbox-fine : fills (x .seat .n) inbox ≡ true → inboxCause turn x inbox ≡ 0
     unfolding inboxCause
     inbox-fine h = rw (eq-eqb (stateCause turn x) 0 fine, h)
 
 -- where none applies, neither does one of the state, and the inbox is filled
 pub inbox-sound : (turn : ℕ) (x : Party) (inbox : List ℕ) → inboxCause turn x inbox ≡ 0
-    → (stateCause turn x ≡ 0) × (fills (x .n) inbox ≡ true)
+    → (stateCause turn x ≡ 0) × (fills (x .seat .n) inbox ≡ true)
 unfolding inboxCause
 inbox-sound turn x inbox e =
-    let h = cleared (stateCause turn x) (cond (not (fills (x .n) inbox)) 8 0) e in
-    (h .0, not-false (fills (x .n) inbox) (spared (not (fills (x .n) inbox)) 7 0 (h .1) .0))
+    let h = cleared (stateCause turn x) (cond (not (fills (x .seat .n) inbox)) 8 0) e in
+    (h .0, not-false (fills (x .seat .n) inbox) (spared (not (fills (x .seat .n) inbox)) 7 0 (h .1) .0))

@@ -157,15 +157,15 @@ module _ (H : List ℕ → List ℕ) (n : ℕ) where
 -- what step 5 gathers under each number
 pub gathered-at : (H : List ℕ → List ℕ) (x : Party) (j : ℕ) (ps : List (List ℕ)) (k : ℕ) → k < length ps
     → getD (gathered H x j ps) k []
-    ≡ cond (eqb (j + k) (x .own)) (shareHeld x) (shareFrom (classOf H (x .n) (j + k) (x .root) (getD ps k [])))
+    ≡ cond (eqb (j + k) (x .seat .own)) (shareHeld x) (shareFrom (classOf H (x .seat .n) (j + k) (x .root) (getD ps k [])))
 unfolding gathered
 gathered-at H x j [] k l = absurd (omega arith)
 gathered-at H x j (w ∷ ps) zero l =
-    ap (λ (u : ℕ). cond (eqb u (x .own)) (shareHeld x) (shareFrom (classOf H (x .n) u (x .root) w))) (sym (add-zero j))
+    ap (λ (u : ℕ). cond (eqb u (x .seat .own)) (shareHeld x) (shareFrom (classOf H (x .seat .n) u (x .root) w))) (sym (add-zero j))
 gathered-at H x j (w ∷ ps) (suc k) l =
     let e : j + 1 + k ≡ j + suc k = omega arith in
     gathered-at H x (j + 1) ps k (omega arith)
-    ∙ ap (λ (u : ℕ). cond (eqb u (x .own)) (shareHeld x) (shareFrom (classOf H (x .n) u (x .root) (getD ps k [])))) e
+    ∙ ap (λ (u : ℕ). cond (eqb u (x .seat .own)) (shareHeld x) (shareFrom (classOf H (x .seat .n) u (x .root) (getD ps k [])))) e
 
 pub gathered-length : (H : List ℕ → List ℕ) (x : Party) (j : ℕ) (ps : List (List ℕ)) → length (gathered H x j ps) ≡ length ps
 unfolding gathered

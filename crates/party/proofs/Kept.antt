@@ -14,6 +14,7 @@ use Rattle.merkle.specs.Shares.{blank}
 use Rattle.party.specs.State.{padded, messageIn, shareHeld, waiting, atRoot, atBit, atFirst, atSecond, atEnd, Result, outcomeOf, bytesOf}
 use Rattle.party.specs.declared.Stage.{Stage}
 use Rattle.party.specs.declared.Stage.the-variants.{Ended}
+use Rattle.party.specs.declared.Seat.{Seat}
 use Rattle.party.specs.declared.Party.{Party}
 
 pub put-padded : (k : ℕ) (l : List ℕ) → length l ≤ k → putOf (replicate k 0) 0 l ≡ padded k l
@@ -33,55 +34,51 @@ pub length-message : (x : Party) → x .len ≤ length (x .message) → length (
 length-message x h = length-take-le (x .len) (x .message) h
 
 -- a state with its message and its share kept waits
-pub waiting-kept : (n t own : ℕ) (stage : Stage) (bs m r z a y : List ℕ) (len held : ℕ) → bs ≡ padded maxMessage m → len ≡ length m
+pub waiting-kept : (s : Seat) (stage : Stage) (bs m r z a y : List ℕ) (len held : ℕ) → bs ≡ padded maxMessage m → len ≡ length m
     → r ≡ z → a ≡ padded maxShare y → held ≡ length y
     → _≡_ {A = Party} (record {
-      n = n;
-      t = t;
-      own = own;
+      seat = s;
       stage = stage;
       message = bs;
       len = len;
       root = r;
       share = a;
       held = held;
-    }) (waiting n t own stage m z y)
-waiting-kept n t own stage bs m r z a y len held e l q p h = rw (e, l, q, p, h)
+    }) (waiting s stage m z y)
+waiting-kept s stage bs m r z a y len held e l q p h = rw (e, l, q, p, h)
 
 -- a state with a result kept has ended
-pub ended-kept : (n t own : ℕ) (r : Result) (bs : List ℕ) → bs ≡ padded maxMessage (bytesOf r)
+pub ended-kept : (s : Seat) (r : Result) (bs : List ℕ) → bs ≡ padded maxMessage (bytesOf r)
     → _≡_ {A = Party} (record {
-      n = n;
-      t = t;
-      own = own;
+      seat = s;
       stage = Ended (outcomeOf r);
       message = bs;
       len = 0;
       root = blank;
       share = replicate maxShare 0;
       held = 0;
-    }) (atEnd n t own r)
+    }) (atEnd s r)
 unfolding atEnd
-ended-kept n t own r bs e = rw e
+ended-kept s r bs e = rw e
 
 -- the message of a state that waits, and its relayed share
-module _ (n t i : ℕ) (m z : List ℕ) where
-  pub message-root : messageIn (atRoot n t i m) ≡ m
+module _ (s : Seat) (m z : List ℕ) where
+  pub message-root : messageIn (atRoot s m) ≡ m
   unfolding atRoot
   message-root = take-padded maxMessage m
 
-  pub message-bit : messageIn (atBit n t i m z) ≡ m
+  pub message-bit : messageIn (atBit s m z) ≡ m
   unfolding atBit
   message-bit = take-padded maxMessage m
 
-  pub message-first : messageIn (atFirst n t i m z) ≡ m
+  pub message-first : messageIn (atFirst s m z) ≡ m
   unfolding atFirst
   message-first = take-padded maxMessage m
 
-  pub message-second : (x : List ℕ) → messageIn (atSecond n t i m z x) ≡ m
+  pub message-second : (x : List ℕ) → messageIn (atSecond s m z x) ≡ m
   unfolding atSecond
   message-second x = take-padded maxMessage m
 
-  pub share-second : (x : List ℕ) → shareHeld (atSecond n t i m z x) ≡ x
+  pub share-second : (x : List ℕ) → shareHeld (atSecond s m z x) ≡ x
   unfolding atSecond
   share-second x = take-padded maxShare x

@@ -5,14 +5,15 @@ use Prim.Native.Nat.{ℕ}
 use Rattle.commitment.specs.Commitment.{packetWith}
 use Rattle.party.specs.State.{atBit, atFirst}
 use Rattle.party.specs.Steps.{packetFor}
+use Rattle.party.specs.declared.Seat.{Seat}
 use Rattle.party.proofs.Kept.{message-bit, message-first}
 
 -- the packet that a state makes
-module _ (H : List ℕ → List ℕ) (n t i : ℕ) (m z : List ℕ) (j : ℕ) where
-  pub packet-bit : packetFor H (atBit n t i m z) j ≡ packetWith H n t m j
+module _ (H : List ℕ → List ℕ) (s : Seat) (m z : List ℕ) (j : ℕ) where
+  pub packet-bit : packetFor H (atBit s m z) j ≡ packetWith H (s .n) (s .t) m j
   unfolding packetFor atBit
-  packet-bit = ap (λ (b : List ℕ). packetWith H n t b j) (message-bit n t i m z)
+  packet-bit = ap (λ (b : List ℕ). packetWith H (s .n) (s .t) b j) (message-bit s m z)
 
-  pub packet-first : packetFor H (atFirst n t i m z) j ≡ packetWith H n t m j
+  pub packet-first : packetFor H (atFirst s m z) j ≡ packetWith H (s .n) (s .t) m j
   unfolding packetFor atFirst
-  packet-first = ap (λ (b : List ℕ). packetWith H n t b j) (message-first n t i m z)
+  packet-first = ap (λ (b : List ℕ). packetWith H (s .n) (s .t) b j) (message-first s m z)

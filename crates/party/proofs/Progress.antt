@@ -17,7 +17,8 @@ use Rattle.erasure.specs.Rebuild as rebuild
 use Rattle.packet.proofs.Reading.{fields-of}
 use Rattle.party.specs.State.{Result, nothing, settled, bytesOf, messageIn, atRoot, atBit, atFirst, atSecond, atEnd, broken, happy}
 use Rattle.party.specs.Steps.{turnOf, openOf, bitCause, inboxCause, agreeRootOf, outboxOf, agreeBitOf, Taken, missing, found, takenBy}
-use Rattle.party.specs.Steps.{shareTaken, relayOf, heldOf, takeSharesOf, gathered, rebuilt, resultOf, ending, takeRelaysOf, writes, Ballot}
+use Rattle.party.specs.Steps.{shareTaken, relayOf, heldOf, takeSharesOf, gathered, rebuilt, resultOf, ending, takeRelaysOf, writes, Stepped}
+use Rattle.party.specs.declared.Seat.{Seat}
 use Rattle.party.specs.declared.Party.{Party}
 use Rattle.party.specs.declared.Opened.{Opened}
 use Rattle.commitment.proofs.Opening.{open-fine}
@@ -46,7 +47,7 @@ module _ (H : List ℕ → List ℕ) where
     -- step 2
     pub root-accepted : (z : List ℕ) → turnOf (x .stage) ≡ 2 → length z ≡ 32 → agreeRootOf H x z .cause ≡ 0
     root-accepted z turn long =
-        ap (λ (r : Ballot). r .cause) (root-given H x z (root-fine x z (state-fine 2 x whole turn) long))
+        ap (λ (r : Stepped). r .cause) (root-given H x z (root-fine x z (state-fine 2 x whole turn) long))
 
     -- step 3
     pub bit-accepted : (bit : ℕ) (out : List ℕ) → turnOf (x .stage) ≡ 3 → bit ≤ 1 → length (outboxOf H x bit) ≤ length out
@@ -56,20 +57,20 @@ module _ (H : List ℕ → List ℕ) where
         let e = bit-fine x bit (state-fine 3 x whole turn) low in
         rw (eq-eqb (bitCause x bit) 0 e)
         (room-for x
-        (cond (eqb bit 0) (atEnd (x .n) (x .t) (x .own) nothing) (atFirst (x .n) (x .t) (x .own) (messageIn x) (x .root)))
+        (cond (eqb bit 0) (atEnd (x .seat) nothing) (atFirst (x .seat) (messageIn x) (x .root)))
         (outboxOf H x bit) out room)
 
     -- step 4
-    pub shares-accepted : (inbox out : List ℕ) → turnOf (x .stage) ≡ 4 → fills (x .n) inbox ≡ true
+    pub shares-accepted : (inbox out : List ℕ) → turnOf (x .stage) ≡ 4 → fills (x .seat .n) inbox ≡ true
         → length (relayOf H x inbox) ≤ length out → takeSharesOf H x inbox out .cause ≡ 0
     unfolding takeSharesOf
     shares-accepted inbox out turn filled room =
         let e = inbox-fine 4 x inbox (state-fine 4 x whole turn) filled in
         rw (eq-eqb (inboxCause 4 x inbox) 0 e)
-        (room-for x (atSecond (x .n) (x .t) (x .own) (messageIn x) (x .root) (heldOf H x inbox)) (relayOf H x inbox) out room)
+        (room-for x (atSecond (x .seat) (messageIn x) (x .root) (heldOf H x inbox)) (relayOf H x inbox) out room)
 
     -- step 5
-    pub relays-accepted : (inbox out : List ℕ) → turnOf (x .stage) ≡ 5 → fills (x .n) inbox ≡ true
+    pub relays-accepted : (inbox out : List ℕ) → turnOf (x .stage) ≡ 5 → fills (x .seat .n) inbox ≡ true
         → length (bytesOf (resultOf H x inbox)) ≤ length out → takeRelaysOf H x inbox out .cause ≡ 0
     unfolding takeRelaysOf
     relays-accepted inbox out turn filled room =
@@ -77,32 +78,32 @@ module _ (H : List ℕ → List ℕ) where
         rw (eq-eqb (inboxCause 5 x inbox) 0 e) (room-for-end x (resultOf H x inbox) out room)
 
 -- the forms of states within their limits are not broken
-module _ (n t own : ℕ) (low : 1 ≤ n) (high : n ≤ maxParties) (faults : 2 * t < n) (first : 1 ≤ own) (last : own ≤ n) where
-  group : groupCause n t ≡ 0
-  group = group-fine n t low high faults
+module _ (s : Seat) (low : 1 ≤ s .n) (high : s .n ≤ maxParties) (faults : 2 * s .t < s .n) (first : 1 ≤ s .own) (last : s .own ≤ s .n) where
+  group : groupCause (s .n) (s .t) ≡ 0
+  group = group-fine (s .n) (s .t) low high faults
 
   module _ (m : List ℕ) (short : length m ≤ maxMessage) where
-    pub root-whole : broken (atRoot n t own m) ≡ false
+    pub root-whole : broken (atRoot s m) ≡ false
     unfolding atRoot
-    root-whole = broken-stage (atRoot n t own m) group first last short (omega arith)
+    root-whole = broken-stage (atRoot s m) group first last short (omega arith)
 
-    pub bit-whole : (z : List ℕ) → broken (atBit n t own m z) ≡ false
+    pub bit-whole : (z : List ℕ) → broken (atBit s m z) ≡ false
     unfolding atBit
-    bit-whole z = broken-stage (atBit n t own m z) group first last short (omega arith)
+    bit-whole z = broken-stage (atBit s m z) group first last short (omega arith)
 
-    pub first-whole : (z : List ℕ) → broken (atFirst n t own m z) ≡ false
+    pub first-whole : (z : List ℕ) → broken (atFirst s m z) ≡ false
     unfolding atFirst
-    first-whole z = broken-stage (atFirst n t own m z) group first last short (omega arith)
+    first-whole z = broken-stage (atFirst s m z) group first last short (omega arith)
 
-    pub second-whole : (z y : List ℕ) → length y ≤ maxShare → broken (atSecond n t own m z y) ≡ false
+    pub second-whole : (z y : List ℕ) → length y ≤ maxShare → broken (atSecond s m z y) ≡ false
     unfolding atSecond
-    second-whole z y few = broken-stage (atSecond n t own m z y) group first last short few
+    second-whole z y few = broken-stage (atSecond s m z y) group first last short few
 
-  pub end-whole : (r : Result) → length (bytesOf r) ≤ maxMessage → broken (atEnd n t own r) ≡ false
+  pub end-whole : (r : Result) → length (bytesOf r) ≤ maxMessage → broken (atEnd s r) ≡ false
   unfolding atEnd
-  end-whole nothing h = broken-stage (atEnd n t own nothing) group first last (omega arith) (omega arith)
+  end-whole nothing h = broken-stage (atEnd s nothing) group first last (omega arith) (omega arith)
   end-whole (settled m) h =
-      broken-stage (atEnd n t own (settled m)) group first last (omega arith) (omega arith) ∙ le-ltb maxMessage (length m) h
+      broken-stage (atEnd s (settled m)) group first last (omega arith) (omega arith) ∙ le-ltb maxMessage (length m) h
 
 -- what an accepted call keeps is within the limits: the message, the share taken, and the result
 module _ (H : List ℕ → List ℕ) (x : Party) (whole : broken x ≡ false) where
@@ -117,9 +118,9 @@ module _ (H : List ℕ → List ℕ) (x : Party) (whole : broken x ≡ false) wh
       go true t e = omega arith
       go false missing e = rw e (omega arith)
       go false (found y p) e =
-          let k = took H (x .n) (x .own) (x .root) 1 (bodies (x .n) inbox) y p e in
-          let q = passing H (x .n) (x .own) (x .root) (k .packet) y p (k .good) in
-          rw e (fields-of (x .n) (k .packet) (x .own) y p (q .reads) .most)
+          let k = took H (x .seat .n) (x .seat .own) (x .root) 1 (bodies (x .seat .n) inbox) y p e in
+          let q = passing H (x .seat .n) (x .seat .own) (x .root) (k .packet) y p (k .good) in
+          rw e (fields-of (x .seat .n) (k .packet) (x .seat .own) y p (q .reads) .most)
 
   rebuilt-short : (r : Recovered) → Short r → length (bytesOf (rebuilt r)) ≤ maxMessage
   rebuilt-short (rebuild.cause k) h = omega arith
@@ -130,11 +131,11 @@ module _ (H : List ℕ → List ℕ) (x : Party) (whole : broken x ≡ false) wh
   result-short inbox = go (happy H x)
     where
       r : Recovered
-      r = recovered (x .n - x .t) (present 1 (gathered H x 1 (bodies (x .n) inbox)))
+      r = recovered (x .seat .n - x .seat .t) (present 1 (gathered H x 1 (bodies (x .seat .n) inbox)))
 
       go : (b : Bool) → length (bytesOf (cond b (settled (messageIn x))
-          (rebuilt (recovered (x .n - x .t) (present 1 (gathered H x 1 (bodies (x .n) inbox))))))) ≤ maxMessage
+          (rebuilt (recovered (x .seat .n - x .seat .t) (present 1 (gathered H x 1 (bodies (x .seat .n) inbox))))))) ≤ maxMessage
       go true = message-short
       go false =
-          rebuilt-short (recovered (x .n - x .t) (present 1 (gathered H x 1 (bodies (x .n) inbox))))
-          (short-recovered (x .n - x .t) (present 1 (gathered H x 1 (bodies (x .n) inbox))))
+          rebuilt-short (recovered (x .seat .n - x .seat .t) (present 1 (gathered H x 1 (bodies (x .seat .n) inbox))))
+          (short-recovered (x .seat .n - x .seat .t) (present 1 (gathered H x 1 (bodies (x .seat .n) inbox))))

@@ -25,6 +25,7 @@ use Rattle.commitment.proofs.Shared.{shares-bound}
 use Rattle.commitment.proofs.Messages.{share-fits, pathTo, path-count, path-each}
 use Rattle.party.specs.State.{atBit, atFirst, happy}
 use Rattle.party.specs.Steps.{packetFor, outboxOf, Taken, missing, found, takenBy, packetTaken, ownRelay, relayOf}
+use Rattle.party.specs.declared.Seat.{Seat}
 use Rattle.party.proofs.Packets.{packet-bit, packet-first}
 use Rattle.party.proofs.Checks.{took, passing}
 
@@ -46,7 +47,13 @@ none-there zero k = refl
 none-there (suc n) zero = refl
 none-there (suc n) (suc k) = none-there n k
 
-module _ (H : List ℕ → List ℕ) (wide : (s : List ℕ) → length (H s) ≡ 32) (n t i : ℕ) (m z : List ℕ) (c : Coded n t m) where
+module _ (H : List ℕ → List ℕ) (wide : (w : List ℕ) → length (H w) ≡ 32) (s : Seat) (m z : List ℕ) (c : Coded (s .n) (s .t) m) where
+  abbrev n : ℕ
+  n = s .n
+
+  abbrev t : ℕ
+  t = s .t
+
   -- the length of a packet whose path is the longest
   abbrev most : ℕ
   most = 4 + shareLength (n - t) (length m) + 32 * maxPath
@@ -75,17 +82,17 @@ module _ (H : List ℕ → List ℕ) (wide : (s : List ℕ) → length (H s) ≡
       )
 
   -- the outbox of step 3
-  pub outbox-fits : (bit : ℕ) → length (outboxOf H (atBit n t i m z) bit) ≤ maxOutbox
+  pub outbox-fits : (bit : ℕ) → length (outboxOf H (atBit s m z) bit) ≤ maxOutbox
   unfolding outboxOf atBit
-  outbox-fits bit = go (eqb bit 1 && happy H (atBit n t i m z))
+  outbox-fits bit = go (eqb bit 1 && happy H (atBit s m z))
     where
       f : ℕ → List ℕ
-      f k = cond (eqb (k + 1) i) [] (packetFor H (atBit n t i m z) (k + 1))
+      f k = cond (eqb (k + 1) (s .own)) [] (packetFor H (atBit s m z) (k + 1))
 
-      each : (k : ℕ) → k < n → (b : Bool) → length (cond b [] (packetFor H (atBit n t i m z) (k + 1))) ≤ most
+      each : (k : ℕ) → k < n → (b : Bool) → length (cond b [] (packetFor H (atBit s m z) (k + 1))) ≤ most
       each k l true = omega arith
       each k l false =
-          subst (λ (w : List ℕ). length w ≤ most) (sym (packet-bit H n t i m z (k + 1)))
+          subst (λ (w : List ℕ). length w ≤ most) (sym (packet-bit H s m z (k + 1)))
           (made-length (k + 1) (omega arith) (omega arith))
 
       all : (ps : List (List ℕ)) → length ps ≡ n → ((k : ℕ) → k < n → length (getD ps k []) ≤ most) → length (inboxOf ps) ≤ maxOutbox
@@ -93,35 +100,35 @@ module _ (H : List ℕ → List ℕ) (wide : (s : List ℕ) → length (H s) ≡
           let below : length ps * (2 + most) ≤ maxOutbox = rw e entries-fit in
           omega (arith, inbox-below most ps (λ k l. h k (omega (arith, e, l))), below)
 
-      go : (b : Bool) → length (inboxOf (cond b (tabulate n (λ k. cond (eqb (k + 1) i) [] (packetFor H (atBit n t i m z) (k + 1))))
+      go : (b : Bool) → length (inboxOf (cond b (tabulate n (λ k. cond (eqb (k + 1) (s .own)) [] (packetFor H (atBit s m z) (k + 1))))
           (replicate n []))) ≤ maxOutbox
       go true =
           all (tabulate n f) (length-tabulate n f)
-          (λ k l. subst (λ (w : List ℕ). length w ≤ most) (sym (getD-tabulate n f k [] l)) (each k l (eqb (k + 1) i)))
+          (λ k l. subst (λ (w : List ℕ). length w ≤ most) (sym (getD-tabulate n f k [] l)) (each k l (eqb (k + 1) (s .own))))
       go false = all (replicate n []) (length-replicate {A = List ℕ} n []) (λ k l. omega (arith, none-there n k))
 
   -- the relay of step 4
-  pub relay-fits : 1 ≤ i → i ≤ n → (inbox : List ℕ) → length (relayOf H (atFirst n t i m z) inbox) ≤ maxPacket
+  pub relay-fits : 1 ≤ s .own → s .own ≤ n → (inbox : List ℕ) → length (relayOf H (atFirst s m z) inbox) ≤ maxPacket
   unfolding relayOf atFirst
-  relay-fits first last inbox = go (happy H (atFirst n t i m z)) (takenBy H (atFirst n t i m z) inbox) refl
+  relay-fits first last inbox = go (happy H (atFirst s m z)) (takenBy H (atFirst s m z) inbox) refl
     where
-      alone : (b : Bool) → length (cond b [] (packetFor H (atFirst n t i m z) i)) ≤ maxPacket
+      alone : (b : Bool) → length (cond b [] (packetFor H (atFirst s m z) (s .own))) ≤ maxPacket
       alone true = omega arith
       alone false =
-          subst (λ (w : List ℕ). length w ≤ maxPacket) (sym (packet-first H n t i m z i)) (made-short i first last)
+          subst (λ (w : List ℕ). length w ≤ maxPacket) (sym (packet-first H s m z (s .own))) (made-short (s .own) first last)
 
-      go : (b : Bool) (k : Taken) → takenBy H (atFirst n t i m z) inbox ≡ k
-          → length (cond b (ownRelay H (atFirst n t i m z)) (packetTaken (atFirst n t i m z) (takenBy H (atFirst n t i m z) inbox))) ≤ maxPacket
+      go : (b : Bool) (k : Taken) → takenBy H (atFirst s m z) inbox ≡ k
+          → length (cond b (ownRelay H (atFirst s m z)) (packetTaken (atFirst s m z) (takenBy H (atFirst s m z) inbox))) ≤ maxPacket
       go true k e = alone (eqb n 1)
       go false missing e = rw e (omega arith)
       go false (found y p) e =
-          let k = took H n i z 1 (bodies n inbox) y p e in
-          let q = passing H n i z (k .packet) y p (k .good) in
-          let f = fields-of n (k .packet) i y p (q .reads) in
+          let k = took H n (s .own) z 1 (bodies n inbox) y p e in
+          let q = passing H n (s .own) z (k .packet) y p (k .good) in
+          let f = fields-of n (k .packet) (s .own) y p (q .reads) in
           rw e (omega (
             arith,
-            packet-length i y p (read-wide n (k .packet) i y p (q .reads)),
+            packet-length (s .own) y p (read-wide n (k .packet) (s .own) y p (q .reads)),
             f .most,
             f .counted,
-            sides-fit n (i - 1) (c .high) (omega arith),
+            sides-fit n (s .own - 1) (c .high) (omega arith),
           ))

@@ -37,15 +37,15 @@ silence (suc n) =
 
 module _ (H : List ℕ → List ℕ) where
   -- a party sends no packet on bit 0, nor if it is not happy
-  pub outbox-silent : (x : Party) (bit : ℕ) → eqb bit 1 && happy H x ≡ false → outboxOf H x bit ≡ replicate (2 * x .n) 0
+  pub outbox-silent : (x : Party) (bit : ℕ) → eqb bit 1 && happy H x ≡ false → outboxOf H x bit ≡ replicate (2 * x .seat .n) 0
   unfolding outboxOf
-  outbox-silent x bit h = rw h (silence (x .n))
+  outbox-silent x bit h = rw h (silence (x .seat .n))
 
   -- what a happy party sends is what its message gives
-  pub outbox-mail : (x : Party) → happy H x ≡ true → outboxOf H x 1 ≡ mailWith H false (x .n) (x .t) (x .own) (messageIn x)
+  pub outbox-mail : (x : Party) → happy H x ≡ true → outboxOf H x 1 ≡ mailWith H false (x .seat .n) (x .seat .t) (x .seat .own) (messageIn x)
   unfolding outboxOf packetFor
   outbox-mail x h = rw h refl
 
-  pub relay-mail : (x : Party) → ownRelay H x ≡ mailWith H true (x .n) (x .t) (x .own) (messageIn x)
+  pub relay-mail : (x : Party) → ownRelay H x ≡ mailWith H true (x .seat .n) (x .seat .t) (x .seat .own) (messageIn x)
   unfolding packetFor
   relay-mail x = refl

@@ -94,14 +94,14 @@ module _ (H : List ℕ → List ℕ) where
       ∙ ap (λ (l : List (List ℕ)). written (packetOf own y l) out) h
 
   -- rebuilding from the entries of the shares gathered
-  pub rebuilt-of : (x : Party) (inbox es out : List ℕ) → Fit x → es ≡ inboxOf (gathered H x 1 (bodies (x .n) inbox))
-      → rebuildOf (x .n) (x .t) es out ≡ answered (recovered (x .n - x .t) (present 1 (gathered H x 1 (bodies (x .n) inbox)))) out
+  pub rebuilt-of : (x : Party) (inbox es out : List ℕ) → Fit x → es ≡ inboxOf (gathered H x 1 (bodies (x .seat .n) inbox))
+      → rebuildOf (x .seat .n) (x .seat .t) es out ≡ answered (recovered (x .seat .n - x .seat .t) (present 1 (gathered H x 1 (bodies (x .seat .n) inbox)))) out
   rebuilt-of x inbox es out f e =
-      let gs : List (List ℕ) = gathered H x 1 (bodies (x .n) inbox) in
-      let long : length gs ≡ x .n = gathered-length H x 1 (bodies (x .n) inbox) ∙ length-bodies (x .n) inbox in
-      rebuild-answered (x .n) (x .t) es out (group-fine (x .n) (x .t) (f .low) (f .high) (omega (arith, f .faults)))
+      let gs : List (List ℕ) = gathered H x 1 (bodies (x .seat .n) inbox) in
+      let long : length gs ≡ x .seat .n = gathered-length H x 1 (bodies (x .seat .n) inbox) ∙ length-bodies (x .seat .n) inbox in
+      rebuild-answered (x .seat .n) (x .seat .t) es out (group-fine (x .seat .n) (x .seat .t) (f .low) (f .high) (omega (arith, f .faults)))
       (ap₂ fills (sym long) e ∙ inbox-fills gs)
-      ∙ ap (λ (l : List (List ℕ)). answered (recovered (x .n - x .t) (present 1 l)) out) (ap₂ bodies (sym long) e ∙ inbox-bodies gs)
+      ∙ ap (λ (l : List (List ℕ)). answered (recovered (x .seat .n - x .seat .t) (present 1 l)) out) (ap₂ bodies (sym long) e ∙ inbox-bodies gs)
 
 -- a message that was found is within its limit
 abbrev pub Short : Recovered → Type 0

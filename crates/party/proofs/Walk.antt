@@ -92,11 +92,11 @@ module _ (H : List ℕ → List ℕ) where
   picked n own z x j (p ∷ ps) = cond (eqb j own) x (shareFrom (classOf H n j z p)) ∷ picked n own z x (j + 1) ps
 
   pub picked-gathered : (x : Party) (j : ℕ) (ps : List (List ℕ))
-      → picked (x .n) (x .own) (x .root) (shareHeld x) j ps ≡ gathered H x j ps
+      → picked (x .seat .n) (x .seat .own) (x .root) (shareHeld x) j ps ≡ gathered H x j ps
   unfolding picked gathered
   picked-gathered x j [] = refl
   picked-gathered x j (p ∷ ps) =
-      ap (λ (l : List (List ℕ)). cond (eqb j (x .own)) (shareHeld x) (shareFrom (classOf H (x .n) j (x .root) p)) ∷ l)
+      ap (λ (l : List (List ℕ)). cond (eqb j (x .seat .own)) (shareHeld x) (shareFrom (classOf H (x .seat .n) j (x .root) p)) ∷ l)
       (picked-gathered x (j + 1) ps)
 
   pub picked-none : (n own : ℕ) (z x : List ℕ) (k j at : ℕ) (s : List ℕ) → k ≡ 0

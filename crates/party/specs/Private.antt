@@ -10,16 +10,18 @@ use Rattle.packet.specs.Format.{hashes}
 use Rattle.packet.specs.Class.{Class, silent, faulty, valid}
 use Rattle.party.specs.Steps.{Taken, missing, found}
 use Rattle.party.specs.declared.Party.{Party}
+use Rattle.party.specs.declared.Answer.the-variants as answer
+use Rattle.party.specs.declared.Reply.{Reply}
 use Rattle.party.specs.declared.Placed.{Placed}
 use Rattle.party.specs.declared.Placed.the-variants.{Nowhere, At}
 
 -- a state that is not broken, as bounds
 pub record Fit (x : Party) : Type 0 where
-  pub low : 1 ≤ x .n
-  pub high : x .n ≤ maxParties
-  pub faults : 2 * x .t + 1 ≤ x .n
-  pub first : 1 ≤ x .own
-  pub last : x .own ≤ x .n
+  pub low : 1 ≤ x .seat .n
+  pub high : x .seat .n ≤ maxParties
+  pub faults : 2 * x .seat .t + 1 ≤ x .seat .n
+  pub first : 1 ≤ x .seat .own
+  pub last : x .seat .own ≤ x .seat .n
   pub short : x .len ≤ maxMessage
   pub few : x .held ≤ maxShare
 
@@ -47,8 +49,8 @@ TakenIs Nowhere (found share path) s = ⊥
 TakenIs (At from len count) missing s = ⊥
 TakenIs (At from len count) (found share path) s = Lies s share path from len count
 
--- the next state where bytes were written, else the state as it was
-abbrev pub after : Party → Party → Written → Party
-after x next (Refused k) = x
-after x next (Short k) = x
-after x next (Done k) = next
+-- what comes of writing: the next state where bytes were written, else the state as it was
+abbrev pub after : Party → Party → Written → Reply
+after x next (Refused k) = record { state = x; answer = answer.Refused k }
+after x next (Short k) = record { state = x; answer = answer.Short k }
+after x next (Done k) = record { state = next; answer = answer.Sent k }

@@ -13,7 +13,12 @@ use Rattle.party.specs.declared.Outcome.{Outcome}
 use Rattle.party.specs.declared.Outcome.the-variants.{Nothing, Message}
 use Rattle.party.specs.declared.Stage.{Stage}
 use Rattle.party.specs.declared.Stage.the-variants.{Root, Bit, First, Second, Ended}
+use Rattle.party.specs.declared.Seat.{Seat}
 use Rattle.party.specs.declared.Party.{Party}
+
+-- the seat among n parties, of whom t may be bad, with the own number
+abbrev pub seatOf : ℕ → ℕ → ℕ → Seat
+seatOf n t own = record { n = n; t = t; own = own }
 
 -- a list in an array of k bytes: zeros past its length
 abbrev pub padded : ℕ → List ℕ → List ℕ
@@ -27,12 +32,10 @@ abbrev pub shareHeld : Party → List ℕ
 shareHeld x = take (x .held) (x .share)
 
 -- a state that waits, with its message, agreed root and relayed share
-abbrev pub waiting : ℕ → ℕ → ℕ → Stage → List ℕ → List ℕ → List ℕ → Party
-waiting n t own stage m z x =
+abbrev pub waiting : Seat → Stage → List ℕ → List ℕ → List ℕ → Party
+waiting s stage m z x =
     record {
-      n = n;
-      t = t;
-      own = own;
+      seat = s;
       stage = stage;
       message = padded maxMessage m;
       len = length m;
@@ -42,17 +45,17 @@ waiting n t own stage m z x =
     }
 
 -- the five forms: waiting for the root, for the bit, for the first inbox, for the second, and ended
-unfoldable pub atRoot : ℕ → ℕ → ℕ → List ℕ → Party
-atRoot n t own m = waiting n t own Root m blank []
+unfoldable pub atRoot : Seat → List ℕ → Party
+atRoot s m = waiting s Root m blank []
 
-unfoldable pub atBit : ℕ → ℕ → ℕ → List ℕ → List ℕ → Party
-atBit n t own m z = waiting n t own Bit m z []
+unfoldable pub atBit : Seat → List ℕ → List ℕ → Party
+atBit s m z = waiting s Bit m z []
 
-unfoldable pub atFirst : ℕ → ℕ → ℕ → List ℕ → List ℕ → Party
-atFirst n t own m z = waiting n t own First m z []
+unfoldable pub atFirst : Seat → List ℕ → List ℕ → Party
+atFirst s m z = waiting s First m z []
 
-unfoldable pub atSecond : ℕ → ℕ → ℕ → List ℕ → List ℕ → List ℕ → Party
-atSecond n t own m z x = waiting n t own Second m z x
+unfoldable pub atSecond : Seat → List ℕ → List ℕ → List ℕ → Party
+atSecond s m z x = waiting s Second m z x
 
 -- a result: nothing, or a message (which may be empty)
 pub data Result : Type 0 where
@@ -68,12 +71,10 @@ bytesOf nothing = []
 bytesOf (settled m) = m
 
 -- an ended party holds its result's bytes, and neither message, root nor share
-unfoldable pub atEnd : ℕ → ℕ → ℕ → Result → Party
-atEnd n t own r =
+unfoldable pub atEnd : Seat → Result → Party
+atEnd s r =
     record {
-      n = n;
-      t = t;
-      own = own;
+      seat = s;
       stage = Ended (outcomeOf r);
       message = padded maxMessage (bytesOf r);
       len = 0;
@@ -102,9 +103,7 @@ resultIn x = resultAt (x .stage) (x .message)
 unfoldable pub blankState : Party
 blankState =
     record {
-      n = 0;
-      t = 0;
-      own = 0;
+      seat = seatOf 0 0 0;
       stage = Root;
       message = replicate maxMessage 0;
       len = 0;
@@ -125,10 +124,10 @@ overlong (Ended (Message l)) = ltb maxMessage l
 -- cause 5: a state that breaks causes 1 to 4, or holds a length over its limit
 unfoldable pub broken : Party → Bool
 broken x =
-    not (eqb (groupCause (x .n) (x .t)) 0) || not (numbered (x .n) (x .own)) || ltb maxMessage (x .len) || ltb maxShare (x .held)
+    not (eqb (groupCause (x .seat .n) (x .seat .t)) 0) || not (numbered (x .seat .n) (x .seat .own)) || ltb maxMessage (x .len) || ltb maxShare (x .held)
     || overlong (x .stage)
 
 module _ (H : List ℕ → List ℕ) where
   -- a party is happy if the agreed root is that of its own message: worked out, never stored
   unfoldable pub happy : Party → Bool
-  happy x = same (messageRoot H (x .n) (x .t) (messageIn x)) (x .root)
+  happy x = same (messageRoot H (x .seat .n) (x .seat .t) (messageIn x)) (x .root)

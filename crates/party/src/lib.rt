@@ -1,6 +1,7 @@
 // One party of a session (document 01: a box): its state, its opening, and the four steps that follow.
 ghost use mathlib.Core.Path.{_≡_};
 ghost use mathlib.Core.Bool.{true, false};
+ghost use mathlib.Core.List.{[]};
 ghost use Prim.Native.Nat.{_+_, _-_, _*_, _≤_, _<_};
 ghost use lib.ListN.{length, take, drop, replicate};
 ghost use Rattle.sha256.specs.Sha256.{sha256};
@@ -14,7 +15,7 @@ ghost use Rattle.packet.specs.Class.{classOf};
 ghost use Rattle.commitment.specs.Commitment.{mailWith};
 ghost use Rattle.party.specs.State.{padded, messageIn, settled, blankState, overlong, broken, happy};
 ghost use Rattle.party.specs.Steps.{turnOf, stateCause, inboxCause, firstValid, gathered};
-ghost use Rattle.party.specs.Steps.{voted, stepped, writes, ended, ending, openOf, agreeRootOf, agreeBitOf, takeSharesOf, takeRelaysOf};
+ghost use Rattle.party.specs.Steps.{stepped, writes, ending, openOf, agreeRootOf, agreeBitOf, takeSharesOf, takeRelaysOf};
 ghost use Rattle.party.specs.Private.{Fit, ClassIs, TakenIs, after};
 use buffer::Written;
 use commitment::Rooted;
@@ -41,11 +42,16 @@ pub enum Stage {
     Ended(Outcome),
 }
 
-// The state of a party.
-pub struct Party {
+// Where a party sits: how many there are, how many of them may be bad, and its own number.
+pub struct Seat {
     pub n: usize,
     pub t: usize,
     pub own: usize,
+}
+
+// The state of a party.
+pub struct Party {
+    pub seat: Seat,
     pub stage: Stage,
     pub message: [u8; MAX_MESSAGE],
     pub len: usize,
@@ -61,43 +67,30 @@ pub struct Opened {
     pub root: [u8; 32],
 }
 
-// The answer of step 2.
-pub enum Vote {
-    Refused(u8),
-    Happy(bool),
-}
-
-pub struct Voted {
-    pub state: Party,
-    pub answer: Vote,
-}
-
-// What steps 3 and 4 give: the state, and how many bytes were written.
-pub struct Step {
-    pub state: Party,
-    pub answer: Written,
-}
-
-// The answer of step 5.
-pub enum Settled {
+// The answer of a step: the cause for which it was refused, with cause 9 the length needed; else of step 2 the party's bit, of steps 3 and 4 how
+// many bytes were written, of step 5 the result.
+pub enum Answer {
     Refused(u8),
     Short(usize),
+    Happy(bool),
+    Sent(usize),
     Nothing,
     Message(usize),
 }
 
-pub struct Ended {
+// What a step gives back.
+pub struct Reply {
     pub state: Party,
-    pub answer: Settled,
+    pub answer: Answer,
 }
 
 // The greatest length of n entries with a share each.
 const MAX_ENTRIES: usize = MAX_PARTIES * (MAX_SHARE + 2);
 
-// What came of sending: whether the party is happy, and the step that it then takes.
+// What came of sending: whether the party is happy, and what the step then gives back.
 struct Tried {
     happy: bool,
-    step: Step,
+    reply: Reply,
 }
 
 impl Party {
@@ -121,9 +114,7 @@ impl Party {
         let mut held = [0u8; MAX_MESSAGE];
         buffer::put(&mut held, 0, message);
         let state = Party {
-            n,
-            t,
-            own,
+            seat: Seat { n, t, own },
             stage: Stage::Root,
             message: held,
             len: message.len(),
@@ -135,33 +126,27 @@ impl Party {
     }
 
     // Step 2: the agreed root comes; the answer is this party's bit for the second short agreement.
-    pub fn agree_root(self, root: &[u8]) -> Voted
-        ensures { λ r. ⌜ voted r ≡ agreeRootOf sha256 self (now (root .entry)) ⌝ }
+    pub fn agree_root(self, root: &[u8]) -> Reply
+        ensures { λ r. ⌜ stepped r [] ≡ agreeRootOf sha256 self (now (root .entry)) ⌝ }
     {
         let cause = self.state_cause(2);
         if cause != 0 {
-            return Voted {
-                state: self,
-                answer: Vote::Refused(cause),
-            };
+            return self.refused(cause);
         }
         if root.len() != 32 {
-            return Voted {
-                state: self,
-                answer: Vote::Refused(7),
-            };
+            return self.refused(7);
         }
         let mut agreed = [0u8; 32];
         buffer::put(&mut agreed, 0, root);
         let state = self.waiting(Stage::Bit, agreed, [0; MAX_SHARE], 0);
-        Voted {
+        Reply {
             state,
-            answer: Vote::Happy(state.happy()),
+            answer: Answer::Happy(state.happy()),
         }
     }
 
     // Step 3: the agreed bit comes. On 1 a happy party writes a packet for each other party.
-    pub fn agree_bit(self, bit: u8, out: &mut [u8]) -> Step
+    pub fn agree_bit(self, bit: u8, out: &mut [u8]) -> Reply
         ensures { λ r. ⌜ stepped r (now (out .exit)) ≡ agreeBitOf sha256 self bit (now (out .entry)) ⌝ }
     {
         let cause = self.state_cause(3);
@@ -177,62 +162,51 @@ impl Party {
         }
         let root = self.root;
         let next = self.waiting(Stage::First, root, [0; MAX_SHARE], 0);
-        let Tried { happy, step } = self.send(false, next, out);
+        let Tried { happy, reply } = self.send(false, next, out);
         if happy {
-            return step;
+            return reply;
         }
         self.silent(next, out)
     }
 
     // Step 4: the first inbox comes. A happy party relays its own share, another the one it was sent.
-    pub fn take_shares(self, inbox: &[u8], out: &mut [u8]) -> Step
+    pub fn take_shares(self, inbox: &[u8], out: &mut [u8]) -> Reply
         ensures { λ r. ⌜ stepped r (now (out .exit)) ≡ takeSharesOf sha256 self (now (inbox .entry)) (now (out .entry)) ⌝ }
     {
         let cause = self.inbox_cause(4, inbox);
         if cause != 0 {
             return self.refused(cause);
         }
-        let n = self.n;
-        let own = self.own;
+        let n = self.seat.n;
+        let own = self.seat.own;
         let root = self.root;
         let next = self.waiting(Stage::Second, root, [0; MAX_SHARE], 0);
-        let Tried { happy, step } = self.send(true, next, out);
+        let Tried { happy, reply } = self.send(true, next, out);
         if happy {
-            return step;
+            return reply;
         }
         let Placed::At(from, len, count) = first_valid(n, own, &root, inbox) else {
-            return Step {
+            return Reply {
                 state: next,
-                answer: Written::Done(0),
+                answer: Answer::Sent(0),
             };
         };
         let end = from + len;
         let path = packet::path_at(inbox, end, count);
-        let answer = packet::write(n, own, &inbox[from..end], path, count, out);
-        let Written::Done(_) = answer else {
-            return Step {
-                state: self,
-                answer,
-            };
-        };
         let mut share = [0u8; MAX_SHARE];
         buffer::put(&mut share, 0, &inbox[from..end]);
-        Step {
-            state: self.waiting(Stage::Second, root, share, len),
-            answer,
-        }
+        let holding = self.waiting(Stage::Second, root, share, len);
+        let answer = packet::write(n, own, &inbox[from..end], path, count, out);
+        self.after(holding, answer)
     }
 
     // Step 5: the second inbox comes. A happy party ends with its message, another with what it rebuilds.
-    pub fn take_relays(self, inbox: &[u8], out: &mut [u8]) -> Ended
-        ensures { λ r. ⌜ ended r (now (out .exit)) ≡ takeRelaysOf sha256 self (now (inbox .entry)) (now (out .entry)) ⌝ }
+    pub fn take_relays(self, inbox: &[u8], out: &mut [u8]) -> Reply
+        ensures { λ r. ⌜ stepped r (now (out .exit)) ≡ takeRelaysOf sha256 self (now (inbox .entry)) (now (out .entry)) ⌝ }
     {
         let cause = self.inbox_cause(5, inbox);
         if cause != 0 {
-            return Ended {
-                state: self,
-                answer: Settled::Refused(cause),
-            };
+            return self.refused(cause);
         }
         if self.happy() {
             let len = self.len;
@@ -242,11 +216,15 @@ impl Party {
         let mut entries = [0u8; MAX_ENTRIES];
         let size = self.gather(inbox, &mut entries);
         let mut message = [0u8; MAX_MESSAGE];
-        let Written::Done(len) = erasure::rebuild(self.n, self.t, &entries[..size], &mut message)
-        else {
-            return Ended {
+        let Written::Done(len) = erasure::rebuild(
+            self.seat.n,
+            self.seat.t,
+            &entries[..size],
+            &mut message,
+        ) else {
+            return Reply {
                 state: self.ended(Outcome::Nothing, [0; MAX_MESSAGE]),
-                answer: Settled::Nothing,
+                answer: Answer::Nothing,
             };
         };
         self.settle(&message[..len], out)
@@ -260,7 +238,7 @@ impl Party {
         if cause != 0 {
             return cause;
         }
-        if buffer::laid_out(inbox, self.n) {
+        if buffer::laid_out(inbox, self.seat.n) {
             return 0;
         }
         8
@@ -270,7 +248,7 @@ impl Party {
     fn send(self, relays: bool, next: Party, out: &mut [u8]) -> Tried
         requires { ⌜ Fit self ⌝ }
         ensures { λ r. ⌜ (r .happy ≡ happy sha256 self)
-            × (r .happy ≡ true → stepped (r .step) (now (out .exit)) ≡ writes self next (mailWith sha256 relays (self .n) (self .t) (self .own) (messageIn self)) (now (out .entry)))
+            × (r .happy ≡ true → stepped (r .reply) (now (out .exit)) ≡ writes self next (mailWith sha256 relays (self .seat .n) (self .seat .t) (self .seat .own) (messageIn self)) (now (out .entry)))
             × (r .happy ≡ false → now (out .exit) ≡ now (out .entry)) ⌝ }
     {
         let root = self.root;
@@ -278,61 +256,64 @@ impl Party {
         let message = self.message;
         let Sent { happy, answer } = commitment::send(
             relays,
-            self.n,
-            self.t,
-            self.own,
+            self.seat.n,
+            self.seat.t,
+            self.seat.own,
             &message[..len],
             &root,
             out,
         );
         Tried {
             happy,
-            step: Step {
-                state: self.after(next, answer),
-                answer,
+            reply: self.after(next, answer),
+        }
+    }
+
+    // What comes of writing: the next state where bytes were written, else this one.
+    fn after(self, next: Party, answer: Written) -> Reply
+        ensures { λ r. ⌜ r ≡ after self next answer ⌝ }
+    {
+        match answer {
+            Written::Refused(cause) => Reply {
+                state: self,
+                answer: Answer::Refused(cause),
+            },
+            Written::Short(need) => Reply {
+                state: self,
+                answer: Answer::Short(need),
+            },
+            Written::Done(len) => Reply {
+                state: next,
+                answer: Answer::Sent(len),
             },
         }
     }
 
-    // The next state where bytes were written, else this one.
-    fn after(self, next: Party, answer: Written) -> Party
-        ensures { λ r. ⌜ r ≡ after self next answer ⌝ }
-    {
-        match answer {
-            Written::Refused(_) => self,
-            Written::Short(_) => self,
-            Written::Done(_) => next,
-        }
-    }
-
     // Ends with a message, which is written to out; cause 9 where out is too short.
-    fn settle(self, message: &[u8], out: &mut [u8]) -> Ended
+    fn settle(self, message: &[u8], out: &mut [u8]) -> Reply
         requires { ⌜ length (now message) ≤ maxMessage ⌝ }
-        ensures { λ r. ⌜ ended r (now (out .exit)) ≡ ending self (settled (now (message .entry))) (now (out .entry)) ⌝ }
+        ensures { λ r. ⌜ stepped r (now (out .exit)) ≡ ending self (settled (now (message .entry))) (now (out .entry)) ⌝ }
     {
         let len = message.len();
         if out.len() < len {
-            return Ended {
-                state: self,
-                answer: Settled::Short(len),
-            };
+            return self.short(len);
         }
         buffer::put(out, 0, message);
         let mut kept = [0u8; MAX_MESSAGE];
         buffer::put(&mut kept, 0, message);
-        Ended {
+        Reply {
             state: self.ended(Outcome::Message(len), kept),
-            answer: Settled::Message(len),
+            answer: Answer::Message(len),
         }
     }
 
     // The entries to rebuild from: from each sender j a share numbered j that passes the check, and the own relayed share.
     fn gather(self, inbox: &[u8], entries: &mut [u8]) -> usize
-        requires { ⌜ Fit self × (fills (self .n) (now inbox) ≡ true) × (length (now entries) ≡ maxParties * (maxShare + 2)) ⌝ }
-        ensures { λ r. ⌜ (r ≤ length (now (entries .exit))) × (take r (now (entries .exit)) ≡ inboxOf (gathered sha256 self 1 (bodies (self .n) (now (inbox .entry))))) ⌝ }
+        requires { ⌜ Fit self × (fills (self .seat .n) (now inbox) ≡ true) × (length (now entries) ≡ maxParties * (maxShare + 2)) ⌝ }
+        ensures { λ r. ⌜ (r ≤ length (now (entries .exit))) × (take r (now (entries .exit)) ≡ inboxOf (gathered sha256 self 1 (bodies (self .seat .n) (now (inbox .entry))))) ⌝ }
     {
-        let n = self.n;
-        let own = self.own;
+        let n = self.seat.n;
+        let own = self.seat.own;
         let root = self.root;
         let share = self.share;
         let held = self.held;
@@ -376,10 +357,10 @@ impl Party {
     fn broken(self) -> bool
         ensures { λ r. ⌜ r ≡ broken self ⌝ }
     {
-        if limits::group_cause(self.n, self.t) != 0 {
+        if limits::group_cause(self.seat.n, self.seat.t) != 0 {
             return true;
         }
-        if !limits::numbered(self.n, self.own) {
+        if !limits::numbered(self.seat.n, self.seat.own) {
             return true;
         }
         if MAX_MESSAGE < self.len {
@@ -395,16 +376,15 @@ impl Party {
     // The state at another stage, with its message and with zeros past every length.
     fn waiting(self, stage: Stage, root: Hash, share: [u8; MAX_SHARE], held: usize) -> Party
         requires { ⌜ self .len ≤ maxMessage ⌝ }
-        ensures { λ r. ⌜ r ≡ record { n = self .n; t = self .t; own = self .own; stage = stage; message = padded maxMessage (messageIn self); len = self .len; root = root; share = share; held = held } ⌝ }
+        ensures { λ r. ⌜ r ≡ record { seat = self .seat; stage = stage; message = padded maxMessage (messageIn self); len = self .len; root = root; share = share; held = held } ⌝ }
     {
+        let seat = self.seat;
         let len = self.len;
         let message = self.message;
         let mut kept = [0u8; MAX_MESSAGE];
         buffer::put(&mut kept, 0, &message[..len]);
         Party {
-            n: self.n,
-            t: self.t,
-            own: self.own,
+            seat,
             stage,
             message: kept,
             len,
@@ -415,12 +395,11 @@ impl Party {
     }
 
     fn ended(self, outcome: Outcome, message: [u8; MAX_MESSAGE]) -> Party
-        ensures { λ r. ⌜ r ≡ record { n = self .n; t = self .t; own = self .own; stage = Stage.Ended outcome; message = message; len = 0; root = blank; share = replicate maxShare 0; held = 0 } ⌝ }
+        ensures { λ r. ⌜ r ≡ record { seat = self .seat; stage = Stage.Ended outcome; message = message; len = 0; root = blank; share = replicate maxShare 0; held = 0 } ⌝ }
     {
+        let seat = self.seat;
         Party {
-            n: self.n,
-            t: self.t,
-            own: self.own,
+            seat,
             stage: Stage::Ended(outcome),
             message,
             len: 0,
@@ -430,12 +409,22 @@ impl Party {
         }
     }
 
-    fn refused(self, cause: u8) -> Step
-        ensures { λ r. ⌜ r ≡ record { state = self; answer = Written.Refused cause } ⌝ }
+    fn refused(self, cause: u8) -> Reply
+        ensures { λ r. ⌜ r ≡ record { state = self; answer = Answer.Refused cause } ⌝ }
     {
-        Step {
+        Reply {
             state: self,
-            answer: Written::Refused(cause),
+            answer: Answer::Refused(cause),
+        }
+    }
+
+    // Cause 9, with the length needed.
+    fn short(self, need: usize) -> Reply
+        ensures { λ r. ⌜ r ≡ record { state = self; answer = Answer.Short need } ⌝ }
+    {
+        Reply {
+            state: self,
+            answer: Answer::Short(need),
         }
     }
 
@@ -447,26 +436,23 @@ impl Party {
         let len = self.len;
         let message = self.message;
         let agreed = self.root;
-        let own = commitment::root(self.n, self.t, self.own, &message[..len]).root;
+        let own = commitment::root(self.seat.n, self.seat.t, self.seat.own, &message[..len]).root;
         check::same(&own, &agreed)
     }
 
     // Lengths of zero for all parties, and the next state; cause 9 where out is too short.
-    fn silent(self, next: Party, out: &mut [u8]) -> Step
-        requires { ⌜ self .n ≤ maxParties ⌝ }
-        ensures { λ r. ⌜ stepped r (now (out .exit)) ≡ writes self next (replicate (2 * self .n) 0) (now (out .entry)) ⌝ }
+    fn silent(self, next: Party, out: &mut [u8]) -> Reply
+        requires { ⌜ self .seat .n ≤ maxParties ⌝ }
+        ensures { λ r. ⌜ stepped r (now (out .exit)) ≡ writes self next (replicate (2 * self .seat .n) 0) (now (out .entry)) ⌝ }
     {
-        let need = 2 * self.n;
+        let need = 2 * self.seat.n;
         if out.len() < need {
-            return Step {
-                state: self,
-                answer: Written::Short(need),
-            };
+            return self.short(need);
         }
         write_silence(out, need);
-        Step {
+        Reply {
             state: next,
-            answer: Written::Done(need),
+            answer: Answer::Sent(need),
         }
     }
 }
@@ -541,9 +527,7 @@ fn blank() -> Party
     ensures { λ r. ⌜ r ≡ blankState ⌝ }
 {
     Party {
-        n: 0,
-        t: 0,
-        own: 0,
+        seat: Seat { n: 0, t: 0, own: 0 },
         stage: Stage::Root,
         message: [0; MAX_MESSAGE],
         len: 0,

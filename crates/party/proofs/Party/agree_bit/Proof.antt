@@ -12,7 +12,7 @@ use Rattle.party.specs.Steps.{stepped, stateCause, refused, writes, outb
 use Rattle.party.specs.Private.{Fit}
 use Rattle.party.specs.declared.Party.{Party}
 use Rattle.party.specs.declared.Stage.the-variants.{First}
-use Rattle.party.specs.declared.Step.{Step}
+use Rattle.party.specs.declared.Reply.{Reply}
 use Rattle.party.proofs.Causes.{state-fit, bit-state, bit-wrong, bit-fine}
 use Rattle.party.proofs.Outcomes.{bit-refused, bit-end, bit-first}
 use Rattle.party.proofs.Kept.{length-message, waiting-kept, ended-kept}
@@ -45,7 +45,7 @@ returns c =
     let a = q .before .before .args in
     let k = q .state-cause .ensures in
     let same = k ∙ sym (bit-state (a .self) (a .bit) (λ e. c .before .if1 .taken (k ∙ e))) in
-    ap (λ (r : Step). stepped r (a .out .now)) (c .refused .ensures)
+    ap (λ (r : Reply). stepped r (a .out .now)) (c .refused .ensures)
     ∙ ap (λ (i : ℕ). refused (a .self) i (a .out .now)) same
     ∙ sym (bit-refused sha256 (a .self) (a .bit) (a .out .now) (λ e. c .before .if1 .taken (same ∙ e)))
 
@@ -57,7 +57,7 @@ returns-2 c =
     let e = c .before .before in
     let a = Entry e .args in
     let seven = bit-wrong (a .self) (a .bit) (fine e) (c .before .if2 .taken) in
-    ap (λ (r : Step). stepped r (a .out .now)) (c .refused2 .ensures)
+    ap (λ (r : Reply). stepped r (a .out .now)) (c .refused2 .ensures)
     ∙ ap (λ (i : ℕ). refused (a .self) i (a .out .now)) (sym seven)
     ∙ sym (bit-refused sha256 (a .self) (a .bit) (a .out .now) (λ q. omega (arith, seven, q)))
 
@@ -80,7 +80,7 @@ returns-3 c =
     let x = a .self in
     w .silent .ensures
     ∙ ap₂ (λ (y : Party) (bs : List ℕ). writes x y bs (a .out .now))
-    (d .ended .ensures ∙ ended-kept (x .n) (x .t) (x .own) nothing _ refl) (sym (outbox-silent sha256 x 0 refl))
+    (d .ended .ensures ∙ ended-kept (x .seat) nothing _ refl) (sym (outbox-silent sha256 x 0 refl))
     ∙ sym (bit-end sha256 x (a .bit) (a .out .now) (bit-fine x (a .bit) (fine e) (omega (arith, t .if3 .taken))) (t .if3 .taken))
 
 -- a bit that is neither above 1 nor 0
@@ -92,13 +92,13 @@ waiting-requires c κs = fit (c .before .before .before) .short
 
 -- the state that waits for the first inbox
 next : (v : tie.After-waiting) → let x = Entry (v .before .before .before .before) .args .self in
-    v .waiting .result ≡ atFirst (x .n) (x .t) (x .own) (messageIn x) (x .root)
+    v .waiting .result ≡ atFirst (x .seat) (messageIn x) (x .root)
 unfolding atFirst
 next v =
     let e = v .before .before .before .before in
     let x = Entry e .args .self in
     v .waiting .ensures
-    ∙ waiting-kept (x .n) (x .t) (x .own) First _ (messageIn x) _ (x .root) _ [] (x .len) 0 refl
+    ∙ waiting-kept (x .seat) First _ (messageIn x) _ (x .root) _ [] (x .len) 0 refl
     (sym (length-message x (omega (arith, fit e .short, long (Entry e))))) refl refl refl
 
 send-requires : tie.Need-send-requires
@@ -109,7 +109,7 @@ same-length-2 c = search needs
 
 -- what follows on bit 1
 first : (o : tie.Else3) → let a = Entry (o .before .before) .args in
-    writes (a .self) (atFirst (a .self .n) (a .self .t) (a .self .own) (messageIn (a .self)) (a .self .root)) (outboxOf sha256 (a .self) 1)
+    writes (a .self) (atFirst (a .self .seat) (messageIn (a .self)) (a .self .root)) (outboxOf sha256 (a .self) 1)
     (a .out .now)
     ≡ agreeBitOf sha256 (a .self) (a .bit) (a .out .now)
 first o =
@@ -145,7 +145,7 @@ returns-5 c =
     let a = Entry (o .before .before) .args in
     let x = a .self in
     w .silent2 .ensures
-    ∙ ap (writes x (v .waiting .result) (replicate (2 * x .n) 0)) (s .send .ensures .2 (l .if4 .left))
+    ∙ ap (writes x (v .waiting .result) (replicate (2 * x .seat .n) 0)) (s .send .ensures .2 (l .if4 .left))
     ∙ ap₂ (λ (y : Party) (bs : List ℕ). writes x y bs (a .out .now)) (next v)
     (sym (outbox-silent sha256 x 1 (sym (s .send .ensures .0) ∙ l .if4 .left)))
     ∙ first o

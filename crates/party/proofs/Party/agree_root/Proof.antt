@@ -7,11 +7,12 @@ use native.Mathlib.Omega.{arith}
 use lib.ListN.{length}
 use Rattle.limits.specs.Limits.{maxMessage}
 use Rattle.party.specs.State.{messageIn, happy, atBit}
-use Rattle.party.specs.Steps.{stateCause, withRoot, Ballot, ballot}
+use Rattle.party.specs.Steps.{stepped, stateCause, refused, withRoot, Stepped, gives}
 use Rattle.party.specs.Private.{Fit}
 use Rattle.party.specs.declared.Party.{Party}
 use Rattle.party.specs.declared.Stage.the-variants.{Bit}
-use Rattle.party.specs.declared.Vote.the-variants.{Refused, Happy}
+use Rattle.party.specs.declared.Answer.the-variants.{Happy}
+use Rattle.party.specs.declared.Reply.{Reply}
 use Rattle.party.proofs.Causes.{state-fit, root-state, root-length, root-fine}
 use Rattle.party.proofs.Outcomes.{root-refused, root-given}
 use Rattle.party.proofs.Kept.{put-whole, length-message, waiting-kept}
@@ -34,20 +35,29 @@ fit e = state-fit 2 (e .before .before .before .args .self) (fine e)
 state-cause-requires : tie.Need-state-cause-requires
 state-cause-requires c κs = search needs
 
+refused-requires : tie.Need-refused-requires
+refused-requires c κs = search needs
+
 returns : tie.Need-returns
 returns c =
-    let a = c .before .before .before .args in
-    let k = c .before .state-cause .ensures in
-    let same = k ∙ sym (root-state (a .self) (a .root .now) (λ q. c .if1 .taken (k ∙ q))) in
-    ap {B = Ballot} (λ (i : ℕ). ballot (a .self) (Refused i)) same
-    ∙ sym (root-refused sha256 (a .self) (a .root .now) (λ q. c .if1 .taken (same ∙ q)))
+    let q = c .before .before in
+    let a = q .before .before .args in
+    let k = q .state-cause .ensures in
+    let same = k ∙ sym (root-state (a .self) (a .root .now) (λ e. c .before .if1 .taken (k ∙ e))) in
+    ap (λ (r : Reply). stepped r []) (c .refused .ensures)
+    ∙ ap (λ (i : ℕ). refused (a .self) i []) same
+    ∙ sym (root-refused sha256 (a .self) (a .root .now) (λ e. c .before .if1 .taken (same ∙ e)))
+
+refused-requires-2 : tie.Need-refused-requires-2
+refused-requires-2 c κs = search needs
 
 returns-2 : tie.Need-returns-2
 returns-2 c =
-    let e = c .before in
+    let e = c .before .before in
     let a = e .before .before .before .args in
-    let seven = root-length (a .self) (a .root .now) (fine e) (c .if2 .taken) in
-    ap {B = Ballot} (λ (i : ℕ). ballot (a .self) (Refused i)) (sym seven)
+    let seven = root-length (a .self) (a .root .now) (fine e) (c .before .if2 .taken) in
+    ap (λ (r : Reply). stepped r []) (c .refused2 .ensures)
+    ∙ ap (λ (i : ℕ). refused (a .self) i []) (sym seven)
     ∙ sym (root-refused sha256 (a .self) (a .root .now) (λ q. omega (arith, seven, q)))
 
 slice-aggregate-put : tie.Need-slice-aggregate-put
@@ -83,9 +93,9 @@ returns-3 c =
     let x = s .args .self in
     let z = s .args .root .now in
     let state : w .waiting .result ≡ withRoot x z = w .waiting .ensures
-    ∙ waiting-kept (x .n) (x .t) (x .own) Bit _ (messageIn x) _ z _ [] (x .len) 0 refl
+    ∙ waiting-kept (x .seat) Bit _ (messageIn x) _ z _ [] (x .len) 0 refl
     (sym (length-message x (omega (arith, fit e .short, long s)))) (p .put .ensures .1 ∙ put-whole 32 z (o .if2 .left)) refl refl in
-    ap₂ {C = Ballot} (λ (y : Party) (h : Bool). ballot y (Happy h)) state (c .happy .ensures ∙ ap (happy sha256) state)
+    ap₂ {C = Stepped} (λ (y : Party) (h : Bool). gives y (Happy h) []) state (c .happy .ensures ∙ ap (happy sha256) state)
     ∙ sym (root-given sha256 x z (root-fine x z (fine e) (o .if2 .left)))
 
 pub agree-root-spec : {M : Type 1} → statement M
@@ -93,7 +103,9 @@ agree-root-spec =
     tie.close
     (tie.spec
     state-cause-requires
+    refused-requires
     returns
+    refused-requires-2
     returns-2
     slice-aggregate-put
     put-requires

@@ -11,7 +11,7 @@ use Rattle.party.proofs.Party.broken.Statement.{statement}
 use Rattle.party.proofs.Party.broken.Tie as tie
 
 -- past the first test n and t are within their limits
-fine : (e : tie.Else1) → groupCause (e .before .before .args .self .n) (e .before .before .args .self .t) ≡ 0
+fine : (e : tie.Else1) → groupCause (e .before .before .args .self .seat .n) (e .before .before .args .self .seat .t) ≡ 0
 fine e = sym (e .before .group-cause .ensures) ∙ e .if1 .left
 
 group-cause-requires : tie.Need-group-cause-requires
@@ -22,7 +22,7 @@ returns c =
     sym (broken-group (c .before .before .args .self) (λ q. c .if1 .taken (c .before .group-cause .ensures ∙ q)))
 
 -- past the second the own number is one of n
-place : (e : tie.Else2) → let x = e .before .before .before .before .args .self in (1 ≤ x .own) × (x .own ≤ x .n)
+place : (e : tie.Else2) → let x = e .before .before .before .before .args .self in (1 ≤ x .seat .own) × (x .seat .own ≤ x .seat .n)
 place e = numbered-told _ _ (e .before .numbered .ensures) (e .if2 .left)
 
 numbered-requires : tie.Need-numbered-requires

@@ -47,10 +47,10 @@ abbrev S : tie.In-loop Inv-loop μ-loop → List ℕ
 S c = Entry c .args .inbox .now
 
 abbrev N : tie.In-loop Inv-loop μ-loop → ℕ
-N c = Entry c .args .self .n
+N c = Entry c .args .self .seat .n
 
 abbrev Own : tie.In-loop Inv-loop μ-loop → ℕ
-Own c = Entry c .args .self .own
+Own c = Entry c .args .self .seat .own
 
 abbrev Z : tie.In-loop Inv-loop μ-loop → List ℕ
 Z c = Entry c .args .self .root
@@ -108,7 +108,7 @@ room c k h =
 turn : (d : tie.In-loop Inv-loop μ-loop) (k r : ℕ) (o p : List ℕ) → k ≡ size (drop (At d) (S d)) → r ≡ To d + 2 + length p
     → o ≡ spliced (O d) (To d) (entryOf p) → length p ≤ maxShare → G d ≡ p ∷ R d
     → let x = Entry d .args .self in
-    Inv-loop (S d) (Entry d .args .entries .now) (x .n) (x .own) (x .root) (x .share) (x .held) 0 0 0 [] o (At d + 2 + k) r
+    Inv-loop (S d) (Entry d .args .entries .now) (x .seat .n) (x .seat .own) (x .root) (x .share) (x .held) 0 0 0 [] o (At d + 2 + k) r
     (J d + 1)
 turn d k r o p ek er eo short g =
     let l = d .before .loop in
@@ -291,9 +291,9 @@ returns c =
     let x = st .args .self in
     let s : List ℕ = st .args .inbox .now in (
       omega (arith, l .inv .1, l .inv .3, l .inv .4, st .pre .2, st .pre .0 .high),
-      sym (ap inboxOf (sym (picked-gathered sha256 x 1 (bodies (x .n) s))) ∙ l .inv .5
+      sym (ap inboxOf (sym (picked-gathered sha256 x 1 (bodies (x .seat .n) s))) ∙ l .inv .5
           ∙ ap (λ (y : List ℕ). take (l .to) (l .entries) ++ y)
-          (picked-none sha256 (x .n) (x .own) (x .root) (shareHeld x) (x .n - l .j) (l .j + 1) (l .at) s (omega arith))
+          (picked-none sha256 (x .seat .n) (x .seat .own) (x .root) (shareHeld x) (x .seat .n - l .j) (l .j + 1) (l .at) s (omega arith))
           ∙ append-nil (take (l .to) (l .entries))),
     )
 

@@ -53,7 +53,7 @@ returns c =
     let x = s .args .self in
     same-is (r .root .result .root) (x .root) (c .same .result) (c .same .ensures .0) (c .same .ensures .1)
     ∙ ap (λ (g : Rooted). same (g .root) (x .root))
-    (r .root .ensures ∙ rooted-given sha256 (x .n) (x .t) (x .own) (messageIn x) (fit-open x (s .pre) (length (messageIn x)) (kept s)))
+    (r .root .ensures ∙ rooted-given sha256 (x .seat .n) (x .seat .t) (x .seat .own) (messageIn x) (fit-open x (s .pre) (length (messageIn x)) (kept s)))
 
 pub happy-spec : {M : Type 1} → statement M
 happy-spec =

@@ -11,7 +11,7 @@ use Rattle.commitment.specs.Commitment.{openCause}
 use Rattle.commitment.specs.declared.Rooted.{Rooted}
 use Rattle.commitment.proofs.Opening.{open-bounds}
 use Rattle.commitment.proofs.Outcomes.{rooted-cause, rooted-refused, rooted-given}
-use Rattle.party.specs.State.{atRoot}
+use Rattle.party.specs.State.{seatOf, atRoot}
 use Rattle.party.specs.declared.Stage.the-variants.{Root}
 use Rattle.party.specs.declared.Party.{Party}
 use Rattle.party.specs.declared.Opened.{Opened}
@@ -60,7 +60,7 @@ returns-2 c =
     let b = open-bounds (a .n) (a .t) (a .own) (length m) none in
     let k = p .put .ensures .1 ∙ put-padded maxMessage m (b .3) in
     ap₂ {C = Opened} (λ (x : Party) (r : Rooted). record { state = x; cause = r .cause; root = r .root })
-    (waiting-kept (a .n) (a .t) (a .own) Root _ m blank blank _ [] (length m) 0 k refl refl refl refl)
+    (waiting-kept (seatOf (a .n) (a .t) (a .own)) Root _ m blank blank _ [] (length m) 0 k refl refl refl refl)
     (q .root .ensures ∙ rooted-given sha256 (a .n) (a .t) (a .own) m none)
     ∙ sym (open-given sha256 (a .n) (a .t) (a .own) m none)
 

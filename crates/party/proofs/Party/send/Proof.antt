@@ -17,8 +17,8 @@ use Rattle.merkle.specs.Shares.{same}
 use Rattle.commitment.specs.Commitment.{messageRoot, mailWith, Sending, sending, sent, sendOf}
 use Rattle.commitment.proofs.Outcomes.{send-other, send-own}
 use Rattle.party.specs.State.{messageIn, happy}
-use Rattle.party.specs.Steps.{Stepped, gives}
-use Rattle.party.specs.declared.Party.{Party}
+use Rattle.party.specs.Steps.{stepped}
+use Rattle.party.specs.declared.Reply.{Reply}
 use Rattle.party.proofs.Causes.{fit-open}
 use Rattle.party.proofs.Kept.{length-message}
 use Rattle.party.proofs.Outcomes.{writes-given}
@@ -86,14 +86,14 @@ returns c =
     let x = a .self in
     let m = messageIn x in
     let out = a .out .now in
-    let bs = mailWith sha256 (a .relays) (x .n) (x .t) (x .own) m in
+    let bs = mailWith sha256 (a .relays) (x .seat .n) (x .seat .t) (x .seat .own) m in
     let fine = fit-open x (st .pre) (length m) (kept st) in
     let o = q .send .last .1 .1 .1 .1 .1 .1 .0 in
-    let k = told (same (messageRoot sha256 (x .n) (x .t) m) (x .root)) (sent (q .send .result) o) bs out
-    (λ h. q .send .ensures ∙ send-own sha256 (x .n) (x .t) (x .own) m (a .relays) (x .root) out fine h)
-    (λ h. q .send .ensures ∙ send-other sha256 (x .n) (x .t) (x .own) m (a .relays) (x .root) out fine h) in (
+    let k = told (same (messageRoot sha256 (x .seat .n) (x .seat .t) m) (x .root)) (sent (q .send .result) o) bs out
+    (λ h. q .send .ensures ∙ send-own sha256 (x .seat .n) (x .seat .t) (x .seat .own) m (a .relays) (x .root) out fine h)
+    (λ h. q .send .ensures ∙ send-other sha256 (x .seat .n) (x .seat .t) (x .seat .own) m (a .relays) (x .root) out fine h) in (
       k .0,
-      λ h. ap {B = Stepped} (λ (y : Party). gives y (q .send .result .answer) o) (c .after .ensures)
+      λ h. ap (λ (y : Reply). stepped y o) (c .after .ensures)
           ∙ writes-given x (a .next) bs out (q .send .result .answer) o (k .1 h),
       k .2,
     )

@@ -1,5 +1,5 @@
 -- `party::Party::settle` meets its contract: cause 9, or the message written to the buffer and kept. Assumes nothing.
-use mathlib.Core.Path.{sym, ap₂, _∙_}
+use mathlib.Core.Path.{sym, ap, ap₂, _∙_}
 use mathlib.Core.List.{List}
 use Prim.Native.Nat.{ℕ}
 use lib.ListN.{length}
@@ -7,19 +7,25 @@ use Rattle.limits.specs.Limits.{maxMessage}
 use Rattle.buffer.proofs.Splice.{put-fits}
 use native.Mathlib.Omega.{arith}
 use Rattle.party.specs.State.{settled}
-use Rattle.party.specs.Steps.{Ending, givesEnd}
+use Rattle.party.specs.Steps.{Stepped, gives, stepped}
 use Rattle.party.specs.declared.Party.{Party}
-use Rattle.party.specs.declared.Settled.the-variants.{Message}
+use Rattle.party.specs.declared.Answer.the-variants.{Message}
+use Rattle.party.specs.declared.Reply.{Reply}
 use Rattle.party.proofs.Kept.{put-padded, ended-kept}
 use Rattle.party.proofs.Outcomes.{ending-short, ending-done}
 use borrow.Author.Needs.{needs}
 use Rattle.party.proofs.Party.settle.Statement.{statement}
 use Rattle.party.proofs.Party.settle.Tie as tie
 
+short-requires : tie.Need-short-requires
+short-requires c κs = search needs
+
 returns : tie.Need-returns
 returns c =
-    let a = c .before .before .before .args in
-    sym (ending-short (a .self) (a .message .now) (a .out .now) (c .if1 .taken))
+    let t = c .before in
+    let a = t .before .before .before .args in
+    ap (λ (r : Reply). stepped r (a .out .now)) (c .short .ensures)
+    ∙ sym (ending-short (a .self) (a .message .now) (a .out .now) (t .if1 .taken))
 
 put-requires : tie.Need-put-requires
 put-requires c κs = search needs
@@ -45,8 +51,8 @@ returns-2 c =
     let a = s .args in
     let x = a .self in
     let m = a .message .now in
-    ap₂ {C = Ending} (λ (y : Party) (o : List ℕ). givesEnd y (Message (length m)) o)
-    (c .ended .ensures ∙ ended-kept (x .n) (x .t) (x .own) (settled m) _ (p .put2 .ensures .1 ∙ put-padded maxMessage m (s .pre)))
+    ap₂ {C = Stepped} (λ (y : Party) (o : List ℕ). gives y (Message (length m)) o)
+    (c .ended .ensures ∙ ended-kept (x .seat) (settled m) _ (p .put2 .ensures .1 ∙ put-padded maxMessage m (s .pre)))
     (q .put .ensures .1 ∙ put-fits (a .out .now) 0 m (omega arith))
     ∙ sym (ending-done x m (a .out .now) (e .if1 .left))
 
@@ -54,6 +60,7 @@ pub settle-spec : {M : Type 1} → statement M
 settle-spec =
     tie.close
     (tie.spec
+    short-requires
     returns
     put-requires
     slice-aggregate-put

@@ -11,10 +11,11 @@ use Rattle.buffer.specs.Entries.{bodies}
 use Rattle.buffer.specs.Given.{gave}
 use Rattle.erasure.specs.Rebuild.{Recovered, present, recovered, answered, rebuildOf}
 use Rattle.party.specs.State.{Result, nothing, settled, messageIn, happy}
-use Rattle.party.specs.Steps.{inboxCause, gathered, rebuilt, Ending, givesEnd, ending, takeRelaysOf}
+use Rattle.party.specs.Steps.{inboxCause, gathered, rebuilt, Stepped, gives, stepped, refused, ending, takeRelaysOf}
 use Rattle.party.specs.Private.{Fit}
 use Rattle.party.specs.declared.Party.{Party}
-use Rattle.party.specs.declared.Settled.the-variants as answer
+use Rattle.party.specs.declared.Answer.the-variants as answer
+use Rattle.party.specs.declared.Reply.{Reply}
 use Rattle.party.proofs.Causes.{state-fit, inbox-sound}
 use Rattle.party.proofs.Outcomes.{relays-refused, relays-happy, relays-rebuilt}
 use Rattle.party.proofs.Kept.{length-message, ended-kept}
@@ -55,7 +56,7 @@ abbrev E : tie.After-rebuild → tie.Else1
 E d = d .before .before .before .before .before .before .before .before
 
 abbrev A : tie.Start → Recovered
-A st = recovered (X st .n - X st .t) (present 1 (gathered sha256 (X st) 1 (bodies (X st .n) (S st))))
+A st = recovered (X st .seat .n - X st .seat .t) (present 1 (gathered sha256 (X st) 1 (bodies (X st .seat .n) (S st))))
 
 rebuilding : (d : tie.After-rebuild) → let st = Entry (E d) in
     takeRelaysOf sha256 (X st) (S st) (Out st) ≡ ending (X st) (rebuilt (A st)) (Out st)
@@ -76,7 +77,7 @@ abbrev Es : tie.After-rebuild → List ℕ
 Es d = let g = d .before .before .before .before .gather in take (g .result) (g .last .1 .1 .0)
 
 asked : (d : tie.After-rebuild) → let x = X (Entry (E d)) in gave (d .rebuild .result) (O d)
-    ≡ rebuildOf (x .n) (x .t) (Es d) Zeros
+    ≡ rebuildOf (x .seat .n) (x .seat .t) (Es d) Zeros
 asked d = d .rebuild .ensures
 
 told : (d : tie.After-rebuild) → gave (d .rebuild .result) (O d) ≡ answered (A (Entry (E d))) Zeros
@@ -85,7 +86,7 @@ told d =
     asked d ∙ rebuilt-of sha256 (X st) (S st) (Es d) Zeros (fit (E d)) (d .before .before .before .before .gather .ensures .1)
 
 short : (st : tie.Start) → Short (A st)
-short st = short-recovered (X st .n - X st .t) (present 1 (gathered sha256 (X st) 1 (bodies (X st .n) (S st))))
+short st = short-recovered (X st .seat .n - X st .seat .t) (present 1 (gathered sha256 (X st) 1 (bodies (X st .seat .n) (S st))))
 
 found : (k : tie.After-len) → let d = k .before .before .before in let l = k .len .given .0 .0 in
     (rebuilt (A (Entry (E d))) ≡ settled (take l (O d))) × (l ≤ maxMessage) × (l ≤ length (O d))
@@ -101,12 +102,16 @@ exact k = let d = k .before .before .before in length-take-le (k .len .given .0 
 inbox-cause-requires : tie.Need-inbox-cause-requires
 inbox-cause-requires c κs = search needs
 
+refused-requires : tie.Need-refused-requires
+refused-requires c κs = search needs
+
 returns : tie.Need-returns
 returns c =
-    let st = c .before .before .before .before in
-    let k = c .before .inbox-cause .ensures in
-    sym (relays-refused sha256 (X st) (S st) (Out st) (λ q. c .if1 .taken (k ∙ q))
-    ∙ ap {B = Ending} (λ (i : ℕ). givesEnd (X st) (answer.Refused i) (Out st)) (sym k))
+    let b = c .before in
+    let st = b .before .before .before .before in
+    let k = b .before .inbox-cause .ensures in
+    ap (λ (r : Reply). stepped r (Out st)) (c .refused .ensures)
+    ∙ sym (relays-refused sha256 (X st) (S st) (Out st) (λ q. b .if1 .taken (k ∙ q)) ∙ ap (λ (i : ℕ). refused (X st) i (Out st)) (sym k))
 
 happy-requires : tie.Need-happy-requires
 happy-requires c κs = fit c
@@ -168,8 +173,8 @@ returns-3 c =
     let d = c .before .before .before in
     let st = Entry (E d) in
     let x = X st in
-    ap {B = Ending} (λ (y : Party). givesEnd y answer.Nothing (Out st))
-    (c .ended .ensures ∙ ended-kept (x .n) (x .t) (x .own) nothing _ refl)
+    ap {B = Stepped} (λ (y : Party). gives y answer.Nothing (Out st))
+    (c .ended .ensures ∙ ended-kept (x .seat) nothing _ refl)
     ∙ sym (rebuilding d ∙ ap (λ (r : Result). ending (X st) r (Out st))
     (rebuilt-none (O d) Zeros (d .rebuild .result) (length-replicate maxMessage zero) (A st) (short st) (told d)
     (c .before .match .keys2)))
@@ -202,6 +207,7 @@ take-relays-spec =
     tie.close
     (tie.spec
     inbox-cause-requires
+    refused-requires
     returns
     happy-requires
     array-share-prefix-message

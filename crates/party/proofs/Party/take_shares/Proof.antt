@@ -10,7 +10,6 @@ use Rattle.limits.specs.Limits.{maxMessage, maxShare, maxPath}
 use Rattle.buffer.specs.Splice.{putOf}
 use Rattle.buffer.specs.Entries.{bodies}
 use Rattle.buffer.specs.Given.{gave, written}
-use Rattle.buffer.specs.declared.Written.the-variants as given
 use Rattle.merkle.specs.Shares.{blank}
 use Rattle.packet.specs.Format.{hashes, packetOf}
 use Rattle.packet.specs.Answer.{writeOf}
@@ -20,12 +19,13 @@ use Rattle.party.specs.Steps.{inboxCause, Taken, takenBy, shareTaken, pa
 use Rattle.party.specs.Steps.{writes, takeSharesOf}
 use Rattle.party.specs.Private.{Fit, TakenIs}
 use Rattle.party.specs.declared.Party.{Party}
-use Rattle.party.specs.declared.Step.{Step}
+use Rattle.party.specs.declared.Answer.the-variants as answer
+use Rattle.party.specs.declared.Reply.{Reply}
 use Rattle.party.specs.declared.Placed.{Placed}
 use Rattle.party.specs.declared.Placed.the-variants.{Nowhere, At}
 use Rattle.party.specs.declared.Stage.the-variants.{Second}
 use Rattle.party.proofs.Causes.{state-fit, inbox-sound}
-use Rattle.party.proofs.Outcomes.{shares-refused, shares-happy, shares-taken, writes-nothing, writes-done, writes-short}
+use Rattle.party.proofs.Outcomes.{shares-refused, shares-happy, shares-taken, writes-nothing, writes-given}
 use Rattle.buffer.proofs.Parts.{length-part, part-ends}
 use Rattle.party.proofs.Kept.{put-padded, length-message, waiting-kept}
 use Rattle.party.proofs.Silence.{relay-mail}
@@ -53,7 +53,7 @@ T st = takenBy sha256 (X st) (S st)
 
 -- the state at the next stage, with a share
 abbrev Next : tie.Start → List ℕ → Party
-Next st y = let x = X st in atSecond (x .n) (x .t) (x .own) (messageIn x) (x .root) y
+Next st y = let x = X st in atSecond (x .seat) (messageIn x) (x .root) y
 
 fine : (e : tie.Else1) → inboxCause 4 (X (Entry e)) (S (Entry e)) ≡ 0
 fine e = sym (e .before .inbox-cause .ensures) ∙ e .if1 .left
@@ -77,7 +77,7 @@ next v =
     let e = v .before .before in
     let x = X (Entry e) in
     v .waiting .ensures
-    ∙ waiting-kept (x .n) (x .t) (x .own) Second _ (messageIn x) _ (x .root) _ [] (x .len) 0 refl (sym (held e)) refl refl refl
+    ∙ waiting-kept (x .seat) Second _ (messageIn x) _ (x .root) _ [] (x .len) 0 refl (sym (held e)) refl refl refl
 
 -- a party that is not happy: what is sent goes by what was taken
 abbrev E : tie.After-first-valid → tie.Else1
@@ -116,12 +116,12 @@ abbrev C : tie.After-from → ℕ
 C k = k .from .given .0 .1 .1 .0
 
 got : (k : tie.After-from) → let st = Entry (E (D k)) in
-    Got sha256 (X st .n) (X st .own) (X st .root) (S st) (F k) (L k) (C k) (T st)
+    Got sha256 (X st .seat .n) (X st .seat .own) (X st .root) (S st) (F k) (L k) (C k) (T st)
 got k =
     let st = Entry (E (D k)) in
     let x = X st in
-    got-of sha256 (x .n) (x .own) (x .root) (S st) (F k) (L k) (C k) (T st) (took (D k) (At (F k) (L k) (C k)) (k .from .given .1))
-    (passed sha256 (x .n) (x .own) (x .root) 1 (bodies (x .n) (S st)))
+    got-of sha256 (x .seat .n) (x .seat .own) (x .root) (S st) (F k) (L k) (C k) (T st) (took (D k) (At (F k) (L k) (C k)) (k .from .given .1))
+    (passed sha256 (x .seat .n) (x .seat .own) (x .root) 1 (bodies (x .seat .n) (S st)))
 
 -- the share, the hashes of its path, and the packet
 abbrev Y : tie.After-from → List ℕ
@@ -131,7 +131,7 @@ abbrev Q : tie.After-from → List ℕ
 Q k = drop (F k + L k) (S (Entry (E (D k))))
 
 abbrev Packet : tie.After-from → List ℕ
-Packet k = packetOf (X (Entry (E (D k))) .own) (Y k) (hashes (C k) (Q k))
+Packet k = packetOf (X (Entry (E (D k))) .seat .own) (Y k) (hashes (C k) (Q k))
 
 size : (k : tie.After-from) → length (Y k) ≡ L k
 size k = length-part (S (Entry (E (D k)))) (F k) (L k) (omega (arith, got k .inside))
@@ -146,42 +146,64 @@ goal k =
     taking (D k) ∙ ap (λ (t : Taken). writes (X st) (Next st (shareTaken t)) (packetTaken (X st) t) (Out st)) (got k .is)
 
 -- what was written
-abbrev K : tie.After-write → tie.After-from
-K w = w .before .before .before .before .before
+abbrev W : tie.After-write → tie.After-waiting2
+W w = w .before .before .before
+
+abbrev P : tie.After-waiting2 → tie.After-put
+P v = v .before .before
+
+abbrev Path : tie.After-put → tie.After-path-at
+Path p = p .before .before .before
+
+abbrev K : tie.After-put → tie.After-from
+K p = Path p .before .before
 
 abbrev O : tie.After-write → List ℕ
 O w = w .write .last .1 .1 .1 .1 .1 .0
 
-asked : (w : tie.After-write) → let k = K w in let st = Entry (E (D k)) in
+asked : (w : tie.After-write) → let k = K (P (W w)) in let st = Entry (E (D k)) in
     gave (w .write .result) (O w)
-    ≡ writeOf (X st .n) (X st .own) (take (F k + L k - F k) (drop (F k) (S st))) (w .before .before .before .path-at .result)
-    (C k) (Out st)
+    ≡ writeOf (X st .seat .n) (X st .seat .own) (take (F k + L k - F k) (drop (F k) (S st))) (Path (P (W w)) .path-at .result) (C k) (Out st)
 asked w =
-    let k = K w in
+    let p = P (W w) in
+    let k = K p in
     let x = X (Entry (E (D k))) in
     w .write .ensures
-    ∙ ap (writeOf (x .n) (x .own) (take (F k + L k - F k) (drop (F k) (S (Entry (E (D k)))))) (w .before .before .before .path-at .result) (C k))
+    ∙ ap (writeOf (x .seat .n) (x .seat .own) (take (F k + L k - F k) (drop (F k) (S (Entry (E (D k)))))) (Path p .path-at .result) (C k))
     (left (D k))
 
-there : (w : tie.After-write) → let k = K w in w .before .before .before .path-at .result ≡ path-padded (C k) (Q k)
-there w =
-    let k = K w in
+there : (p : tie.After-put) → let k = K p in Path p .path-at .result ≡ path-padded (C k) (Q k)
+there p =
+    let k = K p in
     let st = Entry (E (D k)) in
-    w .before .before .before .path-at .ensures ∙ path-there (S st) (F k + L k) (C k) (got k .few) (got k .inside)
+    Path p .path-at .ensures ∙ path-there (S st) (F k + L k) (C k) (got k .few) (got k .inside)
 
-wrote : (w : tie.After-write) → let k = K w in gave (w .write .result) (O w) ≡ written (Packet k) (Out (Entry (E (D k))))
+wrote : (w : tie.After-write) → let k = K (P (W w)) in gave (w .write .result) (O w) ≡ written (Packet k) (Out (Entry (E (D k))))
 wrote w =
-    let k = K w in
+    let p = P (W w) in
+    let k = K p in
     let st = Entry (E (D k)) in
     let x = X st in
     let f = fit (E (D k)) in
     let g = got k in
     asked w
-    ∙ ap₂ (λ (y : List ℕ) (p : List (List ℕ)). writeOf (x .n) (x .own) y p (C k) (Out st)) (part k) (there w)
-    ∙ write-taken sha256 (x .n) (x .own) (x .root) (Y k) (hashes (C k) (Q k)) (path-padded (C k) (Q k)) (C k) (Out st)
+    ∙ ap₂ (λ (y : List ℕ) (q : List (List ℕ)). writeOf (x .seat .n) (x .seat .own) y q (C k) (Out st)) (part k) (there p)
+    ∙ write-taken sha256 (x .seat .n) (x .seat .own) (x .root) (Y k) (hashes (C k) (Q k)) (path-padded (C k) (Q k)) (C k) (Out st)
     (f .low) (f .high) (f .first) (f .last) (omega (arith, size k, g .some)) (omega (arith, size k, g .most))
     (length-hashes (C k) (Q k))
     (take-at (hashes (C k) (Q k)) (replicate (maxPath - C k) blank) (C k) (length-hashes (C k) (Q k))) (g .leads)
+
+-- the state that waits for the second inbox with the share
+holds : (v : tie.After-waiting2) → let k = K (P v) in v .waiting2 .result ≡ Next (Entry (E (D k))) (Y k)
+unfolding atSecond
+holds v =
+    let p = P v in
+    let k = K p in
+    let x = X (Entry (E (D k))) in
+    v .waiting2 .ensures
+    ∙ waiting-kept (x .seat) Second _ (messageIn x) _ (x .root) _ (Y k) (x .len) (L k) refl (sym (held (E (D k)))) refl
+    (p .put .ensures .1 ∙ ap (putOf (replicate maxShare 0) 0) (part k) ∙ put-padded maxShare (Y k) (omega (arith, size k, got k .most)))
+    (sym (size k))
 
 inbox-cause-requires : tie.Need-inbox-cause-requires
 inbox-cause-requires c κs = search needs
@@ -194,7 +216,7 @@ returns c =
     let b = c .before in
     let st = b .before .before .before .before in
     let k = b .before .inbox-cause .ensures in
-    ap (λ (r : Step). stepped r (Out st)) (c .refused .ensures)
+    ap (λ (r : Reply). stepped r (Out st)) (c .refused .ensures)
     ∙ sym (shares-refused sha256 (X st) (S st) (Out st) (λ q. b .if1 .taken (k ∙ q)) ∙ ap (λ (i : ℕ). refused (X st) i (Out st)) (sym k))
 
 waiting-requires : tie.Need-waiting-requires
@@ -237,7 +259,7 @@ returns-3 c =
     let d = c .before .before in
     let st = Entry (E d) in
     let x = X st in
-    ap₂ {C = Stepped} (λ (y : Party) (o : List ℕ). gives y (given.Done 0) o) (next (Sends d .before .before)) (left d)
+    ap₂ {C = Stepped} (λ (y : Party) (o : List ℕ). gives y (answer.Sent 0) o) (next (Sends d .before .before)) (left d)
     ∙ sym (taking d
     ∙ ap (λ (t : Taken). writes x (Next st (shareTaken t)) (packetTaken x t) (Out st))
     (taken-none (T st) (S st) (took d Nowhere (c .enum-told .given .1)))
@@ -251,31 +273,6 @@ add-end c =
 path-at-requires : tie.Need-path-at-requires
 path-at-requires c κs = search needs
 
-sub-write : tie.Need-sub-write
-sub-write c = search needs
-
-part-write-start : tie.Need-part-write-start
-part-write-start c = search needs
-
-part-write-end : tie.Need-part-write-end
-part-write-end c = omega (arith, got (c .before .before) .inside)
-
-write-requires : tie.Need-write-requires
-write-requires c κs = search needs
-
-enum-told-2 : tie.Need-enum-told-2
-enum-told-2 c = search needs
-
-same-length-3 : tie.Need-same-length-3
-same-length-3 c = search needs
-
-returns-4 : tie.Need-returns-4
-returns-4 c =
-    let w = c .before .before .before in
-    let k = K w in
-    let st = Entry (E (D k)) in
-    writes-short (X st) (Next st (Y k)) (Packet k) (Out st) (w .write .result) (O w) (wrote w) (c .match2 .keys2) ∙ sym (goal k)
-
 slice-aggregate-put : tie.Need-slice-aggregate-put
 slice-aggregate-put c = search needs
 
@@ -286,39 +283,42 @@ part-put-start : tie.Need-part-put-start
 part-put-start c = search needs
 
 part-put-end : tie.Need-part-put-end
-part-put-end c =
-    let w = c .before .before .before .before .before in
-    omega (arith, got (K w) .inside)
+part-put-end c = omega (arith, got (c .before .before .before) .inside)
 
 put-requires : tie.Need-put-requires
 put-requires c κs = search needs
 
 waiting-requires-2 : tie.Need-waiting-requires-2
-waiting-requires-2 c κs =
-    let w = c .before .before .before .before .before .before .before .before in
-    fit (E (D (K w))) .short
+waiting-requires-2 c κs = fit (E (D (K (c .before)))) .short
 
-same-length-4 : tie.Need-same-length-4
-same-length-4 c =
-    let w = c .before .before .before .before .before .before .before .before .before in
-    w .write .kept .1 .1 .1 .1 .1 .0 ∙ Sends (D (K w)) .send .kept .1 .1 .1 .0
+sub-write : tie.Need-sub-write
+sub-write c = search needs
 
-returns-5 : tie.Need-returns-5
-unfolding atSecond
-returns-5 c =
-    let p = c .before .before in
-    let t = p .before .before .before in
-    let w = t .before .before .before .before in
-    let k = K w in
+part-write-start : tie.Need-part-write-start
+part-write-start c = search needs
+
+part-write-end : tie.Need-part-write-end
+part-write-end c = omega (arith, got (K (P c)) .inside)
+
+write-requires : tie.Need-write-requires
+write-requires c κs = search needs
+
+after-requires : tie.Need-after-requires
+after-requires c κs = search needs
+
+same-length-3 : tie.Need-same-length-3
+same-length-3 c =
+    let w = c .before .before .before in
+    w .write .kept .1 .1 .1 .1 .1 .0 ∙ Sends (D (K (P (W w)))) .send .kept .1 .1 .1 .0
+
+returns-4 : tie.Need-returns-4
+returns-4 c =
+    let w = c .before .before .before in
+    let k = K (P (W w)) in
     let st = Entry (E (D k)) in
-    let x = X st in
-    let g = got k in
-    ap {B = Stepped} (λ (y : Party). gives y (w .write .result) (O w))
-    (c .waiting2 .ensures
-    ∙ waiting-kept (x .n) (x .t) (x .own) Second _ (messageIn x) _ (x .root) _ (Y k) (x .len) (L k) refl (sym (held (E (D k)))) refl
-    (p .put .ensures .1 ∙ ap (putOf (replicate maxShare 0) 0) (part k) ∙ put-padded maxShare (Y k) (omega (arith, size k, g .most)))
-    (sym (size k)))
-    ∙ writes-done x (Next st (Y k)) (Packet k) (Out st) (w .write .result) (O w) (wrote w) _ (t .enum-told2 .given .1)
+    ap (λ (r : Reply). stepped r (O w)) (c .after .ensures)
+    ∙ writes-given (X st) (W w .waiting2 .result) (Packet k) (Out st) (w .write .result) (O w) (wrote w)
+    ∙ ap (λ (y : Party). writes (X st) y (Packet k) (Out st)) (holds (W w))
     ∙ sym (goal k)
 
 pub take-shares-spec : {M : Type 1} → statement M
@@ -339,18 +339,16 @@ take-shares-spec =
     returns-3
     add-end
     path-at-requires
-    sub-write
-    part-write-start
-    part-write-end
-    write-requires
-    enum-told-2
-    same-length-3
-    returns-4
     slice-aggregate-put
     sub-put
     part-put-start
     part-put-end
     put-requires
     waiting-requires-2
-    same-length-4
-    returns-5)
+    sub-write
+    part-write-start
+    part-write-end
+    write-requires
+    after-requires
+    same-length-3
+    returns-4)

@@ -20,17 +20,17 @@ slice-aggregate-put : tie.Need-slice-aggregate-put
 slice-aggregate-put c = search needs
 
 array-share-prefix-message : tie.Need-array-share-prefix-message
-array-share-prefix-message c = omega (arith, long (c .before .before))
+array-share-prefix-message c = omega (arith, long (c .before .before .before))
 
 slice-aggregate-put-2 : tie.Need-slice-aggregate-put-2
-slice-aggregate-put-2 c = sym (kept (c .before .before .before))
+slice-aggregate-put-2 c = sym (kept (c .before .before .before .before))
 
 put-requires : tie.Need-put-requires
 put-requires c κs = search needs
 
 returns : tie.Need-returns
 returns c =
-    let s = c .before .before .before .before .before in
+    let s = c .before .before .before .before .before .before in
     let e = c .before .put .ensures .1 ∙ put-padded maxMessage (messageIn (s .args .self)) (omega (arith, kept s, s .pre)) in
     rw e
 
