@@ -38,7 +38,7 @@ use Rattle.packet.specs.Class.{Class, silent, faulty, valid, classOf}
 use Rattle.packet.proofs.Inbox.{inbox-bodies}
 use Rattle.packet.proofs.Inverse.{written-read}
 use Rattle.packet.proofs.Reading.{fields-of, read-wide}
-use Rattle.party.specs.State.{Result, nothing, settled, atBit, atFirst, atSecond, messageRoot, happy}
+use Rattle.party.specs.State.{seatOf, Result, nothing, settled, atBit, atFirst, atSecond, messageRoot, happy}
 use Rattle.party.specs.Steps.{packetFor, outboxOf, found, firstValid, relayOf, heldOf}
 use Rattle.party.specs.Steps.{shareFrom, gathered, rebuilt, resultOf}
 use Rattle.party.specs.declared.Party.{Party}
@@ -66,33 +66,33 @@ module _ (H : List ℕ → List ℕ) (n t i : ℕ) (m z : List ℕ) where
   abbrev glad : Bool
   glad = same (messageRoot H n t m) z
 
-  happy-bit : happy H (atBit n t i m z) ≡ glad
+  happy-bit : happy H (atBit (seatOf n t i) m z) ≡ glad
   unfolding happy atBit
-  happy-bit = ap (λ (b : List ℕ). same (messageRoot H n t b) z) (message-bit n t i m z)
+  happy-bit = ap (λ (b : List ℕ). same (messageRoot H n t b) z) (message-bit (seatOf n t i) m z)
 
-  pub happy-first : happy H (atFirst n t i m z) ≡ glad
+  pub happy-first : happy H (atFirst (seatOf n t i) m z) ≡ glad
   unfolding happy atFirst
-  happy-first = ap (λ (b : List ℕ). same (messageRoot H n t b) z) (message-first n t i m z)
+  happy-first = ap (λ (b : List ℕ). same (messageRoot H n t b) z) (message-first (seatOf n t i) m z)
 
-  happy-second : (x : List ℕ) → happy H (atSecond n t i m z x) ≡ glad
+  happy-second : (x : List ℕ) → happy H (atSecond (seatOf n t i) m z x) ≡ glad
   unfolding happy atSecond
-  happy-second x = ap (λ (b : List ℕ). same (messageRoot H n t b) z) (message-second n t i m z x)
+  happy-second x = ap (λ (b : List ℕ). same (messageRoot H n t b) z) (message-second (seatOf n t i) m z x)
 
   abbrev packets : ℕ → List ℕ
-  packets k = cond (eqb (k + 1) i) [] (packetFor H (atBit n t i m z) (k + 1))
+  packets k = cond (eqb (k + 1) i) [] (packetFor H (atBit (seatOf n t i) m z) (k + 1))
 
   bodies-of : (ps : List (List ℕ)) → length ps ≡ n → bodies n (inboxOf ps) ≡ ps
   bodies-of ps e = ap (λ (k : ℕ). bodies k (inboxOf ps)) (sym e) ∙ inbox-bodies ps
 
-  out-happy : glad ≡ true → bodies n (outboxOf H (atBit n t i m z) 1) ≡ tabulate n packets
+  out-happy : glad ≡ true → bodies n (outboxOf H (atBit (seatOf n t i) m z) 1) ≡ tabulate n packets
   unfolding outboxOf atBit
   out-happy e = rw (happy-bit ∙ e) (bodies-of (tabulate n packets) (length-tabulate n packets))
 
-  out-unhappy : glad ≡ false → bodies n (outboxOf H (atBit n t i m z) 1) ≡ replicate n []
+  out-unhappy : glad ≡ false → bodies n (outboxOf H (atBit (seatOf n t i) m z) 1) ≡ replicate n []
   unfolding outboxOf atBit
   out-unhappy e = rw (happy-bit ∙ e) (bodies-of (replicate n []) (length-replicate {A = List ℕ} n []))
 
-  out-zero : bodies n (outboxOf H (atBit n t i m z) 0) ≡ replicate n []
+  out-zero : bodies n (outboxOf H (atBit (seatOf n t i) m z) 0) ≡ replicate n []
   unfolding outboxOf atBit
   out-zero = bodies-of (replicate n []) (length-replicate {A = List ℕ} n [])
 
@@ -140,7 +140,7 @@ module _ (H : List ℕ → List ℕ) (wide : (s : List ℕ) → length (H s) ≡
   -- on bit 0
   module _ (b0 : bit ≡ 0) where
     ended : (A : Good) → In A → (resultAfter H n t (A .own) (A .message) (A .calls) ≡ some nothing)
-        × (sentBy H n t (A .own) (A .message) (A .calls) ≡ lengths (bodies n (outboxOf H (atBit n t (A .own) (A .message) z) 0)))
+        × (sentBy H n t (A .own) (A .message) (A .calls) ≡ lengths (bodies n (outboxOf H (atBit (seatOf n t (A .own)) (A .message) z) 0)))
     ended A h =
         let r = P .called .step2 A h in
         let b = P .called .step3 A h in
@@ -257,7 +257,7 @@ module _ (H : List ℕ → List ℕ) (wide : (s : List ℕ) → length (H s) ≡
         i = B .own
 
         abbrev X2 : Party
-        X2 = atFirst n t i (B .message) z
+        X2 = atFirst (seatOf n t i) (B .message) z
 
         abbrev in4 : List ℕ
         in4 = ranOf B hB .in4
@@ -279,14 +279,14 @@ module _ (H : List ℕ → List ℕ) (wide : (s : List ℕ) → length (H s) ≡
         came =
             let k : ℕ = i - 1 in
             let e : k + 1 ≡ i = omega (arith, first-B) in
-            let X : Party = atBit n t (A .own) M z in
+            let X : Party = atBit (seatOf n t (A .own)) M z in
             sym (ranOf B hB .heard4 (A .own)) ∙ P .delivered b1 .firstInbox B hB A hA other
             ∙ ap (entry n i) (ranOf A hA .packets)
             ∙ ap (λ (l : List (List ℕ)). getD l k []) (out-happy H n t (A .own) M z eA)
             ∙ getD-tabulate n (packets H n t (A .own) M z) k [] (omega (arith, first-B, last-B))
             ∙ ap (λ (j : ℕ). cond (eqb j (A .own)) [] (packetFor H X j)) e
             ∙ ap (λ (g : Bool). cond g [] (packetFor H X i)) (ne-eqb i (A .own) other)
-            ∙ packet-bit H n t (A .own) M z i
+            ∙ packet-bit H (seatOf n t (A .own)) M z i
 
         -- so it finds a packet that passes
         found-one : (x : List ℕ) × (p : List (List ℕ)) × (firstValid H n i z 1 (bodies n in4) ≡ found x p)
@@ -340,20 +340,20 @@ module _ (H : List ℕ → List ℕ) (wide : (s : List ℕ) → length (H s) ≡
         its : x ≡ share (n - t) (C .own) M
 
       relay-happy : (C : Good) (hC : In C) → n ≢ 1 → isGlad C ≡ true
-          → relayOf H (atFirst n t (C .own) (C .message) z) (ranOf C hC .in4) ≡ packetM (C .own) (admitted C hC .first) (admitted C hC .last)
+          → relayOf H (atFirst (seatOf n t (C .own)) (C .message) z) (ranOf C hC .in4) ≡ packetM (C .own) (admitted C hC .first) (admitted C hC .last)
       unfolding relayOf atFirst packetM
       relay-happy C hC d e =
           let c = admitted C hC in
           rw (happy-first H n t (C .own) (C .message) z ∙ e, ne-eqb n 1 d)
-          (subst (λ (m : List ℕ). packetFor H (atFirst n t (C .own) m z) (C .own)
+          (subst (λ (m : List ℕ). packetFor H (atFirst (seatOf n t (C .own)) m z) (C .own)
           ≡ packetWith H n t M (C .own)) (sym (glad-M C hC e))
-          (packet-first H n t (C .own) M z (C .own)))
+          (packet-first H (seatOf n t (C .own)) M z (C .own)))
 
-      relays : (C : Good) (hC : In C) → n ≢ 1 → Relayed C (relayOf H (atFirst n t (C .own) (C .message) z) (ranOf C hC .in4))
+      relays : (C : Good) (hC : In C) → n ≢ 1 → Relayed C (relayOf H (atFirst (seatOf n t (C .own)) (C .message) z) (ranOf C hC .in4))
       unfolding packetM
       relays C hC d = go (way (isGlad C))
         where
-          go : Way (isGlad C) → Relayed C (relayOf H (atFirst n t (C .own) (C .message) z) (ranOf C hC .in4))
+          go : Way (isGlad C) → Relayed C (relayOf H (atFirst (seatOf n t (C .own)) (C .message) z) (ranOf C hC .in4))
           go (on e) =
               let c = admitted C hC in
               subst (Relayed C) (sym (relay-happy C hC d e))
@@ -386,10 +386,10 @@ module _ (H : List ℕ → List ℕ) (wide : (s : List ℕ) → length (H s) ≡
       -- an unhappy party gathers M's shares, of every good party, and no others
       module _ (B : Good) (hB : In B) (uB : isGlad B ≡ false) where
         abbrev held : List ℕ
-        held = heldOf H (atFirst n t (B .own) (B .message) z) (ranOf B hB .in4)
+        held = heldOf H (atFirst (seatOf n t (B .own)) (B .message) z) (ranOf B hB .in4)
 
         abbrev X3 : Party
-        X3 = atSecond n t (B .own) (B .message) z held
+        X3 = atSecond (seatOf n t (B .own)) (B .message) z held
 
         abbrev in5 : List ℕ
         in5 = ranOf B hB .in5
@@ -406,7 +406,7 @@ module _ (H : List ℕ → List ℕ) (wide : (s : List ℕ) → length (H s) ≡
         at k l =
             gathered-at H X3 1 (bodies n in5) k (omega (arith, length-bodies n in5))
             ∙ ap (λ (y : List ℕ). cond (eqb (1 + k) (B .own)) y (shareFrom (classOf H n (1 + k) z (getD (bodies n in5) k []))))
-            (share-second n t (B .own) (B .message) z held)
+            (share-second (seatOf n t (B .own)) (B .message) z held)
 
         own-entry : (k : ℕ) → k < n → eqb (1 + k) (B .own) ≡ true → getD gs k [] ≡ share (n - t) (1 + k) M
         own-entry k l q =
@@ -449,14 +449,14 @@ module _ (H : List ℕ → List ℕ) (wide : (s : List ℕ) → length (H s) ≡
                 let two : n ≢ 1 = λ r. d (omega (arith, r, b .first, b .last, c .first, c .last)) in
                 let r = relays C hC two in
                 let k-is : C .own - 1 ≡ k = omega (arith, e) in
-                let came : getD (bodies n in5) k [] ≡ relayOf H (atFirst n t (C .own) (C .message) z) (ranOf C hC .in4) =
+                let came : getD (bodies n in5) k [] ≡ relayOf H (atFirst (seatOf n t (C .own)) (C .message) z) (ranOf C hC .in4) =
                 ap (λ (u : ℕ). getD (bodies n in5) u []) (sym k-is)
                 ∙ sym (ranOf B hB .heard5 (C .own)) ∙ P .delivered b1 .secondInbox B hB C hC d ∙ ranOf C hC .relayed in
                 valid-entry k l q (r .x) (r .p)
                 (ap (classOf H n (1 + k) z) came
-                ∙ subst (λ (u : ℕ). classOf H n u z (relayOf H (atFirst n t (C .own) (C .message) z) (ranOf C hC .in4)) ≡ valid (r .x) (r .p))
+                ∙ subst (λ (u : ℕ). classOf H n u z (relayOf H (atFirst (seatOf n t (C .own)) (C .message) z) (ranOf C hC .in4)) ≡ valid (r .x) (r .p))
                 (sym e)
-                (passes-valid H n (C .own) z (relayOf H (atFirst n t (C .own) (C .message) z) (ranOf C hC .in4)) (r .x) (r .p) (r .reads)
+                (passes-valid H n (C .own) z (relayOf H (atFirst (seatOf n t (C .own)) (C .message) z) (ranOf C hC .in4)) (r .x) (r .p) (r .reads)
                 (r .leads)))
 
         there : (k : ℕ) → k < length gs → (1 ≤ length (getD gs k [])) ⊎ (among (1 + k) (owns H n t good) ≡ false)
@@ -498,18 +498,18 @@ module _ (H : List ℕ → List ℕ) (wide : (s : List ℕ) → length (H s) ≡
             (P .opened .bytes A hA) (c .short) enough used))
 
       results : (B : Good) (hB : In B)
-          → resultOf H (atSecond n t (B .own) (B .message) z (heldOf H (atFirst n t (B .own) (B .message) z) (ranOf B hB .in4)))
+          → resultOf H (atSecond (seatOf n t (B .own)) (B .message) z (heldOf H (atFirst (seatOf n t (B .own)) (B .message) z) (ranOf B hB .in4)))
           (ranOf B hB .in5) ≡ settled M
       unfolding resultOf
       results B hB = go (way (isGlad B))
         where
           go : Way (isGlad B)
-              → resultOf H (atSecond n t (B .own) (B .message) z (heldOf H (atFirst n t (B .own) (B .message) z) (ranOf B hB .in4)))
+              → resultOf H (atSecond (seatOf n t (B .own)) (B .message) z (heldOf H (atFirst (seatOf n t (B .own)) (B .message) z) (ranOf B hB .in4)))
               (ranOf B hB .in5) ≡ settled M
           go (on e) =
-              let y : List ℕ = heldOf H (atFirst n t (B .own) (B .message) z) (ranOf B hB .in4) in
+              let y : List ℕ = heldOf H (atFirst (seatOf n t (B .own)) (B .message) z) (ranOf B hB .in4) in
               rw (happy-second H n t (B .own) (B .message) z y ∙ e)
-              (ap settled (message-second n t (B .own) (B .message) z y ∙ glad-M B hB e))
+              (ap settled (message-second (seatOf n t (B .own)) (B .message) z y ∙ glad-M B hB e))
           go (off u) = unhappy-result B hB u
 
       -- the bytes sent
@@ -529,20 +529,20 @@ module _ (H : List ℕ → List ℕ) (wide : (s : List ℕ) → length (H s) ≡
             length-share (n - t) j M,
           )
 
-      packets-small : (B : Good) (hB : In B) → lengths (bodies n (outboxOf H (atBit n t (B .own) (B .message) z) 1)) ≤ (n - 1) * K
+      packets-small : (B : Good) (hB : In B) → lengths (bodies n (outboxOf H (atBit (seatOf n t (B .own)) (B .message) z) 1)) ≤ (n - 1) * K
       packets-small B hB = go (way (isGlad B))
         where
           i : ℕ
           i = B .own
 
-          each : (k : ℕ) → k < n → (b : Bool) → length (cond b [] (packetFor H (atBit n t (B .own) M z) (k + 1))) ≤ K
+          each : (k : ℕ) → k < n → (b : Bool) → length (cond b [] (packetFor H (atBit (seatOf n t (B .own)) M z) (k + 1))) ≤ K
           each k l true = omega arith
           each k l false =
               subst (λ (w : List ℕ). length w ≤ K)
-              (sym (packet-bit H n t (B .own) M z (k + 1)))
+              (sym (packet-bit H (seatOf n t (B .own)) M z (k + 1)))
               (own-length H wide n t M codedM (k + 1) (omega arith) (omega arith))
 
-          go : Way (isGlad B) → lengths (bodies n (outboxOf H (atBit n t (B .own) (B .message) z) 1)) ≤ (n - 1) * K
+          go : Way (isGlad B) → lengths (bodies n (outboxOf H (atBit (seatOf n t (B .own)) (B .message) z) 1)) ≤ (n - 1) * K
           go (on e) =
               let b = admitted B hB in
               let one : B .own - 1 + 1 ≡ B .own = omega (arith, b .first) in
@@ -556,18 +556,18 @@ module _ (H : List ℕ → List ℕ) (wide : (s : List ℕ) → length (H s) ≡
       none-times k a b e = rw e (omega arith)
 
       relay-small : (B : Good) (hB : In B)
-          → (n - 1) * length (relayOf H (atFirst n t (B .own) (B .message) z) (ranOf B hB .in4)) ≤ (n - 1) * K
+          → (n - 1) * length (relayOf H (atFirst (seatOf n t (B .own)) (B .message) z) (ranOf B hB .in4)) ≤ (n - 1) * K
       relay-small B hB = go (ℕ-discrete n 1)
         where
           w : List ℕ
-          w = relayOf H (atFirst n t (B .own) (B .message) z) (ranOf B hB .in4)
+          w = relayOf H (atFirst (seatOf n t (B .own)) (B .message) z) (ranOf B hB .in4)
 
-          go : Dec (n ≡ 1) → (n - 1) * length (relayOf H (atFirst n t (B .own) (B .message) z) (ranOf B hB .in4)) ≤ (n - 1) * K
-          go (yes e) = none-times (n - 1) (length (relayOf H (atFirst n t (B .own) (B .message) z) (ranOf B hB .in4))) K (omega arith)
+          go : Dec (n ≡ 1) → (n - 1) * length (relayOf H (atFirst (seatOf n t (B .own)) (B .message) z) (ranOf B hB .in4)) ≤ (n - 1) * K
+          go (yes e) = none-times (n - 1) (length (relayOf H (atFirst (seatOf n t (B .own)) (B .message) z) (ranOf B hB .in4))) K (omega arith)
           go (no d) =
               let r = relays B hB d in
               mul-le-mul-left (n - 1)
-              (small (relayOf H (atFirst n t (B .own) (B .message) z) (ranOf B hB .in4)) (B .own) (r .x) (r .p) (r .reads) (r .its))
+              (small (relayOf H (atFirst (seatOf n t (B .own)) (B .message) z) (ranOf B hB .in4)) (B .own) (r .x) (r .p) (r .reads) (r .its))
 
       party-small : (B : Good) → In B → sentBy H n t (B .own) (B .message) (B .calls) ≤ 2 * ((n - 1) * K)
       party-small B hB = rw (ranOf B hB .sends) (omega (arith, packets-small B hB, relay-small B hB))

@@ -23,12 +23,11 @@ use Rattle.packet.specs.Inbox.{inboxOf}
 use Rattle.packet.specs.Class.{Class, silent, faulty, valid, judged, classOf, checkedStrings, classStrings}
 use Rattle.party.specs.State.{Result, nothing, messageIn, shareHeld, atBit, atFirst, atSecond, atEnd, messageRoot, happy}
 use Rattle.party.specs.Steps.{packetFor, outboxOf, firstValid, takenBy, shareTaken, packetTaken, ownRelay, relayOf, heldOf, shareFrom, gathered, rebuilt, resultOf}
-use Rattle.party.specs.Steps.{rootCause, withRoot, ballot, agreeRootOf, bitCause, refused, writes, agreeBitOf, inboxCause, takeSharesOf, givesEnd, ending, takeRelaysOf}
+use Rattle.party.specs.Steps.{rootCause, withRoot, Stepped, gives, agreeRootOf, bitCause, refused, writes, agreeBitOf, inboxCause, takeSharesOf, ending, takeRelaysOf}
 use Rattle.party.specs.Strings.{unlessValid, shareStrings, relayStrings}
 use Rattle.party.specs.declared.Party.{Party}
-use Rattle.party.specs.declared.Vote.the-variants as vote
-use Rattle.party.specs.declared.Settled.the-variants as answer
-use Rattle.agreement.specs.Calls.{Call, agreeRoot, agreeBit, takeShares, takeRelays, Reply, made, checkedIn}
+use Rattle.party.specs.declared.Answer.the-variants as answer
+use Rattle.agreement.specs.Calls.{Call, agreeRoot, agreeBit, takeShares, takeRelays, made, checkedIn}
 use Rattle.party.proofs.Ways.{Way, on, off, way}
 use Rattle.party.proofs.Kept.{message-bit}
 use Rattle.commitment.specs.Private.{Coded}
@@ -94,20 +93,20 @@ module _ (H K : List ℕ → List ℕ) where
           (agree-left (classStrings H n own w) (unlessValid (classOf H n own z w) (shareStrings H n own z (j + 1) ps)) (rw e at f)) in
           later e (classOf H n own z w) refl (sym c) r
 
-  pub gathered-depends : (x : Party) (j : ℕ) (ps : List (List ℕ)) → Agree H K (relayStrings H (x .n) (x .own) j ps)
+  pub gathered-depends : (x : Party) (j : ℕ) (ps : List (List ℕ)) → Agree H K (relayStrings H (x .seat .n) (x .seat .own) j ps)
       → gathered H x j ps ≡ gathered K x j ps
   unfolding gathered relayStrings
   gathered-depends x j [] f = refl
   gathered-depends x j (w ∷ ps) f =
-      let s : List (List ℕ) = cond (eqb j (x .own)) [] (classStrings H (x .n) j w) in
-      ap₂ {C = List (List ℕ)} (λ y l. y ∷ l) (go (way (eqb j (x .own))) (agree-left s (relayStrings H (x .n) (x .own) (j + 1) ps) f))
-      (gathered-depends x (j + 1) ps (agree-right s (relayStrings H (x .n) (x .own) (j + 1) ps) f))
+      let s : List (List ℕ) = cond (eqb j (x .seat .own)) [] (classStrings H (x .seat .n) j w) in
+      ap₂ {C = List (List ℕ)} (λ y l. y ∷ l) (go (way (eqb j (x .seat .own))) (agree-left s (relayStrings H (x .seat .n) (x .seat .own) (j + 1) ps) f))
+      (gathered-depends x (j + 1) ps (agree-right s (relayStrings H (x .seat .n) (x .seat .own) (j + 1) ps) f))
     where
-      go : Way (eqb j (x .own)) → Agree H K (cond (eqb j (x .own)) [] (classStrings H (x .n) j w))
-          → cond (eqb j (x .own)) (shareHeld x) (shareFrom (classOf H (x .n) j (x .root) w))
-          ≡ cond (eqb j (x .own)) (shareHeld x) (shareFrom (classOf K (x .n) j (x .root) w))
+      go : Way (eqb j (x .seat .own)) → Agree H K (cond (eqb j (x .seat .own)) [] (classStrings H (x .seat .n) j w))
+          → cond (eqb j (x .seat .own)) (shareHeld x) (shareFrom (classOf H (x .seat .n) j (x .root) w))
+          ≡ cond (eqb j (x .seat .own)) (shareHeld x) (shareFrom (classOf K (x .seat .n) j (x .root) w))
       go (on e) g = rw e
-      go (off e) g = rw e (ap shareFrom (class-depends (x .n) j (x .root) w (rw e at g)))
+      go (off e) g = rw e (ap shareFrom (class-depends (x .seat .n) j (x .root) w (rw e at g)))
 
   -- a message's root and packets, by the strings of its tree
   module _ (wide : (x : List ℕ) → length (H x) ≡ 32) (n t : ℕ) (m : List ℕ) (c : Coded n t m)
@@ -125,28 +124,28 @@ module _ (H K : List ℕ → List ℕ) where
         ∙ sym (tree-path K n (shares n (n - t) m) (fine n t m c) (c .low) (c .high) j first last)
 
   -- so all that a state's own message gives
-  module _ (wide : (x : List ℕ) → length (H x) ≡ 32) (x : Party) (c : Coded (x .n) (x .t) (messageIn x)) (own : 1 ≤ x .own) (last : x .own ≤ x .n)
-      (tree : Agree H K (codingStrings H (x .n) (shares (x .n) (x .n - x .t) (messageIn x)))) where
+  module _ (wide : (x : List ℕ) → length (H x) ≡ 32) (x : Party) (c : Coded (x .seat .n) (x .seat .t) (messageIn x)) (own : 1 ≤ x .seat .own) (last : x .seat .own ≤ x .seat .n)
+      (tree : Agree H K (codingStrings H (x .seat .n) (shares (x .seat .n) (x .seat .n - x .seat .t) (messageIn x)))) where
     happy-depends : happy H x ≡ happy K x
     unfolding happy
-    happy-depends = ap (λ (r : List ℕ). same r (x .root)) (root-depends wide (x .n) (x .t) (messageIn x) c tree)
+    happy-depends = ap (λ (r : List ℕ). same r (x .root)) (root-depends wide (x .seat .n) (x .seat .t) (messageIn x) c tree)
 
-    packet-depends : (j : ℕ) → 1 ≤ j → j ≤ x .n → packetFor H x j ≡ packetFor K x j
+    packet-depends : (j : ℕ) → 1 ≤ j → j ≤ x .seat .n → packetFor H x j ≡ packetFor K x j
     unfolding packetFor
     packet-depends j first end =
-        ap (λ (p : List (List ℕ)). packetOf j (share (x .n - x .t) j (messageIn x)) (take (length (sidesOf (x .n) j)) p))
-        (path-same wide (x .n) (x .t) (messageIn x) c tree j first end)
+        ap (λ (p : List (List ℕ)). packetOf j (share (x .seat .n - x .seat .t) j (messageIn x)) (take (length (sidesOf (x .seat .n) j)) p))
+        (path-same wide (x .seat .n) (x .seat .t) (messageIn x) c tree j first end)
 
     pub outbox-depends : (bit : ℕ) → outboxOf H x bit ≡ outboxOf K x bit
     unfolding outboxOf
     outbox-depends bit =
-        ap₂ (λ (b : Bool) (l : List (List ℕ)). inboxOf (cond (eqb bit 1 && b) l (replicate (x .n) []))) happy-depends
-        (tabulate-cong (x .n) (λ i. cond (eqb (i + 1) (x .own)) [] (packetFor H x (i + 1)))
-        (λ i. cond (eqb (i + 1) (x .own)) [] (packetFor K x (i + 1)))
-        (λ i l. ap (λ (w : List ℕ). cond (eqb (i + 1) (x .own)) [] w) (packet-depends (i + 1) (omega arith) (omega arith))))
+        ap₂ (λ (b : Bool) (l : List (List ℕ)). inboxOf (cond (eqb bit 1 && b) l (replicate (x .seat .n) []))) happy-depends
+        (tabulate-cong (x .seat .n) (λ i. cond (eqb (i + 1) (x .seat .own)) [] (packetFor H x (i + 1)))
+        (λ i. cond (eqb (i + 1) (x .seat .own)) [] (packetFor K x (i + 1)))
+        (λ i l. ap (λ (w : List ℕ). cond (eqb (i + 1) (x .seat .own)) [] w) (packet-depends (i + 1) (omega arith) (omega arith))))
 
     relay-own-depends : ownRelay H x ≡ ownRelay K x
-    relay-own-depends = ap (λ (w : List ℕ). cond (eqb (x .n) 1) [] w) (packet-depends (x .own) own last)
+    relay-own-depends = ap (λ (w : List ℕ). cond (eqb (x .seat .n) 1) [] w) (packet-depends (x .seat .own) own last)
 
     -- what step 4 relays and keeps, and what step 5 ends with; a happy party makes no check
     module _ (inbox out : List ℕ) where
@@ -158,7 +157,7 @@ module _ (H K : List ℕ → List ℕ) where
 
       taken-depends : happy H x ≡ false → Shares → takenBy H x inbox ≡ takenBy K x inbox
       unfolding checkedIn
-      taken-depends e f = first-depends (x .n) (x .own) (x .root) 1 (bodies (x .n) inbox) (rw e at f)
+      taken-depends e f = first-depends (x .seat .n) (x .seat .own) (x .root) 1 (bodies (x .seat .n) inbox) (rw e at f)
 
       pub relay-depends : Shares → relayOf H x inbox ≡ relayOf K x inbox
       unfolding relayOf
@@ -184,33 +183,30 @@ module _ (H K : List ℕ → List ℕ) where
           go (on e) = rw (e, sym happy-depends ∙ e)
           go (off e) =
               rw (e, sym happy-depends ∙ e)
-              (ap (λ (gs : List (List ℕ)). rebuilt (recovered (x .n - x .t) (present 1 gs)))
-              (gathered-depends x 1 (bodies (x .n) inbox) (rw e at f)))
+              (ap (λ (gs : List (List ℕ)). rebuilt (recovered (x .seat .n - x .seat .t) (present 1 gs)))
+              (gathered-depends x 1 (bodies (x .seat .n) inbox) (rw e at f)))
 
     -- the root that a party is handed may be any
     bit-depends : (z : List ℕ) → happy H (withRoot x z) ≡ happy K (withRoot x z)
     unfolding happy atBit
     bit-depends z =
-        ap (λ (m : List ℕ). same (messageRoot H (x .n) (x .t) m) z) (message-bit (x .n) (x .t) (x .own) (messageIn x) z)
-        ∙ ap (λ (r : List ℕ). same r z) (root-depends wide (x .n) (x .t) (messageIn x) c tree)
-        ∙ sym (ap (λ (m : List ℕ). same (messageRoot K (x .n) (x .t) m) z) (message-bit (x .n) (x .t) (x .own) (messageIn x) z))
+        ap (λ (m : List ℕ). same (messageRoot H (x .seat .n) (x .seat .t) m) z) (message-bit (x .seat) (messageIn x) z)
+        ∙ ap (λ (r : List ℕ). same r z) (root-depends wide (x .seat .n) (x .seat .t) (messageIn x) c tree)
+        ∙ sym (ap (λ (m : List ℕ). same (messageRoot K (x .seat .n) (x .seat .t) m) z) (message-bit (x .seat) (messageIn x) z))
 
     -- the whole reply
     pub made-depends : (call : Call) → Agree H K (checkedIn H x call) → made H x call ≡ made K x call
     unfolding made agreeRootOf agreeBitOf takeSharesOf takeRelaysOf
     made-depends (agreeRoot z) f =
-        ap {B = Reply} (λ (b : Bool). let r = cond (not (eqb (rootCause x z) 0)) (ballot x (vote.Refused (rootCause x z))) (ballot (withRoot x z) (vote.Happy b)) in
-        record { state = r .state; cause = r .cause; value = r .bit; result = none; buffer = [] }) (bit-depends z)
+        ap {B = Stepped} (λ (b : Bool). cond (not (eqb (rootCause x z) 0)) (refused x (rootCause x z) [])
+        (gives (withRoot x z) (answer.Happy b) [])) (bit-depends z)
     made-depends (agreeBit bit out) f =
-        ap {B = Reply} (λ (bs : List ℕ). let r = cond (not (eqb (bitCause x bit) 0)) (refused x (bitCause x bit) out)
-        (writes x (cond (eqb bit 0) (atEnd (x .n) (x .t) (x .own) nothing) (atFirst (x .n) (x .t) (x .own) (messageIn x) (x .root))) bs out) in
-        record { state = r .state; cause = r .cause; value = r .value; result = none; buffer = r .buffer }) (outbox-depends bit)
+        ap {B = Stepped} (λ (bs : List ℕ). cond (not (eqb (bitCause x bit) 0)) (refused x (bitCause x bit) out)
+        (writes x (cond (eqb bit 0) (atEnd (x .seat) nothing) (atFirst (x .seat) (messageIn x) (x .root))) bs out)) (outbox-depends bit)
     made-depends (takeShares inbox out) f =
-        ap₂ {C = Reply} (λ (held bs : List ℕ). let r = cond (not (eqb (inboxCause 4 x inbox) 0)) (refused x (inboxCause 4 x inbox) out)
-        (writes x (atSecond (x .n) (x .t) (x .own) (messageIn x) (x .root) held) bs out) in
-        record { state = r .state; cause = r .cause; value = r .value; result = none; buffer = r .buffer })
+        ap₂ {C = Stepped} (λ (held bs : List ℕ). cond (not (eqb (inboxCause 4 x inbox) 0)) (refused x (inboxCause 4 x inbox) out)
+        (writes x (atSecond (x .seat) (messageIn x) (x .root) held) bs out))
         (held-depends inbox out f) (relay-depends inbox out f)
     made-depends (takeRelays inbox out) f =
-        ap {B = Reply} (λ (w : Result). let r = cond (not (eqb (inboxCause 5 x inbox) 0)) (givesEnd x (answer.Refused (inboxCause 5 x inbox)) out) (ending x w out) in
-        record { state = r .state; cause = r .cause; value = r .value; result = r .result; buffer = r .buffer })
+        ap {B = Stepped} (λ (w : Result). cond (not (eqb (inboxCause 5 x inbox) 0)) (refused x (inboxCause 5 x inbox) out) (ending x w out))
         (result-depends inbox out f)

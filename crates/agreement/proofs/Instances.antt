@@ -29,7 +29,7 @@ use Rattle.merkle.proofs.Judged.{same-true, same-refl}
 use Rattle.packet.specs.Format.{chained, hashes, packetOf, entryOf, shareIn, readOf}
 use Rattle.packet.specs.Inbox.{inboxOf}
 use Rattle.packet.specs.Class.{valid, faulty, classOf, classStrings}
-use Rattle.party.specs.State.{Result, nothing, settled, atRoot, atBit, atFirst, atSecond, atEnd, blankState, broken, messageRoot, happy}
+use Rattle.party.specs.State.{seatOf, Result, nothing, settled, atRoot, atBit, atFirst, atSecond, atEnd, blankState, broken, messageRoot, happy}
 use Rattle.party.specs.Steps.{stateCause, openCause, openOf, rootCause, agreeRootOf, packetFor, bitCause, outboxOf, agreeBitOf, inboxCause, firstValid}
 use Rattle.party.specs.Steps.{relayOf, heldOf, takeSharesOf, gathered, resultOf, takeRelaysOf}
 use Rattle.party.specs.Strings.{shareStrings, relayStrings}
@@ -124,7 +124,7 @@ room = replicate 150 7
 
 -- the packet with share j of M, and a share and paths that are none of M's
 abbrev pub pk : ℕ → List ℕ
-pk j = packetFor toy (atBit 3 1 3 M z) j
+pk j = packetFor toy (atBit (seatOf 3 1 3) M z) j
 
 abbrev pub forged : ℕ → List (List ℕ) → List ℕ
 forged j p = packetOf j (1 ∷ 77 ∷ []) p
@@ -218,7 +218,7 @@ abbrev pub y : List ℕ
 y = messageRoot toy 3 1 (0x41 ∷ [])
 
 abbrev pub qk : ℕ → List ℕ
-qk j = packetFor toy (atBit 3 1 1 (0x41 ∷ []) y) j
+qk j = packetFor toy (atBit (seatOf 3 1 1) (0x41 ∷ []) y) j
 
 abbrev pub calls1 : List Call
 calls1 = calls y (inboxOf ([] ∷ [] ∷ [] ∷ [])) (inboxOf ([] ∷ qk 2 ∷ [] ∷ []))

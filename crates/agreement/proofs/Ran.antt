@@ -16,45 +16,46 @@ use Rattle.buffer.specs.Entries.{bodies}
 use Rattle.buffer.proofs.Splice.{take-spliced}
 use Rattle.erasure.specs.Coding.{shares}
 use Rattle.merkle.specs.Shares.{codingStrings}
-use Rattle.party.specs.State.{Result, nothing, settled, bytesOf, atRoot, atBit, atFirst, atSecond, atEnd}
+use Rattle.party.specs.State.{seatOf, Result, nothing, settled, bytesOf, atRoot, atBit, atFirst, atSecond, atEnd}
 use Rattle.party.specs.State.{resultIn, messageRoot, happy}
-use Rattle.party.specs.Steps.{turnOf, openCause, outboxOf, relayOf, heldOf, resultOf}
+use Rattle.party.specs.Steps.{turnOf, openCause, Stepped, gives, outboxOf, relayOf, heldOf, resultOf}
 use Rattle.party.specs.declared.Party.{Party}
 use Rattle.party.specs.declared.Opened.{Opened}
+use Rattle.party.specs.declared.Answer.the-variants as answer
 use Rattle.party.proofs.Kept.{take-padded}
 use Rattle.party.proofs.Outcomes.{open-given, open-refused}
 use Rattle.party.proofs.Ways.{Way, on, off, way}
-use Rattle.agreement.specs.Calls.{Call, agreeRoot, agreeBit, takeShares, takeRelays, stepOf, Reply, Event, accepted, first, entry, heard, wrote}
+use Rattle.agreement.specs.Calls.{Call, agreeRoot, agreeBit, takeShares, takeRelays, stepOf, Event, accepted, first, entry, heard, wrote}
 use Rattle.agreement.specs.Calls.{bitGiven, resultShown, lengths, sentOver, events, final, checkedIn, checkedOver}
 use Rattle.agreement.specs.Calls.{opening, did, firstOf, resultAfter, hashed, sentBy}
-use Rattle.agreement.proofs.Run.{made2, made3, made4, made5, left, did2, did3, did4, did5, in-turn, event, Chain, chain, next, Still, still}
+use Rattle.agreement.proofs.Run.{made2, made3, made4, endedWith, did2, did3, did4, did5, in-turn, event, Chain, chain, next, Still, still}
 
 -- the result of a party that has ended
-pub result-end : (n t i : ℕ) (r : Result) → resultIn (atEnd n t i r) ≡ some r
+pub result-end : (n t i : ℕ) (r : Result) → resultIn (atEnd (seatOf n t i) r) ≡ some r
 unfolding atEnd
 result-end n t i nothing = refl
 result-end n t i (settled m) = ap {B = Option Result} (λ (l : List ℕ). some (settled l)) (take-padded maxMessage m)
 
 -- an ended party awaits no step
-ended-turn : (n t i : ℕ) (r : Result) → turnOf (atEnd n t i r .stage) ≡ 0
+ended-turn : (n t i : ℕ) (r : Result) → turnOf (atEnd (seatOf n t i) r .stage) ≡ 0
 unfolding atEnd
 ended-turn n t i r = refl
 
 -- an accepted opening
 pub opened-is : (H : List ℕ → List ℕ) (n t i : ℕ) (m : List ℕ) → opening H n t i m .cause ≡ 0
     → (openCause n t i (length m) ≡ 0)
-    × (opening H n t i m ≡ record { state = atRoot n t i m; cause = 0; root = messageRoot H n t m })
+    × (opening H n t i m ≡ record { state = atRoot (seatOf n t i) m; cause = 0; root = messageRoot H n t m })
 opened-is H n t i m e = go (way (eqb (openCause n t i (length m)) 0))
   where
     go : Way (eqb (openCause n t i (length m)) 0)
         → (openCause n t i (length m) ≡ 0)
-        × (opening H n t i m ≡ record { state = atRoot n t i m; cause = 0; root = messageRoot H n t m })
+        × (opening H n t i m ≡ record { state = atRoot (seatOf n t i) m; cause = 0; root = messageRoot H n t m })
     go (on q) = let c = eqb-true (openCause n t i (length m)) 0 q in (c, open-given H n t i m c)
     go (off q) =
         let c = eqb-false (openCause n t i (length m)) 0 q in
         absurd (c (sym (ap (λ (r : Opened). r .cause) (open-refused H n t i m c)) ∙ e))
 
-abbrev ev : Party → Call → Reply → Event
+abbrev ev : Party → Call → Stepped → Event
 ev x c r = record { before = x; call = c; reply = r }
 
 -- a call of step 4 or 5 has an inbox and a buffer
@@ -78,7 +79,7 @@ module _ (H : List ℕ → List ℕ) where
       let r = next H k x fin es e a h q in
       subst (λ (d : Call). event H x d .reply .cause ≡ 0) p (subst (λ (v : Event). v .reply .cause ≡ 0) (r .2) (r .3))
 
-  advance : (k : ℕ) (x fin : Party) (es : List Event) (e : Event) (c : Call) (s : Reply) → turnOf (x .stage) ≡ k
+  advance : (k : ℕ) (x fin : Party) (es : List Event) (e : Event) (c : Call) (s : Stepped) → turnOf (x .stage) ≡ k
       → Chain H x es fin → first k es ≡ some e → e .call ≡ c → event H x c .reply ≡ s
       → (rest : List Event) × (es ≡ ev x c s ∷ rest) × Chain H (s .state) rest fin
   advance k x fin es e c s a h q p g =
@@ -94,82 +95,53 @@ module _ (H : List ℕ → List ℕ) where
 
   module _ (n t i : ℕ) (m z : List ℕ) where
     abbrev X1 : Party
-    X1 = atBit n t i m z
+    X1 = atBit (seatOf n t i) m z
 
     abbrev X2 : Party
-    X2 = atFirst n t i m z
+    X2 = atFirst (seatOf n t i) m z
 
     abbrev X3 : List ℕ → Party
-    X3 inbox = atSecond n t i m z (heldOf H X2 inbox)
+    X3 inbox = atSecond (seatOf n t i) m z (heldOf H X2 inbox)
 
     -- the replies, by the states that the accepted calls got
-    abbrev reply2 : Reply
-    reply2 = record { state = X1; cause = 0; value = cond (happy H X1) 1 0; result = none; buffer = [] }
+    abbrev reply2 : Stepped
+    reply2 = gives X1 (answer.Happy (happy H X1)) []
 
-    abbrev reply3 : ℕ → List ℕ → Reply
+    abbrev reply3 : ℕ → List ℕ → Stepped
     reply3 bit out =
-        record {
-          state = cond (eqb bit 0) (atEnd n t i nothing) X2;
-          cause = 0;
-          value = length (outboxOf H X1 bit);
-          result = none;
-          buffer = spliced out 0 (outboxOf H X1 bit);
-        }
+        gives (cond (eqb bit 0) (atEnd (seatOf n t i) nothing) X2) (answer.Sent (length (outboxOf H X1 bit)))
+        (spliced out 0 (outboxOf H X1 bit))
 
-    abbrev reply4 : List ℕ → List ℕ → Reply
-    reply4 inbox out =
-        record {
-          state = X3 inbox;
-          cause = 0;
-          value = length (relayOf H X2 inbox);
-          result = none;
-          buffer = spliced out 0 (relayOf H X2 inbox);
-        }
+    abbrev reply4 : List ℕ → List ℕ → Stepped
+    reply4 inbox out = gives (X3 inbox) (answer.Sent (length (relayOf H X2 inbox))) (spliced out 0 (relayOf H X2 inbox))
 
-    abbrev reply5 : List ℕ → List ℕ → List ℕ → Reply
-    reply5 in4 in5 out =
-        let r = resultOf H (X3 in4) in5 in
-        record { state = atEnd n t i r; cause = 0; value = length (bytesOf r); result = some r; buffer = left r out }
+    abbrev reply5 : List ℕ → List ℕ → List ℕ → Stepped
+    reply5 in4 in5 out = endedWith (seatOf n t i) (resultOf H (X3 in4) in5) out
 
-    is2 : made2 H (atRoot n t i m) z ≡ reply2
+    is2 : made2 H (atRoot (seatOf n t i) m) z ≡ reply2
     unfolding atRoot
     is2 =
-        ap (λ (b : List ℕ). record {
-          state = atBit n t i b z;
-          cause = 0;
-          value = cond (happy H (atBit n t i b z)) 1 0;
-          result = none;
-          buffer = [];
-        }) (take-padded maxMessage m)
+        ap (λ (b : List ℕ). gives (atBit (seatOf n t i) b z) (answer.Happy (happy H (atBit (seatOf n t i) b z))) [])
+        (take-padded maxMessage m)
 
     is3 : (bit : ℕ) (out : List ℕ) → made3 H X1 bit out ≡ reply3 bit out
     unfolding atBit
     is3 bit out =
-        ap (λ (b : List ℕ). record {
-          state = cond (eqb bit 0) (atEnd n t i nothing) (atFirst n t i b z);
-          cause = 0;
-          value = length (outboxOf H X1 bit);
-          result = none;
-          buffer = spliced out 0 (outboxOf H X1 bit);
-        }) (take-padded maxMessage m)
+        ap (λ (b : List ℕ). gives (cond (eqb bit 0) (atEnd (seatOf n t i) nothing) (atFirst (seatOf n t i) b z))
+        (answer.Sent (length (outboxOf H X1 bit))) (spliced out 0 (outboxOf H X1 bit))) (take-padded maxMessage m)
 
     is4 : (inbox out : List ℕ) → made4 H X2 inbox out ≡ reply4 inbox out
     unfolding atFirst
     is4 inbox out =
-        ap (λ (b : List ℕ). record {
-          state = atSecond n t i b z (heldOf H X2 inbox);
-          cause = 0;
-          value = length (relayOf H X2 inbox);
-          result = none;
-          buffer = spliced out 0 (relayOf H X2 inbox);
-        }) (take-padded maxMessage m)
+        ap (λ (b : List ℕ). gives (atSecond (seatOf n t i) b z (heldOf H X2 inbox)) (answer.Sent (length (relayOf H X2 inbox)))
+        (spliced out 0 (relayOf H X2 inbox))) (take-padded maxMessage m)
 
-    is5 : (in4 in5 out : List ℕ) → made5 (X3 in4) (resultOf H (X3 in4) in5) out ≡ reply5 in4 in5 out
+    is5 : (in4 in5 out : List ℕ) → endedWith (X3 in4 .seat) (resultOf H (X3 in4) in5) out ≡ reply5 in4 in5 out
     unfolding atSecond
     is5 in4 in5 out = refl
 
     abbrev ev2 : Event
-    ev2 = ev (atRoot n t i m) (agreeRoot z) reply2
+    ev2 = ev (atRoot (seatOf n t i) m) (agreeRoot z) reply2
 
     abbrev ev3 : ℕ → List ℕ → Event
     ev3 bit out = ev X1 (agreeBit bit out) (reply3 bit out)
@@ -181,13 +153,13 @@ module _ (H : List ℕ → List ℕ) where
     ev5 in4 in5 out = ev (X3 in4) (takeRelays in5 out) (reply5 in4 in5 out)
 
     -- the accepted calls up to step 3
-    two : (fin : Party) (es : List Event) (e2 e3 : Event) (bit : ℕ) (out : List ℕ) → Chain H (atRoot n t i m) es fin
+    two : (fin : Party) (es : List Event) (e2 e3 : Event) (bit : ℕ) (out : List ℕ) → Chain H (atRoot (seatOf n t i) m) es fin
         → first 2 es ≡ some e2 → e2 .call ≡ agreeRoot z → first 3 es ≡ some e3 → e3 .call ≡ agreeBit bit out
         → (rest : List Event) × (es ≡ ev2 ∷ ev3 bit out ∷ rest) × (bit ≤ 1)
-        × Chain H (cond (eqb bit 0) (atEnd n t i nothing) X2) rest fin
+        × Chain H (cond (eqb bit 0) (atEnd (seatOf n t i) nothing) X2) rest fin
     unfolding first atRoot atBit
     two fin es e2 e3 bit out h f2 c2 f3 c3 =
-        let x0 : Party = atRoot n t i m in
+        let x0 : Party = atRoot (seatOf n t i) m in
         let y2 = accepted-at 2 x0 fin es e2 (agreeRoot z) refl h f2 c2 in
         let a = advance 2 x0 fin es e2 (agreeRoot z) reply2 refl h f2 c2 (did2 H x0 z y2 .1 ∙ is2) in
         let g3 : first 3 (a .0) ≡ some e3 = rw (a .1) at f3 in
@@ -204,7 +176,7 @@ module _ (H : List ℕ → List ℕ) where
       out5 : List ℕ
       rest : List Event
       all : es ≡ ev4 in4 out4 ∷ ev5 in4 in5 out5 ∷ rest
-      last : Still H n (atEnd n t i (resultOf H (X3 in4) in5)) rest fin
+      last : Still H n (atEnd (seatOf n t i) (resultOf H (X3 in4) in5)) rest fin
 
     four : (fin : Party) (es : List Event) (e4 e5 : Event) → Chain H X2 es fin → first 4 es ≡ some e4 → first 5 es ≡ some e5
         → Four fin es
@@ -229,7 +201,7 @@ module _ (H : List ℕ → List ℕ) where
           out5 = o5;
           rest = b .0;
           all = a .1 ∙ ap (λ (r : List Event). ev4 i4 o4 ∷ r) (b .1);
-          last = still H n (atEnd n t i (resultOf H (X3 i4) i5)) fin (b .0) (ended-turn n t i (resultOf H (X3 i4) i5)) (b .2);
+          last = still H n (atEnd (seatOf n t i) (resultOf H (X3 i4) i5)) fin (b .0) (ended-turn n t i (resultOf H (X3 i4) i5)) (b .2);
         }
 
 -- a party that opened with a message, was handed these calls, and was accepted in steps 2 to 5, on bit 1
@@ -238,28 +210,28 @@ pub record Ran (H : List ℕ → List ℕ) (n t i : ℕ) (m : List ℕ) (calls :
   pub in5 : List ℕ
   pub heard4 : (j : ℕ) → heard n j (firstOf H n t i m calls 4) ≡ entry n j in4
   pub heard5 : (j : ℕ) → heard n j (firstOf H n t i m calls 5) ≡ entry n j in5
-  pub packets : wrote (firstOf H n t i m calls 3) ≡ outboxOf H (atBit n t i m z) 1
-  pub relayed : wrote (firstOf H n t i m calls 4) ≡ relayOf H (atFirst n t i m z) in4
-  pub ends : resultAfter H n t i m calls ≡ some (resultOf H (atSecond n t i m z (heldOf H (atFirst n t i m z) in4)) in5)
+  pub packets : wrote (firstOf H n t i m calls 3) ≡ outboxOf H (atBit (seatOf n t i) m z) 1
+  pub relayed : wrote (firstOf H n t i m calls 4) ≡ relayOf H (atFirst (seatOf n t i) m z) in4
+  pub ends : resultAfter H n t i m calls ≡ some (resultOf H (atSecond (seatOf n t i) m z (heldOf H (atFirst (seatOf n t i) m z) in4)) in5)
   pub shows : resultShown (firstOf H n t i m calls 5)
-      ≡ some (resultOf H (atSecond n t i m z (heldOf H (atFirst n t i m z) in4)) in5)
+      ≡ some (resultOf H (atSecond (seatOf n t i) m z (heldOf H (atFirst (seatOf n t i) m z) in4)) in5)
   pub in-tree : (s : List ℕ) → List·Memᴰ s (codingStrings H n (shares n (n - t) m)) → List·Memᴰ s (hashed H n t i m calls)
-  pub in-first : (s : List ℕ) → List·Memᴰ s (checkedIn H (atFirst n t i m z) (takeShares in4 []))
+  pub in-first : (s : List ℕ) → List·Memᴰ s (checkedIn H (atFirst (seatOf n t i) m z) (takeShares in4 []))
       → List·Memᴰ s (hashed H n t i m calls)
   pub in-second : (s : List ℕ)
-      → List·Memᴰ s (checkedIn H (atSecond n t i m z (heldOf H (atFirst n t i m z) in4)) (takeRelays in5 []))
+      → List·Memᴰ s (checkedIn H (atSecond (seatOf n t i) m z (heldOf H (atFirst (seatOf n t i) m z) in4)) (takeRelays in5 []))
       → List·Memᴰ s (hashed H n t i m calls)
   pub sends : sentBy H n t i m calls
-      ≡ lengths (bodies n (outboxOf H (atBit n t i m z) 1)) + (n - 1) * length (relayOf H (atFirst n t i m z) in4)
+      ≡ lengths (bodies n (outboxOf H (atBit (seatOf n t i) m z) 1)) + (n - 1) * length (relayOf H (atFirst (seatOf n t i) m z) in4)
 
 module _ (H : List ℕ → List ℕ) (n t i : ℕ) (m : List ℕ) (calls : List Call) (z : List ℕ) (o : opening H n t i m .cause ≡ 0) where
-  x0-is : opening H n t i m .state ≡ atRoot n t i m
+  x0-is : opening H n t i m .state ≡ atRoot (seatOf n t i) m
   x0-is = ap (λ (r : Opened). r .state) (opened-is H n t i m o .1)
 
   fin : Party
-  fin = final H (atRoot n t i m) calls
+  fin = final H (atRoot (seatOf n t i) m) calls
 
-  did-is : did H n t i m calls ≡ accepted (events H (atRoot n t i m) calls)
+  did-is : did H n t i m calls ≡ accepted (events H (atRoot (seatOf n t i) m) calls)
   unfolding did
   did-is = ap (λ (x : Party). accepted (events H x calls)) x0-is
 
@@ -267,18 +239,18 @@ module _ (H : List ℕ → List ℕ) (n t i : ℕ) (m : List ℕ) (calls : List 
   unfolding fin
   ends-is = ap (λ (x : Party). resultIn (final H x calls)) x0-is
 
-  did-chain : Chain H (atRoot n t i m) (did H n t i m calls) fin
+  did-chain : Chain H (atRoot (seatOf n t i) m) (did H n t i m calls) fin
   unfolding fin
-  did-chain = subst (λ (l : List Event). Chain H (atRoot n t i m) l (final H (atRoot n t i m) calls)) (sym did-is) (chain H (atRoot n t i m) calls)
+  did-chain = subst (λ (l : List Event). Chain H (atRoot (seatOf n t i) m) l (final H (atRoot (seatOf n t i) m) calls)) (sym did-is) (chain H (atRoot (seatOf n t i) m) calls)
 
   module _ (e2 e3 : Event) (bit : ℕ) (out : List ℕ) (f2 : firstOf H n t i m calls 2 ≡ some e2) (c2 : e2 .call ≡ agreeRoot z)
       (f3 : firstOf H n t i m calls 3 ≡ some e3) (c3 : e3 .call ≡ agreeBit bit out) where
     begun : (rest : List Event) × (did H n t i m calls ≡ ev2 H n t i m z ∷ ev3 H n t i m z bit out ∷ rest) × (bit ≤ 1)
-        × Chain H (cond (eqb bit 0) (atEnd n t i nothing) (atFirst n t i m z)) rest fin
+        × Chain H (cond (eqb bit 0) (atEnd (seatOf n t i) nothing) (atFirst (seatOf n t i) m z)) rest fin
     begun = two H n t i m z fin (did H n t i m calls) e2 e3 bit out did-chain f2 c2 f3 c3
 
     -- the bit that step 2 gave
-    pub bit-given : bitGiven (firstOf H n t i m calls 2) ≡ some (cond (happy H (atBit n t i m z)) 1 0)
+    pub bit-given : bitGiven (firstOf H n t i m calls 2) ≡ some (cond (happy H (atBit (seatOf n t i) m z)) 1 0)
     unfolding first
     bit-given = rw (begun .1)
 
@@ -289,13 +261,13 @@ module _ (H : List ℕ → List ℕ) (n t i : ℕ) (m : List ℕ) (calls : List 
   pub ran-none : (e2 e3 : Event) (out : List ℕ) → firstOf H n t i m calls 2 ≡ some e2 → e2 .call ≡ agreeRoot z
       → firstOf H n t i m calls 3 ≡ some e3 → e3 .call ≡ agreeBit 0 out
       → (resultAfter H n t i m calls ≡ some nothing)
-      × (sentBy H n t i m calls ≡ lengths (bodies n (outboxOf H (atBit n t i m z) 0)))
+      × (sentBy H n t i m calls ≡ lengths (bodies n (outboxOf H (atBit (seatOf n t i) m z) 0)))
   unfolding sentBy sentOver
   ran-none e2 e3 out f2 c2 f3 c3 =
       let b = begun e2 e3 0 out f2 c2 f3 c3 in
-      let l = still H n (atEnd n t i nothing) fin (b .0) (ended-turn n t i nothing) (b .3) in (
+      let l = still H n (atEnd (seatOf n t i) nothing) fin (b .0) (ended-turn n t i nothing) (b .3) in (
         ends-is ∙ l .0 ∙ result-end n t i nothing,
-        rw (b .1, l .1, take-spliced out (outboxOf H (atBit n t i m z) 0)) (omega arith),
+        rw (b .1, l .1, take-spliced out (outboxOf H (atBit (seatOf n t i) m z) 0)) (omega arith),
       )
 
   -- on bit 1
@@ -336,19 +308,19 @@ module _ (H : List ℕ → List ℕ) (n t i : ℕ) (m : List ℕ) (calls : List 
           in5 = q .in5;
           heard4 = λ j. ap (heard n j) is-4;
           heard5 = λ j. ap (heard n j) is-5;
-          packets = ap wrote is-third ∙ take-spliced out (outboxOf H (atBit n t i m z) 1);
-          relayed = ap wrote is-4 ∙ take-spliced (q .out4) (relayOf H (atFirst n t i m z) (q .in4));
+          packets = ap wrote is-third ∙ take-spliced out (outboxOf H (atBit (seatOf n t i) m z) 1);
+          relayed = ap wrote is-4 ∙ take-spliced (q .out4) (relayOf H (atFirst (seatOf n t i) m z) (q .in4));
           ends = ends-is ∙ q .last .0 ∙ result-end n t i (resultOf H (X3 H n t i m z (q .in4)) (q .in5));
           shows = ap resultShown is-5;
           in-tree = λ s h. Memᴰ·append-left (checkedOver H (did H n t i m calls)) h;
           in-first = λ s h. checked-in s (Memᴰ·append-left (checkedOver H (fifth ∷ q .rest)) h);
-          in-second = λ s h. checked-in s (Memᴰ·append-right (checkedIn H (atFirst n t i m z) (takeShares (q .in4) []))
+          in-second = λ s h. checked-in s (Memᴰ·append-right (checkedIn H (atFirst (seatOf n t i) m z) (takeShares (q .in4) []))
               (Memᴰ·append-left (checkedOver H (q .rest)) h));
           sends = rw (
             all-did,
             q .last .1,
-            take-spliced out (outboxOf H (atBit n t i m z) 1),
-            take-spliced (q .out4) (relayOf H (atFirst n t i m z) (q .in4)),
+            take-spliced out (outboxOf H (atBit (seatOf n t i) m z) 1),
+            take-spliced (q .out4) (relayOf H (atFirst (seatOf n t i) m z) (q .in4)),
           ) (omega arith);
         }
 

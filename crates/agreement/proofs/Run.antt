@@ -12,23 +12,19 @@ use borrow.Author.Tests.{ltb-false, eqb-true, eqb-false, eq-eqb}
 use lib.Dec.{eqb, ltb}
 use lib.ListN.{length}
 use Rattle.buffer.specs.Splice.{spliced}
-use Rattle.buffer.specs.declared.Written.the-variants as written
 use Rattle.buffer.proofs.Splice.{take-spliced}
 use Rattle.party.specs.State.{Result, nothing, settled, bytesOf, messageIn, atFirst, atSecond, atEnd, resultIn, happy}
-use Rattle.party.specs.Steps.{turnOf, stateCause, rootCause, withRoot, Ballot, Stepped, gives, refused, writes, bitCause, outboxOf}
-use Rattle.party.specs.Steps.{agreeBitOf, inboxCause, relayOf, heldOf, takeSharesOf, resultOf, Ending, givesEnd, ending, takeRelaysOf}
+use Rattle.party.specs.Steps.{turnOf, stateCause, rootCause, withRoot, Stepped, gives, refused, writes, bitCause, outboxOf}
+use Rattle.party.specs.Steps.{agreeBitOf, inboxCause, relayOf, heldOf, takeSharesOf, resultOf, ending, takeRelaysOf}
 use Rattle.party.specs.declared.Party.{Party}
-use Rattle.party.specs.declared.Settled.the-variants as answer
+use Rattle.party.specs.declared.Seat.{Seat}
+use Rattle.party.specs.declared.Answer.{Answer}
+use Rattle.party.specs.declared.Answer.the-variants as answer
 use Rattle.party.proofs.Ways.{Way, on, off, way}
 use Rattle.party.proofs.Causes.{state-sound}
 use Rattle.party.proofs.Outcomes.{root-refused, root-given}
-use Rattle.agreement.specs.Calls.{Call, agreeRoot, agreeBit, takeShares, takeRelays, stepOf, Reply, Event, accepted, first, sentOver}
+use Rattle.agreement.specs.Calls.{Call, agreeRoot, agreeBit, takeShares, takeRelays, stepOf, Event, accepted, first, sentOver}
 use Rattle.agreement.specs.Calls.{made, events, final}
-
--- either of two, with the first changed
-first-of : {A B C : Type 0} → (A → B) → A ⊎ C → B ⊎ C
-first-of f (inl a) = inl (f a)
-first-of f (inr c) = inr c
 
 none-some : {A : Type 0} {x : A} → _≡_ {A = Option A} none (some x) → ⊥
 none-some p = let z : _≡_ {A = ℕ} 0 1 = cc in omega arith
@@ -36,15 +32,8 @@ none-some p = let z : _≡_ {A = ℕ} 0 1 = cc in omega arith
 same-some : {x y : Event} → _≡_ {A = Option Event} (some x) (some y) → x ≡ y
 same-some p = cc
 
--- the replies of step 2
-abbrev voted-reply : Ballot → Reply
-voted-reply b = record { state = b .state; cause = b .cause; value = b .bit; result = none; buffer = [] }
-
--- a call of a step that writes: taken with what it writes, or turned away with the state kept
-abbrev reply : Stepped → Reply
-reply s = record { state = s .state; cause = s .cause; value = s .value; result = none; buffer = s .buffer }
-
-abbrev Turned : Party → Reply → Type 0
+-- a call is taken, or turned away with the state kept
+abbrev Turned : Party → Stepped → Type 0
 Turned x r = (r .cause ≢ 0) × (r .state ≡ x)
 
 nine : _≡_ {A = ℕ} 9 0 → ⊥
@@ -52,30 +41,32 @@ nine e = omega arith
 
 written-or : (k : ℕ) (x next : Party) (bs out : List ℕ)
     → ((k ≡ 0) × (cond (not (eqb k 0)) (refused x k out) (writes x next bs out)
-    ≡ gives next (written.Done (length bs)) (spliced out 0 bs)))
-    ⊎ Turned x (reply (cond (not (eqb k 0)) (refused x k out) (writes x next bs out)))
+    ≡ gives next (answer.Sent (length bs)) (spliced out 0 bs)))
+    ⊎ Turned x (cond (not (eqb k 0)) (refused x k out) (writes x next bs out))
 written-or k x next bs out = go (way (eqb k 0)) (way (ltb (length out) (length bs)))
   where
     go : Way (eqb k 0) → Way (ltb (length out) (length bs))
         → ((k ≡ 0) × (cond (not (eqb k 0)) (refused x k out) (writes x next bs out)
-        ≡ gives next (written.Done (length bs)) (spliced out 0 bs)))
-        ⊎ Turned x (reply (cond (not (eqb k 0)) (refused x k out) (writes x next bs out)))
+        ≡ gives next (answer.Sent (length bs)) (spliced out 0 bs)))
+        ⊎ Turned x (cond (not (eqb k 0)) (refused x k out) (writes x next bs out))
     go (on e) (off f) = inl (eqb-true k 0 e, rw (e, f))
     go (on e) (on f) = inr (rw (e, f) (nine, refl))
     go (off e) w = inr (rw e (eqb-false k 0 e, refl))
 
 -- what a result leaves in the buffer
-abbrev pub left : Result → List ℕ → List ℕ
+abbrev left : Result → List ℕ → List ℕ
 left nothing out = out
 left (settled m) out = spliced out 0 m
 
-abbrev ended-reply : Ending → Reply
-ended-reply s = record { state = s .state; cause = s .cause; value = s .value; result = s .result; buffer = s .buffer }
+abbrev endOf : Result → Answer
+endOf nothing = answer.Nothing
+endOf (settled m) = answer.Message (length m)
 
-abbrev pub made5 : Party → Result → List ℕ → Reply
-made5 x r out =
+abbrev pub endedWith : Seat → Result → List ℕ → Stepped
+endedWith s r out =
     record {
-      state = atEnd (x .n) (x .t) (x .own) r;
+      state = atEnd s r;
+      answer = endOf r;
       cause = 0;
       value = length (bytesOf r);
       result = some r;
@@ -83,33 +74,33 @@ made5 x r out =
     }
 
 ending-or : (x : Party) (r : Result) (out : List ℕ)
-    → (ended-reply (ending x r out) ≡ made5 x r out) ⊎ Turned x (ended-reply (ending x r out))
+    → (ending x r out ≡ endedWith (x .seat) r out) ⊎ Turned x (ending x r out)
 ending-or x nothing out = inl refl
 ending-or x (settled m) out = go (way (ltb (length out) (length m)))
   where
     go : Way (ltb (length out) (length m))
-        → (ended-reply (ending x (settled m) out) ≡ made5 x (settled m) out) ⊎ Turned x (ended-reply (ending x (settled m) out))
+        → (ending x (settled m) out ≡ endedWith (x .seat) (settled m) out) ⊎ Turned x (ending x (settled m) out)
     go (on f) = inr (rw f (nine, refl))
     go (off f) = inl (rw (f, take-spliced out m))
 
 ended-or : (k : ℕ) (x : Party) (r : Result) (out : List ℕ)
-    → ((k ≡ 0) × (ended-reply (cond (not (eqb k 0)) (givesEnd x (answer.Refused k) out) (ending x r out)) ≡ made5 x r out))
-    ⊎ Turned x (ended-reply (cond (not (eqb k 0)) (givesEnd x (answer.Refused k) out) (ending x r out)))
+    → ((k ≡ 0) × ((cond (not (eqb k 0)) (refused x k out) (ending x r out)) ≡ endedWith (x .seat) r out))
+    ⊎ Turned x ((cond (not (eqb k 0)) (refused x k out) (ending x r out)))
 ended-or k x r out = go (way (eqb k 0)) (ending-or x r out)
   where
-    go : Way (eqb k 0) → (ended-reply (ending x r out) ≡ made5 x r out) ⊎ Turned x (ended-reply (ending x r out))
-        → ((k ≡ 0) × (ended-reply (cond (not (eqb k 0)) (givesEnd x (answer.Refused k) out) (ending x r out)) ≡ made5 x r out))
-        ⊎ Turned x (ended-reply (cond (not (eqb k 0)) (givesEnd x (answer.Refused k) out) (ending x r out)))
+    go : Way (eqb k 0) → (ending x r out ≡ endedWith (x .seat) r out) ⊎ Turned x (ending x r out)
+        → ((k ≡ 0) × ((cond (not (eqb k 0)) (refused x k out) (ending x r out)) ≡ endedWith (x .seat) r out))
+        ⊎ Turned x ((cond (not (eqb k 0)) (refused x k out) (ending x r out)))
     go (on e) (inl f) = inl (eqb-true k 0 e, rw e f)
     go (on e) (inr f) = inr (rw e f)
     go (off e) f = inr (rw e (eqb-false k 0 e, refl))
 
 -- of the two, by the cause
-keeps : {A : Type 0} {x : Party} (r : Reply) → (A → r .cause ≡ 0) → r .cause ≢ 0 → A ⊎ Turned x r → r .state ≡ x
+keeps : {A : Type 0} {x : Party} (r : Stepped) → (A → r .cause ≡ 0) → r .cause ≢ 0 → A ⊎ Turned x r → r .state ≡ x
 keeps r f d (inl a) = absurd (d (f a))
 keeps r f d (inr b) = b .1
 
-taken : {A : Type 0} {x : Party} (r : Reply) → r .cause ≡ 0 → A ⊎ Turned x r → A
+taken : {A : Type 0} {x : Party} (r : Stepped) → r .cause ≡ 0 → A ⊎ Turned x r → A
 taken r e (inl a) = a
 taken r e (inr b) = absurd (b .0 e)
 
@@ -141,29 +132,19 @@ inbox-turn turn x inbox e = go (way (eqb (stateCause turn x) 0))
 
 module _ (H : List ℕ → List ℕ) where
   -- what an accepted call gives, from the state it got
-  abbrev pub made2 : Party → List ℕ → Reply
-  made2 x z =
-      record { state = withRoot x z; cause = 0; value = cond (happy H (withRoot x z)) 1 0; result = none; buffer = [] }
+  abbrev pub made2 : Party → List ℕ → Stepped
+  made2 x z = gives (withRoot x z) (answer.Happy (happy H (withRoot x z))) []
 
-  abbrev pub made3 : Party → ℕ → List ℕ → Reply
+  abbrev pub made3 : Party → ℕ → List ℕ → Stepped
   made3 x bit out =
-      record {
-        state = cond (eqb bit 0) (atEnd (x .n) (x .t) (x .own) nothing) (atFirst (x .n) (x .t) (x .own) (messageIn x) (x .root));
-        cause = 0;
-        value = length (outboxOf H x bit);
-        result = none;
-        buffer = spliced out 0 (outboxOf H x bit);
-      }
+      gives (cond (eqb bit 0) (atEnd (x .seat) nothing) (atFirst (x .seat) (messageIn x) (x .root)))
+      (answer.Sent (length (outboxOf H x bit)))
+      (spliced out 0 (outboxOf H x bit))
 
-  abbrev pub made4 : Party → List ℕ → List ℕ → Reply
+  abbrev pub made4 : Party → List ℕ → List ℕ → Stepped
   made4 x inbox out =
-      record {
-        state = atSecond (x .n) (x .t) (x .own) (messageIn x) (x .root) (heldOf H x inbox);
-        cause = 0;
-        value = length (relayOf H x inbox);
-        result = none;
-        buffer = spliced out 0 (relayOf H x inbox);
-      }
+      gives (atSecond (x .seat) (messageIn x) (x .root) (heldOf H x inbox)) (answer.Sent (length (relayOf H x inbox)))
+      (spliced out 0 (relayOf H x inbox))
 
   -- each step, taken or turned away
   root-or : (x : Party) (z : List ℕ)
@@ -172,40 +153,38 @@ module _ (H : List ℕ → List ℕ) where
   root-or x z = go (way (eqb (rootCause x z) 0))
     where
       go : Way (eqb (rootCause x z) 0) → ((rootCause x z ≡ 0) × (made H x (agreeRoot z) ≡ made2 x z)) ⊎ Turned x (made H x (agreeRoot z))
-      go (on e) = let c = eqb-true (rootCause x z) 0 e in inl (c, ap voted-reply (root-given H x z c))
+      go (on e) = let c = eqb-true (rootCause x z) 0 e in inl (c, root-given H x z c)
       go (off e) = let c = eqb-false (rootCause x z) 0 e in inr (rw (root-refused H x z c) (c, refl))
 
   bit-or : (x : Party) (bit : ℕ) (out : List ℕ)
       → ((bitCause x bit ≡ 0) × (made H x (agreeBit bit out) ≡ made3 x bit out)) ⊎ Turned x (made H x (agreeBit bit out))
   unfolding made agreeBitOf
   bit-or x bit out =
-      first-of (λ e. (e .0, ap reply (e .1)))
       (written-or (bitCause x bit) x
-      (cond (eqb bit 0) (atEnd (x .n) (x .t) (x .own) nothing) (atFirst (x .n) (x .t) (x .own) (messageIn x) (x .root)))
+      (cond (eqb bit 0) (atEnd (x .seat) nothing) (atFirst (x .seat) (messageIn x) (x .root)))
       (outboxOf H x bit) out)
 
   shares-or : (x : Party) (inbox out : List ℕ)
       → ((inboxCause 4 x inbox ≡ 0) × (made H x (takeShares inbox out) ≡ made4 x inbox out)) ⊎ Turned x (made H x (takeShares inbox out))
   unfolding made takeSharesOf
   shares-or x inbox out =
-      first-of (λ e. (e .0, ap reply (e .1)))
-      (written-or (inboxCause 4 x inbox) x (atSecond (x .n) (x .t) (x .own) (messageIn x) (x .root) (heldOf H x inbox))
+      (written-or (inboxCause 4 x inbox) x (atSecond (x .seat) (messageIn x) (x .root) (heldOf H x inbox))
       (relayOf H x inbox) out)
 
   relays-or : (x : Party) (inbox out : List ℕ)
-      → ((inboxCause 5 x inbox ≡ 0) × (made H x (takeRelays inbox out) ≡ made5 x (resultOf H x inbox) out))
+      → ((inboxCause 5 x inbox ≡ 0) × (made H x (takeRelays inbox out) ≡ endedWith (x .seat) (resultOf H x inbox) out))
       ⊎ Turned x (made H x (takeRelays inbox out))
   unfolding made takeRelaysOf
   relays-or x inbox out = ended-or (inboxCause 5 x inbox) x (resultOf H x inbox) out
 
   -- a call that is turned away keeps the state
   pub refused-keeps : (x : Party) (c : Call) → made H x c .cause ≢ 0 → made H x c .state ≡ x
-  refused-keeps x (agreeRoot z) d = keeps (made H x (agreeRoot z)) (λ e. ap (λ (r : Reply). r .cause) (e .1)) d (root-or x z)
-  refused-keeps x (agreeBit bit out) d = keeps (made H x (agreeBit bit out)) (λ e. ap (λ (r : Reply). r .cause) (e .1)) d (bit-or x bit out)
+  refused-keeps x (agreeRoot z) d = keeps (made H x (agreeRoot z)) (λ e. ap (λ (r : Stepped). r .cause) (e .1)) d (root-or x z)
+  refused-keeps x (agreeBit bit out) d = keeps (made H x (agreeBit bit out)) (λ e. ap (λ (r : Stepped). r .cause) (e .1)) d (bit-or x bit out)
   refused-keeps x (takeShares inbox out) d =
-      keeps (made H x (takeShares inbox out)) (λ e. ap (λ (r : Reply). r .cause) (e .1)) d (shares-or x inbox out)
+      keeps (made H x (takeShares inbox out)) (λ e. ap (λ (r : Stepped). r .cause) (e .1)) d (shares-or x inbox out)
   refused-keeps x (takeRelays inbox out) d =
-      keeps (made H x (takeRelays inbox out)) (λ e. ap (λ (r : Reply). r .cause) (e .1)) d (relays-or x inbox out)
+      keeps (made H x (takeRelays inbox out)) (λ e. ap (λ (r : Stepped). r .cause) (e .1)) d (relays-or x inbox out)
 
   -- what an accepted call is: in turn, and what it gives
   pub did2 : (x : Party) (z : List ℕ) → made H x (agreeRoot z) .cause ≡ 0
@@ -228,7 +207,7 @@ module _ (H : List ℕ → List ℕ) where
       (inbox-turn 4 x inbox (t .0), t .1)
 
   pub did5 : (x : Party) (inbox out : List ℕ) → made H x (takeRelays inbox out) .cause ≡ 0
-      → (turnOf (x .stage) ≡ 5) × (made H x (takeRelays inbox out) ≡ made5 x (resultOf H x inbox) out)
+      → (turnOf (x .stage) ≡ 5) × (made H x (takeRelays inbox out) ≡ endedWith (x .seat) (resultOf H x inbox) out)
   did5 x inbox out a =
       let t = taken (made H x (takeRelays inbox out)) a (relays-or x inbox out) in
       (inbox-turn 5 x inbox (t .0), t .1)

@@ -10,7 +10,7 @@ use Rattle.buffer.specs.Entries.{bodies}
 use Rattle.erasure.specs.Coding.{shares}
 use Rattle.merkle.specs.Shares.{codingStrings}
 use Rattle.party.specs.State.{Result, resultIn, happy}
-use Rattle.party.specs.Steps.{openOf, agreeRootOf, agreeBitOf, takeSharesOf, takeRelaysOf}
+use Rattle.party.specs.Steps.{openOf, Stepped, agreeRootOf, agreeBitOf, takeSharesOf, takeRelaysOf}
 use Rattle.party.specs.Strings.{shareStrings, relayStrings}
 use Rattle.party.specs.declared.Party.{Party}
 use Rattle.party.specs.declared.Opened.{Opened}
@@ -36,20 +36,11 @@ inboxIn (agreeBit bit out) = []
 inboxIn (takeShares inbox out) = inbox
 inboxIn (takeRelays inbox out) = inbox
 
--- what a call gives back, in one form for all steps: the state, document 01's number of the cause (0: accepted), the value with it (of
--- step 2 the bit, of the others the bytes written or needed), the result (of step 5), and what the out buffer then holds (none at step 2)
-pub record Reply : Type 0 where
-  pub state : Party
-  pub cause : ℕ
-  pub value : ℕ
-  pub result : Option Result
-  pub buffer : List ℕ
-
 -- a call that was made: the state it got, and what it gave back
 pub record Event : Type 0 where
   pub before : Party
   pub call : Call
-  pub reply : Reply
+  pub reply : Stepped
 
 -- the accepted ones
 unfoldable pub accepted : List Event → List Event
@@ -108,18 +99,11 @@ sentOver n [] = 0
 sentOver n (e ∷ es) = sentIn n (e .call) (writtenBy e) + sentOver n es
 
 module _ (H : List ℕ → List ℕ) where
-  unfoldable pub made : Party → Call → Reply
-  made x (agreeRoot z) =
-      let r = agreeRootOf H x z in record { state = r .state; cause = r .cause; value = r .bit; result = none; buffer = [] }
-  made x (agreeBit bit out) =
-      let r = agreeBitOf H x bit out in
-      record { state = r .state; cause = r .cause; value = r .value; result = none; buffer = r .buffer }
-  made x (takeShares inbox out) =
-      let r = takeSharesOf H x inbox out in
-      record { state = r .state; cause = r .cause; value = r .value; result = none; buffer = r .buffer }
-  made x (takeRelays inbox out) =
-      let r = takeRelaysOf H x inbox out in
-      record { state = r .state; cause = r .cause; value = r .value; result = r .result; buffer = r .buffer }
+  unfoldable pub made : Party → Call → Stepped
+  made x (agreeRoot z) = agreeRootOf H x z
+  made x (agreeBit bit out) = agreeBitOf H x bit out
+  made x (takeShares inbox out) = takeSharesOf H x inbox out
+  made x (takeRelays inbox out) = takeRelaysOf H x inbox out
 
   -- each call gets the state that the last one gave back
   unfoldable pub events : Party → List Call → List Event
@@ -135,8 +119,8 @@ module _ (H : List ℕ → List ℕ) where
   checkedIn x (agreeRoot z) = []
   checkedIn x (agreeBit bit out) = []
   checkedIn x (takeShares inbox out) =
-      cond (happy H x) [] (shareStrings H (x .n) (x .own) (x .root) 1 (bodies (x .n) inbox))
-  checkedIn x (takeRelays inbox out) = cond (happy H x) [] (relayStrings H (x .n) (x .own) 1 (bodies (x .n) inbox))
+      cond (happy H x) [] (shareStrings H (x .seat .n) (x .seat .own) (x .root) 1 (bodies (x .seat .n) inbox))
+  checkedIn x (takeRelays inbox out) = cond (happy H x) [] (relayStrings H (x .seat .n) (x .seat .own) 1 (bodies (x .seat .n) inbox))
 
   unfoldable pub checkedOver : List Event → List (List ℕ)
   checkedOver [] = []
