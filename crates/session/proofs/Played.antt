@@ -28,12 +28,12 @@ use Rattle.merkle.proofs.Judged.{same-true, same-refl}
 use Rattle.merkle.proofs.Trees.{length-root}
 use Rattle.packet.specs.Inbox.{inboxOf}
 use Rattle.packet.proofs.Inbox.{inbox-fills, inbox-bodies}
-use Rattle.party.specs.State.{Result, nothing, bytesOf, atRoot, atBit, atFirst, atSecond, atEnd, resultIn, messageRoot, happy}
-use Rattle.party.specs.Steps.{turnOf, openCause, withRoot, Ballot, ballot, bitIn, outboxOf, heldOf, relayOf}
+use Rattle.party.specs.State.{seatOf, Result, nothing, bytesOf, atRoot, atBit, atFirst, atSecond, atEnd, resultIn, messageRoot, happy}
+use Rattle.party.specs.Steps.{turnOf, openCause, withRoot, Stepped, gives, valueOf, outboxOf, heldOf, relayOf}
 use Rattle.party.specs.Steps as steps
 use Rattle.party.specs.declared.Party.{Party}
 use Rattle.party.specs.declared.Opened.{Opened}
-use Rattle.party.specs.declared.Vote.the-variants.{Happy}
+use Rattle.party.specs.declared.Answer.the-variants.{Happy}
 use Rattle.party.proofs.Ways.{Way, on, off, way}
 use Rattle.party.proofs.Kept.{message-root, message-bit, message-first}
 use Rattle.commitment.specs.Private.{Coded}
@@ -44,7 +44,7 @@ use Rattle.party.proofs.Progress.{open-accepted, bit-accepted, shares-accepted,
 use Rattle.party.proofs.Progress.{root-whole, bit-whole, first-whole, second-whole, held-short, result-short}
 use Rattle.party.proofs.Rooms.{outbox-fits, relay-fits}
 use Rattle.agreement.specs.Calls.{Call, agreeRoot, agreeBit, takeShares, takeRelays, Event, accepted, first, entry, heard, wrote, packetTo, bitGiven, resultShown}
-use Rattle.agreement.specs.Calls.{Reply, sentOver, made, events, final, did, firstOf, resultAfter, sentBy, opening}
+use Rattle.agreement.specs.Calls.{sentOver, made, events, final, did, firstOf, resultAfter, sentBy, opening}
 use Rattle.agreement.specs.Agreement.{Good, Each, step, Clean, Premises, sent, Conclusions, Agreement}
 use Rattle.agreement.proofs.Run.{did3, did4}
 use Rattle.agreement.proofs.Ran.{opened-is, result-end}
@@ -60,6 +60,7 @@ use Rattle.report.specs.Output.{sentLine}
 use Rattle.session.specs.Session.{maxOutbox, wroteIn, orNothing, lineWith, isGood, messageOf, lowestGood, opened, agreedRoot, step2, agreedBit}
 use Rattle.session.specs.Session.{sameRoots, sameBits, unlawful, sessionCause, step3, firstInbox, step4, secondInbox, step5}
 use Rattle.session.specs.Session.{endsWith, sentOf, linesFrom, sentFrom, output, callsOf, goodParty, goodParties}
+use Rattle.session.proofs.Wrote.{step3-counted, step4-counted}
 use Rattle.session.proofs.Parties.{named, party-in, apart, bad-count, sum-of}
 
 -- a plan without a cause: the plan itself has none, and nothing is against the rule
@@ -128,12 +129,12 @@ module _ (H : List ℕ → List ℕ) (wide : (x : List ℕ) → length (H x) ≡
 
   lawful : (ltb t (unnamed n 1 (goodIn s)) ≡ false) × (hasBit s && ltb 1 (layout.bitIn s) ≡ false)
       × (sameRoots H s n 1 (opened H s (lowestGood s) .root) && not (same z (opened H s (lowestGood s) .root)) ≡ false)
-      × (sameBits H s n 1 (step2 H s (lowestGood s) .bit) && not (eqb bit (step2 H s (lowestGood s) .bit)) ≡ false)
+      × (sameBits H s n 1 (step2 H s (lowestGood s) .value) && not (eqb bit (step2 H s (lowestGood s) .value)) ≡ false)
   unfolding unlawful
   lawful =
       four-tests (ltb t (unnamed n 1 (goodIn s))) (hasBit s && ltb 1 (layout.bitIn s))
       (sameRoots H s n 1 (opened H s (lowestGood s) .root) && not (same z (opened H s (lowestGood s) .root)))
-      (sameBits H s n 1 (step2 H s (lowestGood s) .bit) && not (eqb bit (step2 H s (lowestGood s) .bit))) (causes .1)
+      (sameBits H s n 1 (step2 H s (lowestGood s) .value) && not (eqb bit (step2 H s (lowestGood s) .value))) (causes .1)
 
   low : 1 ≤ n
   low = group-of n t (plan .group) .low
@@ -176,27 +177,27 @@ module _ (H : List ℕ → List ℕ) (wide : (x : List ℕ) → length (H x) ≡
       go false e = root-long (lowestGood s)
 
   -- the bit that any step 2 gives is 0 or 1
-  vote-small : (p : ℕ) → step2 H s p .bit ≤ 1
+  vote-small : (p : ℕ) → step2 H s p .value ≤ 1
   unfolding step2
   vote-small p = go (way (eqb (steps.rootCause (opened H s p .state) z) 0))
     where
       x : Party
       x = opened H s p .state
 
-      go : Way (eqb (steps.rootCause (opened H s p .state) z) 0) → step2 H s p .bit ≤ 1
+      go : Way (eqb (steps.rootCause (opened H s p .state) z) 0) → step2 H s p .value ≤ 1
       go (on e) =
-          subst (λ (b : Ballot). b .bit ≤ 1)
+          subst (λ (b : Stepped). b .value ≤ 1)
           (sym (root-given H (opened H s p .state) z (eqb-true (steps.rootCause (opened H s p .state) z) 0 e)))
           (bit-of (happy H (withRoot (opened H s p .state) z)))
       go (off e) =
-          subst (λ (b : Ballot). b .bit ≤ 1)
+          subst (λ (b : Stepped). b .value ≤ 1)
           (sym (root-refused H (opened H s p .state) z (eqb-false (steps.rootCause (opened H s p .state) z) 0 e))) (omega arith)
 
   bit-low : bit ≤ 1
   unfolding agreedBit
   bit-low = go (hasBit s) (lawful .1)
     where
-      go : (b : Bool) → b && ltb 1 (layout.bitIn s) ≡ false → cond b (layout.bitIn s) (step2 H s (lowestGood s) .bit) ≤ 1
+      go : (b : Bool) → b && ltb 1 (layout.bitIn s) ≡ false → cond b (layout.bitIn s) (step2 H s (lowestGood s) .value) ≤ 1
       go true e = ltb-false 1 (layout.bitIn s) e
       go false e = vote-small (lowestGood s)
 
@@ -209,41 +210,41 @@ module _ (H : List ℕ → List ℕ) (wide : (x : List ℕ) → length (H x) ≡
     c = coded p
 
     abbrev X1 : Party
-    X1 = atBit n t p m z
+    X1 = atBit (seatOf n t p) m z
 
     abbrev X2 : Party
-    X2 = atFirst n t p m z
+    X2 = atFirst (seatOf n t p) m z
 
     open-cause : openCause n t p (length m) ≡ 0
     open-cause = opened-is H n t p m (open-accepted H n t p m (c .low) (c .high) (c .faults) one last (c .short)) .0
 
-    opened-as : opened H s p ≡ record { state = atRoot n t p m; cause = 0; root = messageRoot H n t m }
+    opened-as : opened H s p ≡ record { state = atRoot (seatOf n t p) m; cause = 0; root = messageRoot H n t m }
     unfolding opened
     opened-as = open-given H n t p m open-cause
 
     -- step 2
-    turn-root : turnOf (atRoot n t p m .stage) ≡ 2
+    turn-root : turnOf (atRoot (seatOf n t p) m .stage) ≡ 2
     unfolding atRoot
     turn-root = refl
 
-    with-root : withRoot (atRoot n t p m) z ≡ X1
+    with-root : withRoot (atRoot (seatOf n t p) m) z ≡ X1
     unfolding atRoot
-    with-root = ap (λ (b : List ℕ). atBit n t p b z) (message-root n t p m z)
+    with-root = ap (λ (b : List ℕ). atBit (seatOf n t p) b z) (message-root (seatOf n t p) m z)
 
-    made-2 : step2 H s p ≡ ballot X1 (Happy (happy H X1))
+    made-2 : step2 H s p ≡ gives X1 (Happy (happy H X1)) []
     unfolding step2
     made-2 =
-        let x : Party = atRoot n t p m in
-        let w = root-whole n t p (c .low) (c .high) (c .faults) one last m (c .short) in
+        let x : Party = atRoot (seatOf n t p) m in
+        let w = root-whole (seatOf n t p) (c .low) (c .high) (c .faults) one last m (c .short) in
         ap (λ (o : Opened). steps.agreeRootOf H (o .state) z) opened-as
         ∙ root-given H x z (root-fine x z (state-fine 2 x w turn-root) z-long)
-        ∙ ap (λ (y : Party). ballot y (Happy (happy H y))) with-root
+        ∙ ap (λ (y : Party). gives y (Happy (happy H y)) []) with-root
 
     state-2 : step2 H s p .state ≡ X1
-    state-2 = ap (λ (b : Ballot). b .state) made-2
+    state-2 = ap (λ (b : Stepped). b .state) made-2
 
     -- step 3
-    turn-bit : turnOf (atBit n t p m z .stage) ≡ 3
+    turn-bit : turnOf (atBit (seatOf n t p) m z .stage) ≡ 3
     unfolding atBit
     turn-bit = refl
 
@@ -251,30 +252,30 @@ module _ (H : List ℕ → List ℕ) (wide : (x : List ℕ) → length (H x) ≡
     room3 = replicate maxOutbox 0
 
     fits-3 : length (outboxOf H X1 bit) ≤ length room3
-    fits-3 = omega (arith, outbox-fits H wide n t p m z c bit, length-replicate {A = ℕ} maxOutbox 0)
+    fits-3 = omega (arith, outbox-fits H wide (seatOf n t p) m z c bit, length-replicate {A = ℕ} maxOutbox 0)
 
     cause-3 : step3 H s p .cause ≡ 0
     unfolding step3
     cause-3 =
         ap (λ (x : Party). steps.agreeBitOf H x bit room3 .cause) state-2
-        ∙ bit-accepted H X1 (bit-whole n t p (c .low) (c .high) (c .faults) one last m (c .short) z) bit room3 turn-bit bit-low fits-3
+        ∙ bit-accepted H X1 (bit-whole (seatOf n t p) (c .low) (c .high) (c .faults) one last m (c .short) z) bit room3 turn-bit bit-low fits-3
 
     -- what step 3 leaves, by the laws of calls
-    state-3 : step3 H s p .state ≡ cond (eqb bit 0) (atEnd n t p nothing) X2
+    state-3 : step3 H s p .state ≡ cond (eqb bit 0) (atEnd (seatOf n t p) nothing) X2
     unfolding step3 made atBit
     state-3 =
         let e : made H X1 (agreeBit bit room3) .cause ≡ 0 =
         sym (ap (λ (x : Party). steps.agreeBitOf H x bit room3 .cause) state-2) ∙ cause-3 in
         ap (λ (x : Party). steps.agreeBitOf H x bit room3 .state) state-2
-        ∙ ap (λ (r : Reply). r .state) (did3 H X1 bit room3 e .2)
-        ∙ ap (λ (b : List ℕ). cond (eqb bit 0) (atEnd n t p nothing) (atFirst n t p b z)) (message-bit n t p m z)
+        ∙ ap (λ (r : Stepped). r .state) (did3 H X1 bit room3 e .2)
+        ∙ ap (λ (b : List ℕ). cond (eqb bit 0) (atEnd (seatOf n t p) nothing) (atFirst (seatOf n t p) b z)) (message-bit (seatOf n t p) m z)
 
     -- steps 4 and 5, on bit 1
     module _ (b1 : bit ≡ 1) where
       waits : step3 H s p .state ≡ X2
-      waits = state-3 ∙ ap (λ (b : Bool). cond b (atEnd n t p nothing) X2) (ne-eqb bit 0 (λ q. omega arith))
+      waits = state-3 ∙ ap (λ (b : Bool). cond b (atEnd (seatOf n t p) nothing) X2) (ne-eqb bit 0 (λ q. omega arith))
 
-      turn-first : turnOf (atFirst n t p m z .stage) ≡ 4
+      turn-first : turnOf (atFirst (seatOf n t p) m z .stage) ≡ 4
       unfolding atFirst
       turn-first = refl
 
@@ -288,13 +289,13 @@ module _ (H : List ℕ → List ℕ) (wide : (x : List ℕ) → length (H x) ≡
       unfolding step4 firstInbox inboxTo atFirst
       cause-4 =
           let fits : length (relayOf H X2 (firstInbox H s p)) ≤ length room4 =
-          omega (arith, relay-fits H wide n t p m z c one last (firstInbox H s p), length-replicate {A = ℕ} maxOutbox 0) in
+          omega (arith, relay-fits H wide (seatOf n t p) m z c one last (firstInbox H s p), length-replicate {A = ℕ} maxOutbox 0) in
           ap (λ (x : Party). steps.takeSharesOf H x (firstInbox H s p) room4 .cause) waits
-          ∙ shares-accepted H X2 (first-whole n t p (c .low) (c .high) (c .faults) one last m (c .short) z) (firstInbox H s p) room4 turn-first
+          ∙ shares-accepted H X2 (first-whole (seatOf n t p) (c .low) (c .high) (c .faults) one last m (c .short) z) (firstInbox H s p) room4 turn-first
           (filled (λ k. firstFrom p (k + 1))) fits
 
       abbrev X3 : Party
-      X3 = atSecond n t p m z (heldOf H X2 (firstInbox H s p))
+      X3 = atSecond (seatOf n t p) m z (heldOf H X2 (firstInbox H s p))
 
       state-4 : step4 H s p .state ≡ X3
       unfolding step4 made atFirst
@@ -302,8 +303,8 @@ module _ (H : List ℕ → List ℕ) (wide : (x : List ℕ) → length (H x) ≡
           let e : made H X2 (takeShares (firstInbox H s p) room4) .cause ≡ 0 =
           sym (ap (λ (x : Party). steps.takeSharesOf H x (firstInbox H s p) room4 .cause) waits) ∙ cause-4 in
           ap (λ (x : Party). steps.takeSharesOf H x (firstInbox H s p) room4 .state) waits
-          ∙ ap (λ (r : Reply). r .state) (did4 H X2 (firstInbox H s p) room4 e .1)
-          ∙ ap (λ (b : List ℕ). atSecond n t p b z (heldOf H X2 (firstInbox H s p))) (message-first n t p m z)
+          ∙ ap (λ (r : Stepped). r .state) (did4 H X2 (firstInbox H s p) room4 e .1)
+          ∙ ap (λ (b : List ℕ). atSecond (seatOf n t p) b z (heldOf H X2 (firstInbox H s p))) (message-first (seatOf n t p) m z)
 
       turn-second : turnOf (X3 .stage) ≡ 5
       unfolding atSecond
@@ -315,8 +316,8 @@ module _ (H : List ℕ → List ℕ) (wide : (x : List ℕ) → length (H x) ≡
       cause-5 : step5 H s p .cause ≡ 0
       unfolding step5 secondInbox inboxTo atSecond
       cause-5 =
-          let w2 = first-whole n t p (c .low) (c .high) (c .faults) one last m (c .short) z in
-          let w = second-whole n t p (c .low) (c .high) (c .faults) one last m (c .short) z (heldOf H X2 (firstInbox H s p))
+          let w2 = first-whole (seatOf n t p) (c .low) (c .high) (c .faults) one last m (c .short) z in
+          let w = second-whole (seatOf n t p) (c .low) (c .high) (c .faults) one last m (c .short) z (heldOf H X2 (firstInbox H s p))
           (held-short H X2 w2 (firstInbox H s p)) in
           let fits : length (bytesOf (steps.resultOf H X3 (secondInbox H s p))) ≤ length room5 =
           omega (arith, result-short H X3 w (secondInbox H s p), length-replicate {A = ℕ} maxMessage 0) in
@@ -347,7 +348,7 @@ module _ (H : List ℕ → List ℕ) (wide : (x : List ℕ) → length (H x) ≡
         }
 
     cause-2 : step2 H s p .cause ≡ 0
-    cause-2 = ap (λ (b : Ballot). b .cause) made-2
+    cause-2 = ap (λ (b : Stepped). b .cause) made-2
 
     begun : (cs : List Call)
         → accepted (events H (opened H s p .state) (agreeRoot z ∷ agreeBit bit room3 ∷ cs)) ≡ E2 ∷ E3 ∷ accepted (events H (step3 H s p .state) cs)
@@ -399,17 +400,17 @@ module _ (H : List ℕ → List ℕ) (wide : (x : List ℕ) → length (H x) ≡
     unfolding first
     fifth-is b = rw (did-one b)
 
-    vote-is : bitGiven (first-of 2) ≡ some (step2 H s p .bit)
+    vote-is : bitGiven (first-of 2) ≡ some (step2 H s p .value)
     unfolding made step2
     vote-is = ap bitGiven second-is
 
     wrote-3 : wrote (first-of 3) ≡ wroteIn (step3 H s p)
     unfolding made step3
-    wrote-3 = ap wrote third-is ∙ sym (rw (eq-eqb (step3 H s p .cause) 0 cause-3))
+    wrote-3 = ap wrote third-is ∙ sym (rw (step3-counted H s p .told cause-3))
 
     wrote-4 : bit ≡ 1 → wrote (first-of 4) ≡ wroteIn (step4 H s p)
     unfolding made step4
-    wrote-4 b = ap wrote (fourth-is b) ∙ sym (rw (eq-eqb (step4 H s p .cause) 0 (cause-4 b)))
+    wrote-4 b = ap wrote (fourth-is b) ∙ sym (rw (step4-counted H s p .told (cause-4 b)))
 
     entry-of : (f : ℕ → List ℕ) (q : ℕ) → 1 ≤ q → q ≤ n → entry n q (inboxOf (tabulate n (λ k. f (k + 1)))) ≡ f q
     unfolding entry
@@ -436,14 +437,14 @@ module _ (H : List ℕ → List ℕ) (wide : (x : List ℕ) → length (H x) ≡
     unfolding callsOf final made opened step2 step3
     ends-0 b =
         rw (eq-eqb bit 0 b)
-        (ap resultIn (state-3 ∙ ap (λ (e : Bool). cond e (atEnd n t p nothing) X2) (eq-eqb bit 0 b)) ∙ result-end n t p nothing)
+        (ap resultIn (state-3 ∙ ap (λ (e : Bool). cond e (atEnd (seatOf n t p) nothing) X2) (eq-eqb bit 0 b)) ∙ result-end n t p nothing)
 
     sent-is : sentBy H n t p m (callsOf H s p) ≡ sentOf H s p
     unfolding sentBy sentOver sentOf made step3 step4
     sent-is =
         either-bit (sentBy H n t p m (callsOf H s p) ≡ sentOf H s p)
-        (λ b. rw (did-zero b, eq-eqb bit 0 b, eq-eqb (step3 H s p .cause) 0 cause-3) (omega arith))
-        (λ b. rw (did-one b, ne-eqb bit 0 (λ q. omega arith), eq-eqb (step3 H s p .cause) 0 cause-3, eq-eqb (step4 H s p .cause) 0 (cause-4 b))
+        (λ b. rw (did-zero b, eq-eqb bit 0 b, step3-counted H s p .told cause-3) (omega arith))
+        (λ b. rw (did-one b, ne-eqb bit 0 (λ q. omega arith), step3-counted H s p .told cause-3, step4-counted H s p .told (cause-4 b))
         (omega arith))
 
   abbrev good : List Good
@@ -478,13 +479,13 @@ module _ (H : List ℕ → List ℕ) (wide : (x : List ℕ) → length (H x) ≡
       go (on e) r = rw (e, ap (λ (x : List ℕ). same x w) (f p (omega arith) (omega arith) e) ∙ same-refl w) r
       go (off e) r = rw e r
 
-  all-bits : (b k p : ℕ) → ((q : ℕ) → p ≤ q → q < p + k → isGood s q ≡ true → step2 H s q .bit ≡ b) → sameBits H s k p b ≡ true
+  all-bits : (b k p : ℕ) → ((q : ℕ) → p ≤ q → q < p + k → isGood s q ≡ true → step2 H s q .value ≡ b) → sameBits H s k p b ≡ true
   unfolding sameBits
   all-bits b zero p f = refl
   all-bits b (suc k) p f = go (way (isGood s p)) (all-bits b k (p + 1) (λ q l h g. f q (omega arith) (omega arith) g))
     where
       go : Way (isGood s p) → sameBits H s k (p + 1) b ≡ true → sameBits H s (suc k) p b ≡ true
-      go (on e) r = rw (e, eq-eqb (step2 H s p .bit) b (f p (omega arith) (omega arith) e)) r
+      go (on e) r = rw (e, eq-eqb (step2 H s p .value) b (f p (omega arith) (omega arith) e)) r
       go (off e) r = rw e r
 
   root-rule : (v : List ℕ) → Each H n t good (λ A. some (opening H n t (A .own) (A .message) .root) ≡ some v) → z ≡ v
@@ -498,12 +499,12 @@ module _ (H : List ℕ → List ℕ) (wide : (x : List ℕ) → length (H x) ≡
 
   vote-rule : (v : ℕ) → Each H n t good (λ A. bitGiven (step H n t good 2 A) ≡ some v) → bit ≡ v
   vote-rule v f =
-      let of : (q : ℕ) → 1 ≤ q → q ≤ n → isGood s q ≡ true → step2 H s q .bit ≡ v =
+      let of : (q : ℕ) → 1 ≤ q → q ≤ n → isGood s q ≡ true → step2 H s q .value ≡ v =
       (λ q l h g. same-some (sym (vote-is q l h) ∙ f (goodParty H s q) (member q l h g))) in
-      let own : step2 H s (lowestGood s) .bit ≡ v = of (lowestGood s) (chief .1) (omega (arith, chief .2)) (chief .0) in
-      let all = all-bits (step2 H s (lowestGood s) .bit) n 1 (λ q l h g. of q l (omega arith) g ∙ sym own) in
-      eqb-true bit (step2 H s (lowestGood s) .bit)
-      (both-not (sameBits H s n 1 (step2 H s (lowestGood s) .bit)) (eqb bit (step2 H s (lowestGood s) .bit)) (lawful .3) all) ∙ own
+      let own : step2 H s (lowestGood s) .value ≡ v = of (lowestGood s) (chief .1) (omega (arith, chief .2)) (chief .0) in
+      let all = all-bits (step2 H s (lowestGood s) .value) n 1 (λ q l h g. of q l (omega arith) g ∙ sym own) in
+      eqb-true bit (step2 H s (lowestGood s) .value)
+      (both-not (sameBits H s n 1 (step2 H s (lowestGood s) .value)) (eqb bit (step2 H s (lowestGood s) .value)) (lawful .3) all) ∙ own
 
   -- packets between good parties
   from-first : (i p : ℕ) → 1 ≤ i → i ≤ n → i ≢ p → isGood s p ≡ true → firstFrom i p ≡ entry n i (wroteIn (step3 H s p))

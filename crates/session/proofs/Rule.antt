@@ -2,7 +2,7 @@
 -- Assumes nothing.
 use mathlib.Core.Path.{_≡_, refl, sym, ap, ap₂, _∙_}
 use mathlib.Core.Bool.{Bool, true, false, cond, not, _&&_, _||_, true≢false, false≢true}
-use mathlib.Core.List.{List}
+use mathlib.Core.List.{List, []}
 use Prim.Native.Nat.{ℕ, suc, _+_, _-_, _*_, _%_, _/_, _^_, _<_, _≤_}
 use native.Mathlib.Decide.{ℕ-discrete}
 use native.Mathlib.Omega.{arith}
@@ -18,7 +18,10 @@ use Rattle.buffer.specs.declared.Written.the-variants.{Done}
 use Rattle.buffer.proofs.Splice.{length-spliced, take-spliced}
 use Rattle.buffer.proofs.Given.{written-done}
 use Rattle.merkle.specs.Shares.{same}
-use Rattle.party.specs.Steps.{openOf}
+use Rattle.party.specs.State.{happy}
+use Rattle.party.specs.Steps.{openOf, rootCause, withRoot, gives, refused, agreeRootOf}
+use Rattle.party.specs.declared.Party.{Party}
+use Rattle.party.specs.declared.Answer.the-variants.{Happy}
 use Rattle.plan.specs.Layout.{names, unnamed, lowest, nIn, tIn, hasRoot, hasBit, afterRoot, afterBit, rootIn, bitIn, goodIn, booksIn}
 use Rattle.plan.specs.Layout.{exchangeAt, laidOut}
 use Rattle.plan.specs.Plan.{planCause, planOf, bookOf}
@@ -28,7 +31,7 @@ use Rattle.plan.proofs.Maps as maps
 use Rattle.plan.proofs.Given.{book-given}
 use Rattle.plan.proofs.Accepted.{accepted, books-inside, under-short}
 use Rattle.session.specs.Session.{isGood, messageOf, lowestGood, opened, agreedRoot, step2, agreedBit, sameRoots, sameBits, unlawful}
-use Rattle.session.specs.Private.{Ready}
+use Rattle.session.specs.Private.{Ready, bitGiven}
 
 -- the parts of a plan that is taken
 pub record Known (s : List ℕ) (parts : Plan) : Type 0 where
@@ -151,15 +154,32 @@ module _ (H : List ℕ → List ℕ) (s : List ℕ) where
   pub root-own : hasRoot s ≡ false → agreedRoot H s ≡ opened H s (lowestGood s) .root
   root-own h = root-by false h
 
-  bit-by : (b : Bool) → hasBit s ≡ b → agreedBit H s ≡ cond b (bitIn s) (step2 H s (lowestGood s) .bit)
+  bit-by : (b : Bool) → hasBit s ≡ b → agreedBit H s ≡ cond b (bitIn s) (step2 H s (lowestGood s) .value)
   unfolding agreedBit
-  bit-by b h = ap (λ (c : Bool). cond c (bitIn s) (step2 H s (lowestGood s) .bit)) h
+  bit-by b h = ap (λ (c : Bool). cond c (bitIn s) (step2 H s (lowestGood s) .value)) h
 
   pub bit-given : hasBit s ≡ true → agreedBit H s ≡ bitIn s
   bit-given h = bit-by true h
 
-  pub bit-own : hasBit s ≡ false → agreedBit H s ≡ step2 H s (lowestGood s) .bit
+  pub bit-own : hasBit s ≡ false → agreedBit H s ≡ step2 H s (lowestGood s) .value
   bit-own h = bit-by false h
+
+  -- the bit that a party gives in step 2
+  pub bit-told : (q : ℕ) → bitGiven (step2 H s q .answer) ≡ step2 H s q .value
+  unfolding step2 agreeRootOf
+  bit-told q = go (not (eqb (rootCause x z) 0))
+    where
+      x : Party
+      x = opened H s q .state
+
+      z : List ℕ
+      z = agreedRoot H s
+
+      go : (b : Bool)
+          → let r = cond b (refused x (rootCause x z) []) (gives (withRoot x z) (Happy (happy H (withRoot x z))) []) in
+          bitGiven (r .answer) ≡ r .value
+      go true = refl
+      go false = refl
 
 -- no party is left
 pub lowest-end : (k p g : ℕ) → k ≡ 0 → lowest k p g ≡ 0
@@ -218,13 +238,13 @@ module _ (H : List ℕ → List ℕ) (s : List ℕ) where
       unfolding sameBits
       bits-bad h = rw (e, h)
 
-      pub bits-same : isGood s p ≡ true → step2 H s p .bit ≡ b → sameBits H s k p b ≡ sameBits H s j (p + 1) b
+      pub bits-same : isGood s p ≡ true → step2 H s p .value ≡ b → sameBits H s k p b ≡ sameBits H s j (p + 1) b
       unfolding sameBits
-      bits-same h q = rw (e, h, eq-eqb (step2 H s p .bit) b q)
+      bits-same h q = rw (e, h, eq-eqb (step2 H s p .value) b q)
 
-      pub bits-other : isGood s p ≡ true → (step2 H s p .bit ≡ b → ⊥) → sameBits H s k p b ≡ false
+      pub bits-other : isGood s p ≡ true → (step2 H s p .value ≡ b → ⊥) → sameBits H s k p b ≡ false
       unfolding sameBits
-      bits-other h q = rw (e, h, ne-eqb (step2 H s p .bit) b q)
+      bits-other h q = rw (e, h, ne-eqb (step2 H s p .value) b q)
 
 -- the rule of the short agreement, by its four tests
 module _ (s : List ℕ) where
@@ -243,7 +263,7 @@ module _ (H : List ℕ → List ℕ) (s : List ℕ) where
   firstRoot = opened H s (lowestGood s) .root
 
   abbrev pub firstBit : ℕ
-  firstBit = step2 H s (lowestGood s) .bit
+  firstBit = step2 H s (lowestGood s) .value
 
   abbrev pub otherRoot : Bool
   otherRoot = sameRoots H s (nIn s) 1 firstRoot && not (same (agreedRoot H s) firstRoot)

@@ -19,11 +19,11 @@ use Rattle.buffer.specs.declared.Written.{Written}
 use Rattle.buffer.specs.declared.Written.the-variants.{Refused, Done}
 use Rattle.buffer.proofs.Given.{written-done}
 use Rattle.party.specs.State.{Result, nothing, settled}
-use Rattle.party.specs.Steps.{resultGiven, givesEnd, ending, inboxCause, resultOf, takeRelaysOf}
+use Rattle.party.specs.Steps.{resultGiven, refused, ending, inboxCause, resultOf, takeRelaysOf}
 use Rattle.party.specs.declared.Party.{Party}
-use Rattle.party.specs.declared.Settled.{Settled}
-use Rattle.party.specs.declared.Settled.the-variants as answer
-use Rattle.party.proofs.Settled.{the-type as settled-type}
+use Rattle.party.specs.declared.Answer.{Answer}
+use Rattle.party.specs.declared.Answer.the-variants as answer
+use Rattle.party.proofs.Answer.{the-type as answer-type}
 use Rattle.buffer.proofs.Parts.{tail-spliced, part-rest}
 use Rattle.plan.specs.Layout.{nIn}
 use Rattle.plan.specs.Plan.{planCause, planOf}
@@ -31,7 +31,7 @@ use Rattle.report.specs.Output.{digits, decimal, shown, line, sentLine, lineOf,
 use Rattle.report.proofs.Hexes.{length-hex}
 use Rattle.session.specs.Session.{orNothing, lineWith, isGood, agreedBit, step4, secondInbox, step5, endsWith, linesFrom, sentFrom}
 use Rattle.session.specs.Session.{unlawful, sessionCause, output, rehearseOf}
-use Rattle.session.specs.Private.{maxLine, lengthIn}
+use Rattle.session.specs.Private.{maxLine, messageLength}
 
 -- the length of a line
 digits-short : (k x : ℕ) → length (digits k x) ≤ k
@@ -124,25 +124,25 @@ module _ (H : List ℕ → List ℕ) (s : List ℕ) where
   ends-later q h = rw (ne-eqb (agreedBit H s) 0 h)
 
 -- a message that was given lies within the buffer
-ending-room : (x : Party) (r : Result) (out : List ℕ) → lengthIn (ending x r out .answer) ≤ length out
+ending-room : (x : Party) (r : Result) (out : List ℕ) → messageLength (ending x r out .answer) ≤ length out
 ending-room x nothing out = omega arith
 ending-room x (settled m) out = go (ltb (length out) (length m)) refl
   where
-    go : (b : Bool) → ltb (length out) (length m) ≡ b → lengthIn (ending x (settled m) out .answer) ≤ length out
+    go : (b : Bool) → ltb (length out) (length m) ≡ b → messageLength (ending x (settled m) out .answer) ≤ length out
     go true e = rw e (omega arith)
     go false e = rw e (ltb-false (length out) (length m) e)
 
 module _ (H : List ℕ → List ℕ) where
-  relays-room : (x : Party) (inbox out : List ℕ) → lengthIn (takeRelaysOf H x inbox out .answer) ≤ length out
+  relays-room : (x : Party) (inbox out : List ℕ) → messageLength (takeRelaysOf H x inbox out .answer) ≤ length out
   unfolding takeRelaysOf
   relays-room x inbox out = go (not (eqb (inboxCause 5 x inbox) 0))
     where
       go : (b : Bool)
-          → lengthIn (cond b (givesEnd x (answer.Refused (inboxCause 5 x inbox)) out) (ending x (resultOf H x inbox) out) .answer) ≤ length out
+          → messageLength (cond b (refused x (inboxCause 5 x inbox) out) (ending x (resultOf H x inbox) out) .answer) ≤ length out
       go true = omega arith
       go false = ending-room x (resultOf H x inbox) out
 
-  pub message-room : (s : List ℕ) (q : ℕ) → lengthIn (step5 H s q .answer) ≤ maxMessage
+  pub message-room : (s : List ℕ) (q : ℕ) → messageLength (step5 H s q .answer) ≤ maxMessage
   unfolding step5
   message-room s q =
       omega (
@@ -152,11 +152,13 @@ module _ (H : List ℕ → List ℕ) where
       )
 
 -- an answer without a message
-pub no-message : (r : Settled) (o : List ℕ) → OneOf (0 ∷ 1 ∷ 2 ∷ []) (tagOf settled-type r) → orNothing (resultGiven r o) ≡ nothing
+pub no-message : (r : Answer) (o : List ℕ) → OneOf (0 ∷ 1 ∷ 2 ∷ 3 ∷ 4 ∷ []) (tagOf answer-type r) → orNothing (resultGiven r o) ≡ nothing
 no-message (answer.Refused k) o h = refl
 no-message (answer.Short l) o h = refl
+no-message (answer.Happy b) o h = refl
+no-message (answer.Sent l) o h = refl
 no-message answer.Nothing o h = refl
-no-message (answer.Message l) o h = absurd (miss (0 ∷ 1 ∷ 2 ∷ []) 3 tt h)
+no-message (answer.Message l) o h = absurd (miss (0 ∷ 1 ∷ 2 ∷ 3 ∷ 4 ∷ []) 5 tt h)
 
 -- the outcomes of a rehearsal
 pub cause-is : (s : List ℕ) → planOf s .cause ≡ planCause s

@@ -4,81 +4,69 @@ use mathlib.Core.Bool.{Bool, true, false, cond, not}
 use mathlib.Core.List.{List, [], _∷_}
 use Prim.Native.Nat.{ℕ, zero, suc, _≤_}
 use native.Mathlib.Omega.{arith}
-use borrow.Author.Tests.{eqb-true, ltb-false}
-use types.Run.{OneOf}
+use borrow.Author.Tests.{ltb-false}
+use types.Run.{OneOf, miss}
 use denote.Enum.Declared.{tagOf}
 use lib.Dec.{ltb, eqb}
-use lib.ListN.{length, take, replicate, length-take, length-replicate}
+use lib.ListN.{length, replicate, length-take, length-replicate}
 use Rattle.sha256.specs.Sha256.{sha256}
-use Rattle.buffer.specs.Given.{causeOf, valueOf}
-use Rattle.buffer.specs.declared.Written.{Written}
-use Rattle.buffer.specs.declared.Written.the-variants as given
-use Rattle.buffer.proofs.Written.{the-type as written-type}
 use Rattle.party.specs.Steps.{Stepped, writes, refused, bitCause, outboxOf, agreeBitOf, inboxCause, relayOf, takeSharesOf}
+use Rattle.party.specs.declared.Answer.{Answer}
+use Rattle.party.specs.declared.Answer.the-variants as answer
 use Rattle.party.specs.declared.Party.{Party}
-use Rattle.commitment.proofs.Answers.{not-done}
-use Rattle.session.specs.Session.{maxOutbox, wroteIn, step2, agreedBit, step3, firstInbox, step4}
+use Rattle.party.proofs.Answer.{the-type as answer-type}
+use Rattle.session.specs.Session.{maxOutbox, sentLength, wroteIn, step2, agreedBit, step3, firstInbox, step4}
 use Rattle.session.specs.Private.{stepOf}
 
--- a step that is accepted wrote no more than the buffer holds
-writes-room : (x next : Party) (bs out : List ℕ) → writes x next bs out .cause ≡ 0 → writes x next bs out .value ≤ length out
-writes-room x next bs out = go (ltb (length out) (length bs)) refl
+-- what came of writing: no more than the buffer holds was written, and where it was accepted as much as the value says
+pub record Counted (out : List ℕ) (r : Stepped) : Type 0 where
+  pub room : sentLength (r .answer) ≤ length out
+  pub told : r .cause ≡ 0 → sentLength (r .answer) ≡ r .value
+
+writes-counted : (x next : Party) (bs out : List ℕ) → Counted out (writes x next bs out)
+writes-counted x next bs out = go (ltb (length out) (length bs)) refl
   where
-    go : (t : Bool) → ltb (length out) (length bs) ≡ t
-        → writes x next bs out .cause ≡ 0 → writes x next bs out .value ≤ length out
-    go true q e = let z : _≡_ {A = ℕ} 9 0 = rw q at e in absurd (omega arith)
-    go false q e = rw q (ltb-false (length out) (length bs) q)
+    go : (t : Bool) → ltb (length out) (length bs) ≡ t → Counted out (writes x next bs out)
+    go true q = rw q (record { room = omega arith; told = λ e. absurd (let z : _≡_ {A = ℕ} 9 0 = e in omega arith) })
+    go false q = rw q (record { room = ltb-false (length out) (length bs) q; told = λ e. refl })
+
+stepped-counted : (b : Bool) (x next : Party) (k : ℕ) (bs out : List ℕ) → Counted out (cond b (refused x k out) (writes x next bs out))
+stepped-counted true x next k bs out = record { room = omega arith; told = λ e. refl }
+stepped-counted false x next k bs out = writes-counted x next bs out
 
 module _ (H : List ℕ → List ℕ) where
-  -- a step that was turned away wrote nothing
-  stepped-room : (b : Bool) (x next : Party) (k : ℕ) (bs out : List ℕ)
-      → let r = cond b (refused x k out) (writes x next bs out) in r .cause ≡ 0 → r .value ≤ length out
-  stepped-room true x next k bs out e = omega arith
-  stepped-room false x next k bs out e = writes-room x next bs out e
-
-  bit-room : (x : Party) (bit : ℕ) (out : List ℕ) → agreeBitOf H x bit out .cause ≡ 0 → agreeBitOf H x bit out .value ≤ length out
+  bit-counted : (x : Party) (bit : ℕ) (out : List ℕ) → Counted out (agreeBitOf H x bit out)
   unfolding agreeBitOf
-  bit-room x bit out = stepped-room (not (eqb (bitCause x bit) 0)) x _ (bitCause x bit) (outboxOf H x bit) out
+  bit-counted x bit out = stepped-counted (not (eqb (bitCause x bit) 0)) x _ (bitCause x bit) (outboxOf H x bit) out
 
-  shares-room : (x : Party) (inbox out : List ℕ) → takeSharesOf H x inbox out .cause ≡ 0 → takeSharesOf H x inbox out .value ≤ length out
+  shares-counted : (x : Party) (inbox out : List ℕ) → Counted out (takeSharesOf H x inbox out)
   unfolding takeSharesOf
-  shares-room x inbox out = stepped-room (not (eqb (inboxCause 4 x inbox) 0)) x _ (inboxCause 4 x inbox) (relayOf H x inbox) out
+  shares-counted x inbox out = stepped-counted (not (eqb (inboxCause 4 x inbox) 0)) x _ (inboxCause 4 x inbox) (relayOf H x inbox) out
 
   module _ (s : List ℕ) (q : ℕ) where
-    step3-room : step3 H s q .cause ≡ 0 → step3 H s q .value ≤ maxOutbox
+    pub step3-counted : Counted (replicate maxOutbox 0) (step3 H s q)
     unfolding step3
-    step3-room e =
-        omega (arith, bit-room (step2 H s q .state) (agreedBit H s) (replicate maxOutbox 0) e, length-replicate {A = ℕ} maxOutbox 0)
+    step3-counted = bit-counted (step2 H s q .state) (agreedBit H s) (replicate maxOutbox 0)
 
-    step4-room : step4 H s q .cause ≡ 0 → step4 H s q .value ≤ maxOutbox
+    pub step4-counted : Counted (replicate maxOutbox 0) (step4 H s q)
     unfolding step4
-    step4-room e =
-        omega (
-          arith,
-          shares-room (step3 H s q .state) (firstInbox H s q) (replicate maxOutbox 0) e,
-          length-replicate {A = ℕ} maxOutbox 0,
-        )
+    step4-counted = shares-counted (step3 H s q .state) (firstInbox H s q) (replicate maxOutbox 0)
 
 -- the step in which a party writes for an exchange, 0 or 1
-pub step-room : (e : ℕ) (s : List ℕ) (q : ℕ) → stepOf e s q .cause ≡ 0 → stepOf e s q .value ≤ maxOutbox
+pub step-room : (e : ℕ) (s : List ℕ) (q : ℕ) → sentLength (stepOf e s q .answer) ≤ maxOutbox
 unfolding stepOf
-step-room zero s q = step3-room sha256 s q
-step-room (suc e) s q = step4-room sha256 s q
+step-room zero s q = omega (arith, step3-counted sha256 s q .room, length-replicate {A = ℕ} maxOutbox 0)
+step-room (suc e) s q = omega (arith, step4-counted sha256 s q .room, length-replicate {A = ℕ} maxOutbox 0)
 
--- what it wrote, by its answer
-pub wrote-short : (r : Stepped) (m : ℕ) → (r .cause ≡ 0 → r .value ≤ m) → length (wroteIn r) ≤ m
-wrote-short r m h = go (eqb (r .cause) 0) refl
-  where
-    go : (t : Bool) → eqb (r .cause) 0 ≡ t → length (cond t (take (r .value) (r .buffer)) []) ≤ m
-    go true e = omega (arith, length-take (r .value) (r .buffer), h (eqb-true (r .cause) 0 e))
-    go false e = omega arith
+-- what it wrote
+pub wrote-short : (r : Stepped) (m : ℕ) → sentLength (r .answer) ≤ m → length (wroteIn r) ≤ m
+wrote-short r m h = omega (arith, length-take (sentLength (r .answer)) (r .buffer))
 
-pub wrote-none : (a : Written) (o : List ℕ) → OneOf (0 ∷ 1 ∷ []) (tagOf written-type a)
-    → cond (eqb (causeOf a) 0) (take (valueOf a) o) [] ≡ []
-wrote-none (given.Refused k) o h = go (eqb k 0)
-  where
-    go : (t : Bool) → cond t (take 0 o) [] ≡ []
-    go true = refl
-    go false = refl
-wrote-none (given.Short k) o h = refl
-wrote-none (given.Done k) o h = absurd (not-done (given.Done k) k refl h)
+-- an answer that says nothing of it
+pub sent-none : (a : Answer) → OneOf (0 ∷ 1 ∷ 2 ∷ 4 ∷ 5 ∷ []) (tagOf answer-type a) → sentLength a ≡ 0
+sent-none (answer.Refused k) h = refl
+sent-none (answer.Short k) h = refl
+sent-none (answer.Happy b) h = refl
+sent-none (answer.Sent k) h = absurd (miss (0 ∷ 1 ∷ 2 ∷ 4 ∷ 5 ∷ []) 3 tt h)
+sent-none answer.Nothing h = refl
+sent-none (answer.Message l) h = refl

@@ -9,8 +9,8 @@ use Rattle.limits.specs.Limits.{maxParties, maxMessage}
 use Rattle.sha256.specs.Sha256.{sha256}
 use Rattle.party.specs.Steps.{Stepped}
 use Rattle.party.specs.declared.Party.{Party}
-use Rattle.party.specs.declared.Settled.{Settled}
-use Rattle.party.specs.declared.Settled.the-variants.{Refused, Short, Nothing, Message}
+use Rattle.party.specs.declared.Answer.{Answer}
+use Rattle.party.specs.declared.Answer.the-variants.{Refused, Short, Happy, Sent, Nothing, Message}
 use Rattle.plan.specs.Layout.{nIn, goodIn}
 use Rattle.plan.specs.Plan.{planCause, planOf}
 use Rattle.plan.specs.declared.Plan.{Plan}
@@ -84,8 +84,19 @@ pub record Finishing (s relays sizes : List ℕ) (state : Party) (q : ℕ) : Typ
   pub state-is : (agreedBit sha256 s ≡ 0 → ⊥) → state ≡ step4 sha256 s q .state
 
 -- the length of the message with which a party ended
-abbrev pub lengthIn : Settled → ℕ
-lengthIn (Refused k) = 0
-lengthIn (Short l) = 0
-lengthIn Nothing = 0
-lengthIn (Message l) = l
+abbrev pub messageLength : Answer → ℕ
+messageLength (Refused k) = 0
+messageLength (Short l) = 0
+messageLength (Happy b) = 0
+messageLength (Sent l) = 0
+messageLength Nothing = 0
+messageLength (Message l) = l
+
+-- the bit that a party gave; 0 where it gave none
+abbrev pub bitGiven : Answer → ℕ
+bitGiven (Refused k) = 0
+bitGiven (Short l) = 0
+bitGiven (Happy b) = cond b 1 0
+bitGiven (Sent l) = 0
+bitGiven Nothing = 0
+bitGiven (Message l) = 0

@@ -12,7 +12,9 @@ use Rattle.buffer.specs.Given.{Given, gave, written}
 use Rattle.buffer.specs.declared.Written.the-variants.{Refused}
 use Rattle.merkle.specs.Shares.{same}
 use Rattle.party.specs.State.{Result, nothing, settled}
-use Rattle.party.specs.Steps.{openOf, Ballot, agreeRootOf, Stepped, agreeBitOf, takeSharesOf, Ending, takeRelaysOf}
+use Rattle.party.specs.Steps.{openOf, Stepped, agreeRootOf, agreeBitOf, takeSharesOf, takeRelaysOf}
+use Rattle.party.specs.declared.Answer.{Answer}
+use Rattle.party.specs.declared.Answer.the-variants.{Refused, Short, Happy, Sent, Nothing, Message}
 use Rattle.party.specs.declared.Opened.{Opened}
 pub use Rattle.commitment.specs.Rooms.{maxOutbox}
 use Rattle.agreement.specs.Calls.{Call, agreeRoot, agreeBit, takeShares, takeRelays, lengths}
@@ -22,9 +24,17 @@ use Rattle.plan.specs.Plan.{planCause}
 use Rattle.exchange.specs.Exchange.{inboxTo}
 use Rattle.report.specs.Output.{line, sentLine, refusedLine}
 
--- what a step that writes wrote; nothing where it was turned away, which no step of a plan without a cause is (`Played`)
+-- what a step wrote for others, as much as its answer says; nothing where it was refused, which no step of a plan without a cause is (`Played`)
+abbrev pub sentLength : Answer → ℕ
+sentLength (Refused k) = 0
+sentLength (Short l) = 0
+sentLength (Happy b) = 0
+sentLength (Sent l) = l
+sentLength Nothing = 0
+sentLength (Message l) = 0
+
 abbrev pub wroteIn : Stepped → List ℕ
-wroteIn r = cond (eqb (r .cause) 0) (take (r .value) (r .buffer)) []
+wroteIn r = take (sentLength (r .answer)) (r .buffer)
 
 abbrev pub orNothing : Option Result → Result
 orNothing none = nothing
@@ -58,11 +68,11 @@ module _ (H : List ℕ → List ℕ) (s : List ℕ) where
   agreedRoot = cond (hasRoot s) (rootIn s) (opened (lowestGood s) .root)
 
   -- step 2, and the agreed bit
-  unfoldable pub step2 : ℕ → Ballot
+  unfoldable pub step2 : ℕ → Stepped
   step2 p = agreeRootOf H (opened p .state) agreedRoot
 
   unfoldable pub agreedBit : ℕ
-  agreedBit = cond (hasBit s) (bitIn s) (step2 (lowestGood s) .bit)
+  agreedBit = cond (hasBit s) (bitIn s) (step2 (lowestGood s) .value)
 
   -- the rule of the short agreement: of k parties from p on, all good ones have this root, or this bit
   unfoldable pub sameRoots : ℕ → ℕ → List ℕ → Bool
@@ -71,14 +81,14 @@ module _ (H : List ℕ → List ℕ) (s : List ℕ) where
 
   unfoldable pub sameBits : ℕ → ℕ → ℕ → Bool
   sameBits zero p b = true
-  sameBits (suc k) p b = cond (isGood s p) (eqb (step2 p .bit) b) true && sameBits k (p + 1) b
+  sameBits (suc k) p b = cond (isGood s p) (eqb (step2 p .value) b) true && sameBits k (p + 1) b
 
   -- cause 14: over t bad parties, a bit above 1, or, where all good parties put in one root, or one bit, another one than that
   unfoldable pub unlawful : Bool
   unlawful =
       ltb (tIn s) (unnamed (nIn s) 1 (goodIn s)) || (hasBit s && ltb 1 (bitIn s))
       || (sameRoots (nIn s) 1 (opened (lowestGood s) .root) && not (same agreedRoot (opened (lowestGood s) .root)))
-      || (sameBits (nIn s) 1 (step2 (lowestGood s) .bit) && not (eqb agreedBit (step2 (lowestGood s) .bit)))
+      || (sameBits (nIn s) 1 (step2 (lowestGood s) .value) && not (eqb agreedBit (step2 (lowestGood s) .value)))
 
   unfoldable pub sessionCause : ℕ
   sessionCause = cond (not (eqb (planCause s) 0)) (planCause s) (cond unlawful 14 0)
@@ -102,7 +112,7 @@ module _ (H : List ℕ → List ℕ) (s : List ℕ) where
   secondInbox i = inboxIn 1 (λ p. wroteIn (step4 p)) i
 
   -- step 5
-  unfoldable pub step5 : ℕ → Ending
+  unfoldable pub step5 : ℕ → Stepped
   step5 p = takeRelaysOf H (step4 p .state) (secondInbox p) (replicate maxMessage 0)
 
   -- on bit 0 the exchanges are unused

@@ -9,16 +9,16 @@ ghost use Rattle.sha256.specs.Sha256.{sha256};
 ghost use Rattle.limits.specs.Limits.{maxParties, maxMessage};
 ghost use Rattle.buffer.specs.Splice.{spliced};
 ghost use Rattle.buffer.specs.Entries.{bodies};
-ghost use Rattle.buffer.specs.Given.{causeOf, valueOf, gave};
-ghost use Rattle.party.specs.Steps.{voted, bitIn, stepped, resultGiven, ended};
+ghost use Rattle.buffer.specs.Given.{gave};
+ghost use Rattle.party.specs.Steps.{stepped, resultGiven};
 ghost use Rattle.agreement.specs.Calls.{lengths};
 ghost use Rattle.plan.specs.Layout.{unnamed, lowest, nIn, goodIn, exchangeIn};
 ghost use Rattle.exchange.specs.Exchange.{inboxTo, slotOf, Slots};
 ghost use Rattle.report.specs.Output.{line};
-ghost use Rattle.session.specs.Session.{maxOutbox, wroteIn, orNothing, lineWith, wholeIn, isGood, opened, agreedRoot, step2, agreedBit};
+ghost use Rattle.session.specs.Session.{maxOutbox, sentLength, wroteIn, orNothing, lineWith, wholeIn, isGood, opened, agreedRoot, step2, agreedBit};
 ghost use Rattle.session.specs.Session.{sameRoots, sameBits, unlawful, step4};
 ghost use Rattle.session.specs.Session.{step5, endsWith, sentOf, linesFrom, sentFrom, output, rehearseOf, printOf};
-ghost use Rattle.session.specs.Private.{Ready, Turned, stepOf, stateOf, States, Behind, inboxRoom, maxLine, maxText, Dealt, Relayed, Sizes, Finishing, lengthIn};
+ghost use Rattle.session.specs.Private.{Ready, Turned, stepOf, stateOf, States, Behind, inboxRoom, maxLine, maxText, Dealt, Relayed, Sizes, Finishing, messageLength, bitGiven};
 use buffer::Written;
 use commitment::MAX_OUTBOX;
 use exchange::Mail;
@@ -26,13 +26,10 @@ use limits::MAX_MESSAGE;
 use limits::MAX_PARTIES;
 use limits::MAX_PLAN;
 use merkle::Hash;
-use party::Ended;
+use party::Answer;
 use party::Opened;
 use party::Party;
-use party::Settled;
-use party::Step;
-use party::Vote;
-use party::Voted;
+use party::Reply;
 use plan::MAP;
 use plan::Plan;
 
@@ -169,7 +166,7 @@ fn put_line(
 {
     let mut message = [0u8; MAX_MESSAGE];
     let result = result_of(bytes, turn, state, relays, sizes, q, &mut message);
-    let Settled::Message(len) = result else {
+    let Answer::Message(len) = result else {
         return write_line(q, false, &[], text);
     };
     write_line(q, true, &message[..len], text)
@@ -184,15 +181,15 @@ fn result_of(
     sizes: &[usize],
     q: usize,
     out: &mut [u8],
-) -> Settled
+) -> Answer
     requires { ⌜ Turned (now bytes) turn × Finishing (now bytes) (now relays) (now sizes) state q × (now out ≡ replicate maxMessage 0) ⌝ }
-    ensures { λ r. ⌜ (lengthIn r ≤ maxMessage)
+    ensures { λ r. ⌜ (messageLength r ≤ maxMessage)
         × (orNothing (resultGiven r (now (out .exit))) ≡ endsWith sha256 (now (bytes .entry)) q) ⌝ }
 {
     if turn.bit == 0 {
-        return Settled::Nothing;
+        return Answer::Nothing;
     }
-    let Ended { answer, .. } = ended(bytes, turn.parts, state, relays, sizes, q, out);
+    let Reply { answer, .. } = ended(bytes, turn.parts, state, relays, sizes, q, out);
     answer
 }
 
@@ -330,35 +327,39 @@ fn agreed_root(bytes: &[u8], parts: Plan) -> Hash
 }
 
 // Step 2 of party q.
-fn ballot(bytes: &[u8], parts: Plan, root: &Hash, q: usize) -> Voted
+fn ballot(bytes: &[u8], parts: Plan, root: &Hash, q: usize) -> Reply
     requires { ⌜ Ready (now bytes) parts × (now root ≡ agreedRoot sha256 (now bytes)) ⌝ }
-    ensures { λ r. ⌜ voted r ≡ step2 sha256 (now (bytes .entry)) q ⌝ }
+    ensures { λ r. ⌜ stepped r [] ≡ step2 sha256 (now (bytes .entry)) q ⌝ }
 {
     opened(bytes, parts, q).state.agree_root(root)
 }
 
 // The bit of an answer; 0 if the step was refused.
-fn bit_of(vote: Vote) -> u8
-    ensures { λ r. ⌜ r ≡ bitIn vote ⌝ }
+fn bit_of(answer: Answer) -> u8
+    ensures { λ r. ⌜ r ≡ bitGiven answer ⌝ }
 {
-    match vote {
-        Vote::Refused(_) => 0,
-        Vote::Happy(happy) => {
+    match answer {
+        Answer::Refused(_) => 0,
+        Answer::Short(_) => 0,
+        Answer::Happy(happy) => {
             if happy {
                 return 1;
             }
             0
         }
+        Answer::Sent(_) => 0,
+        Answer::Nothing => 0,
+        Answer::Message(_) => 0,
     }
 }
 
 // The bit that party q puts in.
 fn own_bit(bytes: &[u8], parts: Plan, root: &Hash, q: usize) -> u8
     requires { ⌜ Ready (now bytes) parts × (now root ≡ agreedRoot sha256 (now bytes)) ⌝ }
-    ensures { λ r. ⌜ r ≡ step2 sha256 (now (bytes .entry)) q .bit ⌝ }
+    ensures { λ r. ⌜ r ≡ step2 sha256 (now (bytes .entry)) q .value ⌝ }
 {
-    let vote = ballot(bytes, parts, root, q).answer;
-    bit_of(vote)
+    let answer = ballot(bytes, parts, root, q).answer;
+    bit_of(answer)
 }
 
 // The given bit, or that of the lowest-numbered good party.
@@ -453,13 +454,13 @@ fn voted_all(bytes: &[u8], parts: Plan, root: &Hash) -> [Party; MAX_PARTIES]
 {
     let n = parts.n;
     let good = parts.good;
-    let Voted { state, .. } = ballot(bytes, parts, root, 1);
+    let Reply { state, .. } = ballot(bytes, parts, root, 1);
     let mut states = [state; MAX_PARTIES];
     let mut p: usize = 0;
     while p < n {
         let q = p + 1;
         if plan::names(good, q) {
-            let Voted { state: own, .. } = ballot(bytes, parts, root, q);
+            let Reply { state: own, .. } = ballot(bytes, parts, root, q);
             states[p] = own;
         }
         p = q;
@@ -520,7 +521,7 @@ fn kept(
         × (now (slot .exit) ≡ spliced (now (slot .entry)) 0 (wroteIn (stepOf (turn .e) (now (bytes .entry)) q))) ⌝ }
 {
     let mut out = [0u8; MAX_OUTBOX];
-    let Step {
+    let Reply {
         state: after,
         answer,
     } = step(bytes, turn, state, slots, lens, q, &mut out);
@@ -537,7 +538,7 @@ fn step(
     lens: &[usize],
     q: usize,
     out: &mut [u8],
-) -> Step
+) -> Reply
     requires { ⌜ Turned (now bytes) turn × (turn .e ≤ 1) × Behind (turn .e) (now bytes) (now slots) (now lens) × (1 ≤ q) × (q ≤ nIn (now bytes))
         × (state ≡ stateOf (turn .e) (now bytes) q) × (now out ≡ replicate maxOutbox 0) ⌝ }
     ensures { λ r. ⌜ stepped r (now (out .exit)) ≡ stepOf (turn .e) (now (bytes .entry)) q ⌝ }
@@ -551,12 +552,12 @@ fn step(
 }
 
 // What a step wrote, copied to the start of its slot; its length, 0 where the step was turned away.
-fn keep(answer: Written, out: &[u8], slot: &mut [u8]) -> usize
-    requires { ⌜ (causeOf answer ≡ 0 → valueOf answer ≤ length (now out)) × (length (now out) ≤ length (now slot)) ⌝ }
-    ensures { λ r. ⌜ (r ≡ length (cond (eqb (causeOf answer) 0) (take (valueOf answer) (now (out .entry))) []))
-        × (now (slot .exit) ≡ spliced (now (slot .entry)) 0 (cond (eqb (causeOf answer) 0) (take (valueOf answer) (now (out .entry))) [])) ⌝ }
+fn keep(answer: Answer, out: &[u8], slot: &mut [u8]) -> usize
+    requires { ⌜ (sentLength answer ≤ length (now out)) × (length (now out) ≤ length (now slot)) ⌝ }
+    ensures { λ r. ⌜ (r ≡ length (take (sentLength answer) (now (out .entry))))
+        × (now (slot .exit) ≡ spliced (now (slot .entry)) 0 (take (sentLength answer) (now (out .entry)))) ⌝ }
 {
-    let Written::Done(len) = answer else {
+    let Answer::Sent(len) = answer else {
         return 0;
     };
     buffer::put(slot, 0, &out[..len]);
@@ -614,11 +615,11 @@ fn ended(
     sizes: &[usize],
     q: usize,
     out: &mut [u8],
-) -> Ended
+) -> Reply
     requires { ⌜ Ready (now bytes) parts × (1 ≤ q) × (q ≤ nIn (now bytes)) × (state ≡ step4 sha256 (now bytes) q .state)
         × Slots (goodIn (now bytes)) maxOutbox (λ p. wroteIn (step4 sha256 (now bytes) p)) (nIn (now bytes)) (now relays) (now sizes)
         × (now out ≡ replicate maxMessage 0) ⌝ }
-    ensures { λ r. ⌜ ended r (now (out .exit)) ≡ step5 sha256 (now (bytes .entry)) q ⌝ }
+    ensures { λ r. ⌜ stepped r (now (out .exit)) ≡ step5 sha256 (now (bytes .entry)) q ⌝ }
 {
     let mut room = blank_inbox();
     let len = inbox(bytes, parts, 1, relays, sizes, q, &mut room);

@@ -59,7 +59,7 @@ returns-2 c =
     let e = l .before in
     let st = e .before .before in
     c .own-bit .ensures
-    ∙ ap (λ (q : ℕ). step2 sha256 (S st) q .bit) (l .lowest-good .ensures ∙ lowest-is (S st) (st .args .parts) (plan st))
+    ∙ ap (λ (q : ℕ). step2 sha256 (S st) q .value) (l .lowest-good .ensures ∙ lowest-is (S st) (st .args .parts) (plan st))
     ∙ sym (bit-own sha256 (S st) (sym (plan st .voted-is) ∙ e .if1 .left))
 
 pub agreed-bit-spec : {M : Type 1} → statement M

@@ -1,17 +1,14 @@
 -- `session::keep` meets its contract: nothing was written unless the answer says how much, and that much is copied. Assumes nothing.
 use mathlib.Core.Path.{_≡_, sym, ap, _∙_}
-use mathlib.Core.Bool.{cond}
-use mathlib.Core.List.{[]}
 use Prim.Native.Nat.{ℕ, _≤_}
 use native.Mathlib.Omega.{arith}
-use lib.Dec.{eqb}
 use lib.ListN.{length, take}
 use lib.Seq.{length-take-le}
 use Rattle.buffer.specs.Splice.{spliced}
-use Rattle.buffer.specs.Given.{causeOf, valueOf}
-use Rattle.buffer.specs.declared.Written.{Written}
 use Rattle.buffer.proofs.Splice.{put-fits, spliced-none}
-use Rattle.session.proofs.Wrote.{wrote-none}
+use Rattle.party.specs.declared.Answer.{Answer}
+use Rattle.session.specs.Session.{sentLength}
+use Rattle.session.proofs.Wrote.{sent-none}
 use borrow.Author.Needs.{needs}
 use Rattle.session.proofs.keep.Statement.{statement}
 use Rattle.session.proofs.keep.Tie as tie
@@ -26,8 +23,7 @@ Len k = k .answer .given .0 .0
 -- it is no more than the buffer holds
 few : (k : tie.After-answer) → Len k ≤ length (Entry k .args .out .now)
 few k =
-    let e = k .answer .given .1 in
-    omega (arith, Entry k .pre .0 (ap causeOf e), ap valueOf e)
+    omega (arith, Entry k .pre .0, ap sentLength (k .answer .given .1))
 
 enum-known-answer : tie.Need-enum-known-answer
 enum-known-answer c = search needs
@@ -36,7 +32,7 @@ returns : tie.Need-returns
 returns c =
     let a = c .before .before .before .args in
     let o = a .slot .now in
-    let e = wrote-none (a .answer) (a .out .now) (c .match .keys2) in
+    let e = ap (λ (l : ℕ). take l (a .out .now)) (sent-none (a .answer) (c .match .keys2)) in
     (sym (ap length e), sym (ap (spliced o 0) e ∙ spliced-none o 0))
 
 slice-aggregate-put : tie.Need-slice-aggregate-put
@@ -58,7 +54,7 @@ returns-2 c =
     let a = st .args in
     let o = a .out .now in
     let long : length (take (Len k) o) ≡ Len k = length-take-le (Len k) o (few k) in
-    let e = ap (λ (w : Written). cond (eqb (causeOf w) 0) (take (valueOf w) o) []) (k .answer .given .1) in (
+    let e = ap (λ (w : Answer). take (sentLength w) o) (k .answer .given .1) in (
       sym (ap length e ∙ long),
       p .put .ensures .1
           ∙ put-fits (a .slot .now) 0 (take (Len k) o) (omega (arith, long, few k, st .pre .1))

@@ -1,10 +1,10 @@
 -- `session::kept` meets its contract: what the step wrote, kept in the slot. Assumes nothing.
-use mathlib.Core.Path.{sym, ap, _∙_}
+use mathlib.Core.Path.{ap, _∙_}
 use native.Mathlib.Omega.{arith}
 use lib.ListN.{length}
 use Rattle.buffer.specs.Splice.{spliced}
 use Rattle.party.specs.Steps.{Stepped}
-use Rattle.session.specs.Session.{maxOutbox, wroteIn}
+use Rattle.session.specs.Session.{maxOutbox, sentLength, wroteIn}
 use Rattle.session.specs.Private.{stepOf}
 use Rattle.session.proofs.Wrote.{step-room, wrote-short}
 use borrow.Author.Needs.{needs}
@@ -23,12 +23,11 @@ slice-aggregate-keep c = search needs
 keep-requires : tie.Need-keep-requires
 keep-requires c κs =
     let d = c .before .before .before .before in
-    let a = d .before .before .before .before .before .before .args in
-    let e = d .step .ensures in (
-      λ z. omega (
+    let a = d .before .before .before .before .before .before .args in (
+      omega (
         arith,
-        step-room (a .turn .e) (a .bytes .now) (a .q) (sym (ap (λ (r : Stepped). r .cause) e) ∙ z),
-        ap (λ (r : Stepped). r .value) e,
+        step-room (a .turn .e) (a .bytes .now) (a .q),
+        ap (λ (r : Stepped). sentLength (r .answer)) (d .step .ensures),
         d .step .kept .1 .1 .1 .1 .1 .1 .0,
       ),
       search needs,

@@ -1,6 +1,9 @@
 -- `session::own_bit` meets its contract: the bit of the answer of step 2. Assumes nothing.
 use mathlib.Core.Path.{ap, _∙_}
-use Rattle.party.specs.Steps.{Ballot}
+use Rattle.sha256.specs.Sha256.{sha256}
+use Rattle.party.specs.Steps.{Stepped}
+use Rattle.session.specs.Private.{bitGiven}
+use Rattle.session.proofs.Rule.{bit-told}
 use borrow.Author.Needs.{needs}
 use Rattle.session.proofs.own_bit.Statement.{statement}
 use Rattle.session.proofs.own_bit.Tie as tie
@@ -12,7 +15,10 @@ bit-of-requires : tie.Need-bit-of-requires
 bit-of-requires c κs = search needs
 
 returns : tie.Need-returns
-returns c = c .bit-of .ensures ∙ ap (λ (b : Ballot). b .bit) (c .before .ballot .ensures)
+returns c =
+    let b = c .before in
+    let a = b .before .before .args in
+    c .bit-of .ensures ∙ ap (λ (r : Stepped). bitGiven (r .answer)) (b .ballot .ensures) ∙ bit-told sha256 (a .bytes .now) (a .q)
 
 pub own-bit-spec : {M : Type 1} → statement M
 own-bit-spec = tie.close (tie.spec ballot-requires bit-of-requires returns)

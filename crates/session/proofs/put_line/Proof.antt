@@ -9,9 +9,9 @@ use Rattle.limits.specs.Limits.{maxMessage}
 use Rattle.buffer.specs.Splice.{spliced}
 use Rattle.party.specs.State.{Result}
 use Rattle.party.specs.Steps.{resultGiven}
-use Rattle.party.specs.declared.Settled.{Settled}
+use Rattle.party.specs.declared.Answer.{Answer}
 use Rattle.session.specs.Session.{orNothing, lineWith}
-use Rattle.session.specs.Private.{lengthIn}
+use Rattle.session.specs.Private.{messageLength}
 use Rattle.session.proofs.Text.{no-message}
 use borrow.Author.Needs.{needs}
 use Rattle.session.proofs.put_line.Statement.{statement}
@@ -30,7 +30,7 @@ Len k = k .result .given .0 .0
 inside : (k : tie.After-result) → Len k ≤ maxMessage
 inside k =
     let r = k .before .before .before in
-    omega (arith, r .result-of .ensures .0, ap lengthIn (k .result .given .1))
+    omega (arith, r .result-of .ensures .0, ap messageLength (k .result .given .1))
 
 room : (k : tie.After-result) → Len k ≤ length (O (k .before .before .before))
 room k =
@@ -91,7 +91,7 @@ returns-2 c =
     let k = w .before .before .before .before in
     let r = k .before .before .before in
     let a = Entry r .args in
-    let e = sym (ap (λ (x : Settled). orNothing (resultGiven x (O r))) (k .result .given .1)) ∙ r .result-of .ensures .1 in
+    let e = sym (ap (λ (x : Answer). orNothing (resultGiven x (O r))) (k .result .given .1)) ∙ r .result-of .ensures .1 in
     let y = w .write-line2 .ensures in (
       y .0 ∙ ap (λ (x : Result). length (lineWith (a .q) x)) e,
       y .1,

@@ -4,9 +4,9 @@ use mathlib.Core.List.{List}
 use Prim.Native.Nat.{ℕ}
 use native.Mathlib.Omega.{arith}
 use Rattle.sha256.specs.Sha256.{sha256}
-use Rattle.party.specs.Steps.{Ending}
+use Rattle.party.specs.Steps.{Stepped}
 use Rattle.session.specs.Session.{orNothing, agreedBit}
-use Rattle.session.specs.Private.{lengthIn}
+use Rattle.session.specs.Private.{messageLength}
 use Rattle.session.proofs.Text.{ends-zero, ends-later, message-room}
 use borrow.Author.Needs.{needs}
 use Rattle.session.proofs.result_of.Statement.{statement}
@@ -43,8 +43,8 @@ returns-2 c =
     let e = w .before .before in
     let st = Entry (e .before) in
     let q = st .args .q in (
-      omega (arith, ap (λ (x : Ending). lengthIn (x .answer)) (w .ended .ensures), message-room sha256 (S st) q),
-      ap (λ (x : Ending). orNothing (x .result)) (w .ended .ensures) ∙ sym (ends-later sha256 (S st) q (one e)),
+      omega (arith, ap (λ (x : Stepped). messageLength (x .answer)) (w .ended .ensures), message-room sha256 (S st) q),
+      ap (λ (x : Stepped). orNothing (x .result)) (w .ended .ensures) ∙ sym (ends-later sha256 (S st) q (one e)),
     )
 
 pub result-of-spec : {M : Type 1} → statement M

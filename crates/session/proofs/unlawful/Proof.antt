@@ -112,7 +112,7 @@ Last b = Own (Joined b .before) .before
 vote-is : (b : tie.After-same-bits) → b .before .own-bit .result ≡ firstBit sha256 (S (Entry (Last b)))
 vote-is b =
     let s = S (Entry (Last b)) in
-    b .before .own-bit .ensures ∙ ap (λ (q : ℕ). step2 sha256 s q .bit) (first-is (Last b))
+    b .before .own-bit .ensures ∙ ap (λ (q : ℕ). step2 sha256 s q .value) (first-is (Last b))
 
 all-bits : (b : tie.After-same-bits) → let s = S (Entry (Last b)) in
     b .same-bits .result ≡ sameBits sha256 s (nIn s) 1 (firstBit sha256 s)

@@ -6,7 +6,7 @@ use Prim.Native.Nat.{ℕ, _+_, _-_, _≤_, _<_}
 use native.Mathlib.Omega.{arith}
 use lib.ListN.{length, length-set}
 use Rattle.limits.specs.Limits.{maxParties}
-use Rattle.party.specs.Steps.{Ballot}
+use Rattle.party.specs.Steps.{Stepped}
 use Rattle.plan.specs.Layout.{nIn}
 use Rattle.session.specs.Session.{isGood}
 use Rattle.session.specs.Private.{stateOf, States}
@@ -78,7 +78,7 @@ loop-again c =
       omega arith,
       length-set (o .states) (o .p) (w .ballot2 .result .state) ∙ o .inv .1,
       states-more s (stateOf 0 s) (o .p) (w .ballot2 .result .state) (o .states) _ refl
-          (ap (λ (v : Ballot). v .state) (w .ballot2 .ensures) ∙ sym (state-first 0 s (o .p + 1) refl))
+          (ap (λ (v : Stepped). v .state) (w .ballot2 .ensures) ∙ sym (state-first 0 s (o .p + 1) refl))
           (omega (arith, few (g .before), o .inv .1)) (o .inv .2),
     )
 
