@@ -22,14 +22,11 @@ use crate::answer::number_at;
 use crate::answer::spelled;
 use limits::MAX_MESSAGE;
 use limits::MAX_SHARE;
-use party::Ended;
 use party::Opened;
 use party::Party;
-use party::Settled;
+use party::Reply;
+use party::Seat;
 use party::Stage;
-use party::Step;
-use party::Vote;
-use party::Voted;
 use stream::Tally;
 
 const MAX_INBOX: usize = 8_000;
@@ -69,19 +66,11 @@ struct Called {
     len: usize,
 }
 
-// What a step gave.
-struct Stepped {
-    state: Party,
-    answer: Answer,
-}
-
 // What the first case finds.
 pub(crate) fn blank() -> World {
     World {
         state: Party {
-            n: 0,
-            t: 0,
-            own: 0,
+            seat: Seat { n: 0, t: 0, own: 0 },
             stage: Stage::Root,
             message: [0; MAX_MESSAGE],
             len: 0,
@@ -161,18 +150,22 @@ fn opened(cause: u8) -> Answer {
 }
 
 fn agreed_root(before: Party, root: &[u8], out: &mut [u8]) -> Called {
-    let Voted { state, answer } = before.agree_root(root);
-    buffer::put(out, 0, &verdict(state, voted(answer), b""));
+    let Reply { state, answer } = before.agree_root(root);
+    buffer::put(out, 0, &verdict(state, answered(answer), b""));
     Called {
         state,
         len: VERDICT,
     }
 }
 
-fn voted(vote: Vote) -> Answer {
-    match vote {
-        Vote::Refused(cause) => answer::refused(cause),
-        Vote::Happy(happy) => answer::done(if happy { 1 } else { 0 }),
+fn answered(answer: party::Answer) -> Answer {
+    match answer {
+        party::Answer::Refused(cause) => answer::refused(cause),
+        party::Answer::Short(needed) => answer::short(needed),
+        party::Answer::Happy(happy) => answer::done(if happy { 1 } else { 0 }),
+        party::Answer::Sent(len) => answer::done(len),
+        party::Answer::Nothing => Answer { code: 1, value: 0 },
+        party::Answer::Message(len) => answer::done(len),
     }
 }
 
@@ -190,14 +183,14 @@ fn lent(kind: usize, before: Party, inbox: &[u8], input: &[u8], out: &mut [u8]) 
     if out.len() < end {
         return malformed(before);
     }
-    let Stepped { state, answer } = step(
+    let Reply { state, answer } = step(
         kind,
         before,
         given,
         &inbox[0..given],
         &mut out[VERDICT..end],
     );
-    let bytes = verdict(state, answer, &out[VERDICT..end]);
+    let bytes = verdict(state, answered(answer), &out[VERDICT..end]);
     buffer::put(out, 0, &bytes);
     Called {
         state,
@@ -206,35 +199,14 @@ fn lent(kind: usize, before: Party, inbox: &[u8], input: &[u8], out: &mut [u8]) 
 }
 
 // Step 3 with a bit, or step 4 or 5 with an inbox.
-fn step(kind: usize, before: Party, bit: usize, inbox: &[u8], out: &mut [u8]) -> Stepped {
+fn step(kind: usize, before: Party, bit: usize, inbox: &[u8], out: &mut [u8]) -> Reply {
     if kind == 3 {
-        return written(before.agree_bit((bit % 256) as u8, out));
+        return before.agree_bit((bit % 256) as u8, out);
     }
     if kind == 4 {
-        return written(before.take_shares(inbox, out));
+        return before.take_shares(inbox, out);
     }
-    let Ended { state, answer } = before.take_relays(inbox, out);
-    Stepped {
-        state,
-        answer: settled(answer),
-    }
-}
-
-fn written(step: Step) -> Stepped {
-    let Step { state, answer } = step;
-    Stepped {
-        state,
-        answer: answer::written(answer),
-    }
-}
-
-fn settled(answer: Settled) -> Answer {
-    match answer {
-        Settled::Refused(cause) => answer::refused(cause),
-        Settled::Short(needed) => answer::short(needed),
-        Settled::Nothing => Answer { code: 1, value: 0 },
-        Settled::Message(len) => answer::done(len),
-    }
+    before.take_relays(inbox, out)
 }
 
 fn verdict(state: Party, answer: Answer, out: &[u8]) -> [u8; VERDICT] {
@@ -269,9 +241,9 @@ fn text_of(state: Party) -> [u8; DIGESTED] {
 fn numbers(state: Party) -> [u8; NUMBERS] {
     let mut bytes = [0u8; NUMBERS];
     let stage = state.stage;
-    buffer::put(&mut bytes, 0, &spelled(state.n));
-    buffer::put(&mut bytes, 8, &spelled(state.t));
-    buffer::put(&mut bytes, 16, &spelled(state.own));
+    buffer::put(&mut bytes, 0, &spelled(state.seat.n));
+    buffer::put(&mut bytes, 8, &spelled(state.seat.t));
+    buffer::put(&mut bytes, 16, &spelled(state.seat.own));
     buffer::put(&mut bytes, 24, &stage_bytes(stage));
     buffer::put(&mut bytes, 33, &spelled(state.len));
     buffer::put(&mut bytes, 41, &spelled(state.held));
@@ -320,9 +292,9 @@ fn changed(state: Party, good: bool) -> Called {
 fn new_number(old: Party, place: usize, number: usize) -> Called {
     let mut state = old;
     match place {
-        0 => state.n = number,
-        1 => state.t = number,
-        2 => state.own = number,
+        0 => state.seat.n = number,
+        1 => state.seat.t = number,
+        2 => state.seat.own = number,
         3 => state.len = number,
         _ => state.held = number,
     }
@@ -330,13 +302,12 @@ fn new_number(old: Party, place: usize, number: usize) -> Called {
 }
 
 fn new_stage(old: Party, number: usize, len: usize) -> Called {
+    let seat = old.seat;
     let message = old.message;
     let root = old.root;
     let share = old.share;
     let state = Party {
-        n: old.n,
-        t: old.t,
-        own: old.own,
+        seat,
         stage: stage_of(number, len),
         message,
         len: old.len,

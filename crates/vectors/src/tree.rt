@@ -7,6 +7,7 @@
 // answer: done with 1 for yes and 0 for no.
 // 4, path lengths: n (1). For each leaf the answer to its path's length.
 ghost use Prim.Native.Nat.{_≤_};
+ghost use Rattle.limits.specs.Limits.{maxParties};
 use crate::KINDS;
 use crate::answer;
 use crate::answer::ANSWER;
@@ -70,7 +71,7 @@ fn tree(input: &[u8], out: &mut [u8]) -> usize {
 
 // Each leaf's path, with the answer to its length, behind the root.
 fn put_paths(n: usize, leaves: &[Hash; MAX_PARTIES], out: &mut [u8])
-    requires { ⌜ n ≤ 16 ⌝ }
+    requires { ⌜ n ≤ maxParties ⌝ }
 {
     let mut j: usize = 0;
     while j < n {
