@@ -4,7 +4,9 @@ pub mod Owned
 pub mod Parts
 pub mod Slices
 pub mod Reading
+pub mod Entries
 pub mod Verdict
+pub mod Cursor
 pub mod Writing
 pub mod Inverse
 pub mod Inbox

@@ -6,6 +6,7 @@ use Prim.Native.Nat.{ℕ, _+_, _*_, _/_, _%_, _<_, _≤_}
 use native.Mathlib.Omega.{arith}
 use lib.ListN.{length, take, length-append}
 use lib.Seq.{length-take-le}
+use Rattle.limits.specs.Limits.{maxEntry}
 use Rattle.buffer.specs.Splice.{spliced, putOf}
 use Rattle.buffer.proofs.Splice.{put-fits, spliced-more, length-spliced}
 use Rattle.merkle.proofs.Sound.{Wide, wide-take}
@@ -29,7 +30,7 @@ unfolding entryOf
 entry-length p = omega arith
 
 module _ (o : List ℕ) (at number : ℕ) (share : List ℕ) (path : List (List ℕ)) where
-  pub packet-joined : number < 256 → length share < 65536 → at + (4 + length share) ≤ length o
+  pub packet-joined : number < 256 → length share ≤ maxEntry → at + (4 + length share) ≤ length o
       → spliced (putOf (putOf o at (0x07 ∷ number % 256 ∷ length share / 256 % 256 ∷ length share % 256 ∷ [])) (at + 4) share)
       (at + 4 + length share) (chained path)
       ≡ spliced o at (packetOf number share path)
@@ -49,7 +50,7 @@ module _ (o : List ℕ) (at number : ℕ) (share : List ℕ) (path : List (List 
       ∙ spliced-more o at (head ++ share) (chained path) (omega arith)
       ∙ ap₂ (λ (x y : ℕ). spliced o at (0x07 ∷ x ∷ y ∷ length share % 256 ∷ (share ++ chained path))) byte high
 
-pub entry-joined : (o p : List ℕ) (size : ℕ) → size ≡ length p → size < 65536 → 2 ≤ length o
+pub entry-joined : (o p : List ℕ) (size : ℕ) → size ≡ length p → size ≤ maxEntry → 2 ≤ length o
     → spliced (putOf o 0 (size / 256 % 256 ∷ size % 256 ∷ [])) 2 p ≡ spliced o 0 (entryOf p)
 unfolding entryOf
 entry-joined o p size e short h =

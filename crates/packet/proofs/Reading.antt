@@ -18,10 +18,14 @@ use Rattle.merkle.specs.Shares.{sidesOf, pathLengthOf}
 use Rattle.merkle.specs.declared.Counted.the-variants as count
 use Rattle.merkle.proofs.Sound.{Wide}
 use Rattle.packet.specs.Format.{Reading, silence, unreadable, shared, hashes, numberIn, lengthIn, countIn, shareIn, readOf}
-use Rattle.packet.specs.Answer.{placed, readAt}
+use Rattle.packet.specs.Answer.{Told, told, placed, readAt}
 use Rattle.packet.specs.declared.Packet.{Packet}
 use Rattle.packet.specs.declared.Packet.the-variants.{Refused, Silence, Share}
 use Rattle.packet.proofs.Path.{length-hashes, wide-hashes}
+
+-- what is told of an answer has the answer itself
+pub told-one : {a b : Packet} → told a ≡ told b → a ≡ b
+told-one e = ap (λ (t : Told). t .answer) e
 
 -- the fields of a packet at a place
 pub number-at : (s : List ℕ) (at : ℕ) → numberIn (drop at s) ≡ getD s (at + 1) 0
@@ -67,8 +71,8 @@ module _ (n : ℕ) (p : List ℕ) where
   abbrev misfit : Bool
   misfit = not (eqb (length p) (4 + lengthIn p + 32 * countIn n p))
 
-  abbrev told : Reading
-  told = shared (numberIn p) (take (lengthIn p) (drop 4 p)) (hashes (countIn n p) (drop (4 + lengthIn p) p))
+  abbrev read : Reading
+  read = shared (numberIn p) (take (lengthIn p) (drop 4 p)) (hashes (countIn n p) (drop (4 + lengthIn p) p))
 
   pub share-short : length p < 4 → shareIn n p ≡ unreadable
   unfolding shareIn
@@ -77,23 +81,23 @@ module _ (n : ℕ) (p : List ℕ) where
   pub share-unnumbered : numbered n (numberIn p) ≡ false → shareIn n p ≡ unreadable
   unfolding shareIn
   share-unnumbered h =
-      second (ltb (length p) 4) unnumbered (ltb (lengthIn p) 1) (ltb maxShare (lengthIn p)) misfit told (ap not h)
+      second (ltb (length p) 4) unnumbered (ltb (lengthIn p) 1) (ltb maxShare (lengthIn p)) misfit read (ap not h)
 
   pub share-empty : lengthIn p < 1 → shareIn n p ≡ unreadable
   unfolding shareIn
   share-empty h =
-      third (ltb (length p) 4) unnumbered (ltb (lengthIn p) 1) (ltb maxShare (lengthIn p)) misfit told (lt-ltb (lengthIn p) 1 h)
+      third (ltb (length p) 4) unnumbered (ltb (lengthIn p) 1) (ltb maxShare (lengthIn p)) misfit read (lt-ltb (lengthIn p) 1 h)
 
   pub share-long : maxShare < lengthIn p → shareIn n p ≡ unreadable
   unfolding shareIn
   share-long h =
-      fourth (ltb (length p) 4) unnumbered (ltb (lengthIn p) 1) (ltb maxShare (lengthIn p)) misfit told
+      fourth (ltb (length p) 4) unnumbered (ltb (lengthIn p) 1) (ltb maxShare (lengthIn p)) misfit read
       (lt-ltb maxShare (lengthIn p) h)
 
   pub share-misfit : (length p ≡ 4 + lengthIn p + 32 * countIn n p → ⊥) → shareIn n p ≡ unreadable
   unfolding shareIn
   share-misfit h =
-      fifth (ltb (length p) 4) unnumbered (ltb (lengthIn p) 1) (ltb maxShare (lengthIn p)) misfit told
+      fifth (ltb (length p) 4) unnumbered (ltb (lengthIn p) 1) (ltb maxShare (lengthIn p)) misfit read
       (ap not (ne-eqb (length p) (4 + lengthIn p + 32 * countIn n p) h))
 
   pub share-told : 4 ≤ length p → 1 ≤ numberIn p → numberIn p ≤ n → 1 ≤ lengthIn p → lengthIn p ≤ maxShare

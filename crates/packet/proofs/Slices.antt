@@ -8,7 +8,7 @@ use lib.Seq.{take-take, drop-drop, take-nil, drop-nil}
 use Rattle.packet.specs.Format.{hashes}
 
 -- a part of a list's first bytes
-drop-take : (a m : ℕ) (s : List ℕ) → drop a (take (a + m) s) ≡ take m (drop a s)
+pub drop-take : (a m : ℕ) (s : List ℕ) → drop a (take (a + m) s) ≡ take m (drop a s)
 drop-take a m [] = ap (drop a) (take-nil (a + m)) ∙ drop-nil a ∙ sym (ap (take m) (drop-nil a) ∙ take-nil m)
 drop-take zero m (x ∷ s) = let e : 0 + m ≡ m = omega arith in ap (λ (k : ℕ). take k (x ∷ s)) e
 drop-take (suc a) m (x ∷ s) =

@@ -1,32 +1,43 @@
--- A packet judged: one law for each outcome, from plain facts about numbers and from the answer of the reader. By the tests of
--- the definitions; of a path only the hashes that are counted matter. Assumes nothing.
+-- A packet judged: one law for each outcome, from plain facts about numbers; and what the judgement of a packet that was read at a place
+-- says of its class, for any hash. By the tests of the definitions; of a path only the hashes that are counted matter. Assumes nothing.
 use mathlib.Core.Path.{_≡_, refl, sym, ap, ap₂, subst, _∙_}
-use mathlib.Core.Bool.{Bool, true, false}
+use mathlib.Core.Bool.{Bool, true, false, cond, _&&_}
 use mathlib.Core.List.{List, [], _∷_, _++_}
-use Prim.Native.Nat.{ℕ, _+_, _≤_}
+use Prim.Native.Nat.{ℕ, _+_, _-_, _*_, _≤_, _<_}
 use native.Mathlib.Omega.{arith}
-use borrow.Author.Tests.{eq-eqb, ne-eqb}
+use borrow.Author.Tests.{eq-eqb, ne-eqb, le-leb, lt-leb}
 use types.Run.{OneOf, miss}
 use denote.Enum.Declared.{tagOf}
+use lib.Dec.{leb, eqb}
 use lib.ListN.{length, take, drop}
 use lib.Seq.{take-at, take-all}
 use Rattle.sha256.specs.Sha256.{sha256}
-use Rattle.limits.specs.Limits.{maxParties, parties, numbered}
+use Rattle.limits.specs.Limits.{maxParties, maxShare, maxPath, parties, numbered}
 use Rattle.limits.proofs.Ranges.{parties-some, numbered-within}
+use Rattle.buffer.proofs.Parts.{length-part}
 use Rattle.merkle.specs.Shares.{passes}
 use Rattle.merkle.specs.Shares as shares
 use Rattle.merkle.proofs.Checked.{the-type as checked-type}
+use Rattle.merkle.proofs.Descend.{sides-fit}
+use Rattle.merkle.proofs.Judged.{passes-miscount}
 use Rattle.merkle.specs.declared.Checked.{Checked}
 use Rattle.merkle.specs.declared.Checked.the-variants as checked
 use Rattle.packet.specs.Format.{Reading, silence, unreadable, shared, hashes, readOf}
-use Rattle.packet.specs.Class.{judged, classOf}
-use Rattle.packet.specs.Answer.{placed, told, judgeOf}
+use Rattle.packet.specs.Class.{Class, silent, faulty, valid, judged, classOf}
+use Rattle.packet.specs.Answer.{placed, Verdict, verdict, verdictOn, judgeOf}
+use Rattle.packet.specs.Private.{verdictFor, PassedOver, TakenAt}
 use Rattle.packet.specs.declared.Packet.{Packet}
 use Rattle.packet.specs.declared.Packet.the-variants as packet
 use Rattle.packet.specs.declared.Judged.{Judged}
-use Rattle.packet.specs.declared.Judged.the-variants.{Refused, Silent, Faulty, Valid}
-use Rattle.packet.proofs.Packet.{the-type}
-use Rattle.packet.proofs.Reading.{fields-of}
+use Rattle.packet.specs.declared.Judged.the-variants.{Refused, Faulty, Valid}
+use Rattle.packet.proofs.Packet.{the-type as packet-type}
+use Rattle.packet.proofs.Judged.{the-type as judged-type}
+use Rattle.packet.proofs.Reading.{Fields, fields-of}
+use Rattle.packet.proofs.Slices.{part-part, hashes-part}
+
+-- what is told of an answer has the answer itself
+pub verdict-one : {a b : Judged} → verdict a ≡ verdict b → a ≡ b
+verdict-one e = ap (λ (v : Verdict). v .answer) e
 
 -- what stands behind the hashes that are counted does not matter
 pub passes-take : (n j : ℕ) (x : List ℕ) (p r : List (List ℕ)) (c : ℕ) (z : List ℕ) → length p ≡ c
@@ -36,90 +47,6 @@ passes-take n j x p r c z e =
     let h : length p ≤ c = omega (arith, e) in
     rw (take-at p r c e, take-all c p h)
 
-module _ (n j : ℕ) (root p : List ℕ) where
-  pub judge-parties : parties n ≡ false → judgeOf sha256 n j root p ≡ Refused 1
-  unfolding judgeOf
-  judge-parties h = rw h
-
-  module _ (low : 1 ≤ n) (high : n ≤ maxParties) where
-    pub judge-number : numbered n j ≡ false → judgeOf sha256 n j root p ≡ Refused 3
-    unfolding judgeOf
-    judge-number h = rw (parties-some n low high, h)
-
-    module _ (first : 1 ≤ j) (last : j ≤ n) where
-      pub judge-root : (length root ≡ 32 → ⊥) → judgeOf sha256 n j root p ≡ Refused 7
-      unfolding judgeOf
-      judge-root h = rw (parties-some n low high, numbered-within n j first last, ne-eqb (length root) 32 h)
-
-      pub judge-told : length root ≡ 32 → judgeOf sha256 n j root p ≡ told (classOf sha256 n j root p)
-      unfolding judgeOf
-      judge-told h = rw (parties-some n low high, numbered-within n j first last, eq-eqb (length root) 32 h)
-
-  -- whether the path of a share that lies there leads to the root
-  abbrev pub leads : ℕ → ℕ → ℕ → Bool
-  leads from len c = passes sha256 n j (take len (drop from p)) (hashes c (drop (from + len) p)) c root
-
-  -- what the reader's answer says of the class
-  abbrev ClassIn : Packet → Type 0
-  ClassIn (packet.Refused k) = told (classOf sha256 n j root p) ≡ Faulty
-  ClassIn packet.Silence = told (classOf sha256 n j root p) ≡ Silent
-  ClassIn (packet.Share number from len c) =
-      ((number ≡ j → ⊥) → told (classOf sha256 n j root p) ≡ Faulty)
-      × (number ≡ j → leads from len c ≡ true → told (classOf sha256 n j root p) ≡ Valid from len c)
-      × (number ≡ j → leads from len c ≡ false → told (classOf sha256 n j root p) ≡ Faulty)
-
-  class-in : (r : Reading) → readOf n p ≡ r → ClassIn (placed 0 r)
-  unfolding classOf
-  class-in silence e = ap (λ (r : Reading). told (judged sha256 n j root r)) e
-  class-in unreadable e = ap (λ (r : Reading). told (judged sha256 n j root r)) e
-  class-in (shared number share path) e =
-      let g : classOf sha256 n j root p ≡ judged sha256 n j root (shared number share path) = ap (judged sha256 n j root) e in
-      let h : passes sha256 n j share path (length path) root ≡ leads 4 (length share) (length path) =
-      let b = fields-of n p number share path e in
-      ap₂ (λ (x : List ℕ) (y : List (List ℕ)). passes sha256 n j x y (length path) root) (b .share-lies) (b .path-lies) in (
-        λ d. ap told g ∙ rw (ne-eqb number j d),
-        λ d t. ap told g ∙ rw (eq-eqb number j d, h ∙ t),
-        λ d t. ap told g ∙ rw (eq-eqb number j d, h ∙ t),
-      )
-
-  -- neither silence nor a share
-  not-share : (x : Packet) → ClassIn x → OneOf (0 ∷ 2 ∷ []) (tagOf the-type x) → OneOf (0 ∷ 1 ∷ []) (tagOf the-type x)
-      → told (classOf sha256 n j root p) ≡ Faulty
-  not-share (packet.Refused k) h a b = h
-  not-share packet.Silence h a b = absurd (miss (0 ∷ 2 ∷ []) 1 tt a)
-  not-share (packet.Share number from len c) h a b = absurd (miss (0 ∷ 1 ∷ []) 2 tt b)
-
-  -- the class by the reader's answer, which is no refusal of n
-  module _ (x : Packet) (e : x ≡ placed 0 (readOf n p)) where
-    by-answer : ClassIn x
-    by-answer = subst ClassIn (sym e) (class-in (readOf n p) refl)
-
-    pub class-silent : x ≡ packet.Silence → told (classOf sha256 n j root p) ≡ Silent
-    class-silent q = subst ClassIn q by-answer
-
-    pub class-refused : OneOf (0 ∷ 2 ∷ []) (tagOf the-type x) → OneOf (0 ∷ 1 ∷ []) (tagOf the-type x)
-        → told (classOf sha256 n j root p) ≡ Faulty
-    class-refused a b = not-share x by-answer a b
-
-    module _ (number from len c : ℕ) (q : x ≡ packet.Share number from len c) where
-      pub class-other : (number ≡ j → ⊥) → told (classOf sha256 n j root p) ≡ Faulty
-      class-other = subst ClassIn q by-answer .0
-
-      class-valid : number ≡ j → leads from len c ≡ true → told (classOf sha256 n j root p) ≡ Valid from len c
-      class-valid = subst ClassIn q by-answer .1
-
-      class-faulty : number ≡ j → leads from len c ≡ false → told (classOf sha256 n j root p) ≡ Faulty
-      class-faulty = subst ClassIn q by-answer .2
-
-      -- an answer that goes by the path is the class
-      pub class-checked : number ≡ j → (r : Judged) → (leads from len c ≡ true → r ≡ Valid from len c)
-          → (leads from len c ≡ false → r ≡ Faulty) → told (classOf sha256 n j root p) ≡ r
-      class-checked d r f g = go (leads from len c) refl
-        where
-          go : (t : Bool) → leads from len c ≡ t → told (classOf sha256 n j root p) ≡ r
-          go true h = class-valid d h ∙ sym (f h)
-          go false h = class-faulty d h ∙ sym (g h)
-
 -- a check that answers yes passed, and one that answers otherwise did not
 pub told-true : (t : Bool) → shares.told t ≡ checked.Yes → t ≡ true
 told-true true e = refl
@@ -128,3 +55,173 @@ told-true false e = absurd (let z : _≡_ {A = ℕ} 0 1 = cc in omega arith)
 pub told-false : (x : Checked) (t : Bool) → x ≡ shares.told t → OneOf (0 ∷ 1 ∷ []) (tagOf checked-type x) → t ≡ false
 told-false x true e k = absurd (miss (0 ∷ 1 ∷ []) 2 tt (subst (λ (y : Checked). OneOf (0 ∷ 1 ∷ []) (tagOf checked-type y)) e k))
 told-false x false e k = refl
+
+-- the last of four tests fails
+last-fails : (a b c d : Bool) → d ≡ false → cond (a && b && c && d) Valid Faulty ≡ Faulty
+last-fails false b c d h = refl
+last-fails true false c d h = refl
+last-fails true true false d h = refl
+last-fails true true true d h = rw h
+
+module _ (H : List ℕ → List ℕ) (n j : ℕ) (root s : List ℕ) where
+  module _ (x : Packet) where
+    pub judge-parties : parties n ≡ false → judgeOf H n j root s x ≡ Refused 1
+    unfolding judgeOf
+    judge-parties h = rw h
+
+    module _ (low : 1 ≤ n) (high : n ≤ maxParties) where
+      pub judge-number : numbered n j ≡ false → judgeOf H n j root s x ≡ Refused 3
+      unfolding judgeOf
+      judge-number h = rw (parties-some n low high, h)
+
+      module _ (first : 1 ≤ j) (last : j ≤ n) where
+        pub judge-root : (length root ≡ 32 → ⊥) → judgeOf H n j root s x ≡ Refused 7
+        unfolding judgeOf
+        judge-root h = rw (parties-some n low high, numbered-within n j first last, ne-eqb (length root) 32 h)
+
+        pub judge-on : length root ≡ 32 → judgeOf H n j root s x ≡ verdictOn H n j root s x
+        unfolding judgeOf
+        judge-on h = rw (parties-some n low high, numbered-within n j first last, eq-eqb (length root) 32 h)
+
+    -- neither silence nor a share
+    pub on-refused : OneOf (0 ∷ 2 ∷ []) (tagOf packet-type x) → OneOf (0 ∷ 1 ∷ []) (tagOf packet-type x) → verdictOn H n j root s x ≡ Faulty
+    on-refused a b = go x a b
+      where
+        go : (y : Packet) → OneOf (0 ∷ 2 ∷ []) (tagOf packet-type y) → OneOf (0 ∷ 1 ∷ []) (tagOf packet-type y)
+            → verdictOn H n j root s y ≡ Faulty
+        go (packet.Refused k) a b = refl
+        go packet.Silence a b = absurd (miss (0 ∷ 2 ∷ []) 1 tt a)
+        go (packet.Share number from len count) a b = absurd (miss (0 ∷ 1 ∷ []) 2 tt b)
+
+  module _ (from len count : ℕ) where
+    pub on-other : (number : ℕ) → (number ≡ j → ⊥) → verdictOn H n j root s (packet.Share number from len count) ≡ Faulty
+    on-other number d = rw (ne-eqb number j d)
+
+    -- a share of the number demanded, and whether its path leads to the root
+    abbrev Ours : Judged
+    Ours = verdictOn H n j root s (packet.Share j from len count)
+
+    abbrev pub leads : Bool
+    leads = passes H n j (take len (drop from s)) (hashes count (drop (from + len) s)) count root
+
+    pub on-long : maxShare < len → Ours ≡ Faulty
+    on-long h = rw (eq-eqb j j refl, lt-leb len maxShare h)
+
+    pub on-failed : leads ≡ false → Ours ≡ Faulty
+    on-failed = last-fails (eqb j j) (leb len maxShare) (leb (from + len + 32 * count) (length s)) leads
+
+    pub on-many : n ≤ maxParties → 1 ≤ j → j ≤ n → maxPath < count → Ours ≡ Faulty
+    on-many high first last h =
+        on-failed (passes-miscount H n j (take len (drop from s)) (hashes count (drop (from + len) s)) count root
+        (λ e. absurd (omega (arith, e, sides-fit n (j - 1) high (omega arith)))))
+
+    module _ (short : len ≤ maxShare) where
+      pub on-outside : length s < from + len + 32 * count → Ours ≡ Faulty
+      on-outside h = rw (eq-eqb j j refl, le-leb len maxShare short, lt-leb (from + len + 32 * count) (length s) h)
+
+      pub on-valid : from + len + 32 * count ≤ length s → leads ≡ true → Ours ≡ Valid
+      on-valid inside h =
+          rw (eq-eqb j j refl, le-leb len maxShare short, le-leb (from + len + 32 * count) (length s) inside, h)
+
+-- a packet of k bytes that was read at a place of s
+module _ (H : List ℕ → List ℕ) (n j : ℕ) (root s : List ℕ) (at k : ℕ) (room : at + k ≤ length s) where
+  abbrev P : List ℕ
+  P = take k (drop at s)
+
+  module _ (number : ℕ) (share : List ℕ) (path : List (List ℕ)) (e : readOf n P ≡ shared number share path) where
+    fields : Fields n P number share path
+    fields = fields-of n P number share path e
+
+    -- where the share and its path lie in s
+    inside : at + 4 + length share + 32 * length path ≤ length s
+    inside = omega (arith, fields .whole, length-part s at k room)
+
+    share-there : share ≡ take (length share) (drop (at + 4) s)
+    share-there = fields .share-lies ∙ part-part 4 (length share) k at s (omega (arith, fields .whole, length-part s at k room))
+
+    path-there : path ≡ hashes (length path) (drop (at + 4 + length share) s)
+    path-there =
+        let e : at + (4 + length share) ≡ at + 4 + length share = omega arith in
+        fields .path-lies
+        ∙ hashes-part (4 + length share) (length path) k at s (omega (arith, fields .whole, length-part s at k room))
+        ∙ ap (λ (i : ℕ). hashes (length path) (drop i s)) e
+
+  -- the tests of a share that lies within s
+  two-left : (a b c p : Bool) (x : List ℕ) (q : List (List ℕ)) → b ≡ true → c ≡ true
+      → cond (a && b && c && p) Valid Faulty ≡ verdictFor (cond (a && p) (valid x q) faulty)
+  two-left false b c p x q f g = refl
+  two-left true b c true x q f g = rw (f, g)
+  two-left true b c false x q f g = rw (f, g)
+
+  on-reading : (r : Reading) → readOf n P ≡ r → verdictOn H n j root s (placed at r) ≡ verdictFor (judged H n j root r)
+  on-reading silence e = refl
+  on-reading unreadable e = refl
+  on-reading (shared number share path) e =
+      let c : ℕ = length path in
+      ap₂ (λ (x : List ℕ) (q : List (List ℕ)). cond (eqb number j && leb (length share) maxShare
+      && leb (at + 4 + length share + 32 * c) (length s) && passes H n j x q c root) Valid Faulty)
+      (sym (share-there number share path e)) (sym (path-there number share path e))
+      ∙ two-left (eqb number j) (leb (length share) maxShare) (leb (at + 4 + length share + 32 * c) (length s))
+      (passes H n j share path c root) share path (le-leb (length share) maxShare (fields number share path e .most))
+      (le-leb (at + 4 + length share + 32 * c) (length s) (inside number share path e))
+
+  -- no share was read
+  unread : (r : Reading) → OneOf (0 ∷ 1 ∷ []) (tagOf packet-type (placed at r)) → PassedOver (judged H n j root r)
+  unread silence h = tt
+  unread unreadable h = tt
+  unread (shared number share path) h = absurd (miss (0 ∷ 1 ∷ []) 2 tt h)
+
+  -- a class by its judgement
+  over : (c : Class) → OneOf (0 ∷ 1 ∷ 2 ∷ []) (tagOf judged-type (verdictFor c)) → PassedOver c
+  over silent h = tt
+  over faulty h = tt
+  over (valid share path) h = absurd (miss (0 ∷ 1 ∷ 2 ∷ []) 3 tt h)
+
+  abbrev TakenIn : Class → Packet → Type 0
+  TakenIn c (packet.Refused cause) = Unit {0}
+  TakenIn c packet.Silence = Unit {0}
+  TakenIn c (packet.Share number from len count) = TakenAt s from len count c
+
+  taken : n ≤ maxParties → (r : Reading) → readOf n P ≡ r → verdictFor (judged H n j root r) ≡ Valid
+      → TakenIn (judged H n j root r) (placed at r)
+  taken high silence e h = tt
+  taken high unreadable e h = tt
+  taken high (shared number share path) e h = go (eqb number j && passes H n j share path (length path) root) h
+    where
+      go : (t : Bool) → verdictFor (cond t (valid share path) faulty) ≡ Valid
+          → TakenAt s (at + 4) (length share) (length path) (cond t (valid share path) faulty)
+      go false q = absurd (let z : _≡_ {A = ℕ} 0 1 = cc in omega arith)
+      go true q =
+          let f = fields number share path e in record {
+            some = f .some;
+            most = f .most;
+            few = omega (arith, f .counted, sides-fit n (number - 1) high (omega (arith, f .low, f .high)));
+            inside = inside number share path e;
+            share-lies = share-there number share path e;
+            path-lies = path-there number share path e;
+          }
+
+  module _ (x : Packet) (read : x ≡ placed at (readOf n P)) where
+    pub class-unread : OneOf (0 ∷ 1 ∷ []) (tagOf packet-type x) → PassedOver (classOf H n j root P)
+    unfolding classOf
+    class-unread h = unread (readOf n P) (subst (λ (y : Packet). OneOf (0 ∷ 1 ∷ []) (tagOf packet-type y)) read h)
+
+    module _ (low : 1 ≤ n) (high : n ≤ maxParties) (first : 1 ≤ j) (last : j ≤ n) (wide : length root ≡ 32) where
+      -- it is judged by its class
+      pub judge-class : judgeOf H n j root s x ≡ verdictFor (classOf H n j root P)
+      unfolding classOf
+      judge-class =
+          judge-on H n j root s x low high first last wide ∙ ap (verdictOn H n j root s) read ∙ on-reading (readOf n P) refl
+
+      module _ (r : Judged) (answer : r ≡ judgeOf H n j root s x) where
+        pub class-passed-over : OneOf (0 ∷ 1 ∷ 2 ∷ []) (tagOf judged-type r) → PassedOver (classOf H n j root P)
+        class-passed-over h =
+            over (classOf H n j root P)
+            (subst (λ (y : Judged). OneOf (0 ∷ 1 ∷ 2 ∷ []) (tagOf judged-type y)) (answer ∙ judge-class) h)
+
+        pub class-taken : (number from len count : ℕ) → x ≡ packet.Share number from len count → r ≡ Valid
+            → TakenAt s from len count (classOf H n j root P)
+        unfolding classOf
+        class-taken number from len count q v =
+            subst (TakenIn (classOf H n j root P)) (sym read ∙ q)
+            (taken high (readOf n P) refl (sym judge-class ∙ sym answer ∙ v))

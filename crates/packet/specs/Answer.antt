@@ -1,19 +1,50 @@
 -- The answers of the packet reader, judge and writer, by document 01's numbers. Assumes nothing.
-use mathlib.Core.Bool.{cond, not, _||_}
+use mathlib.Core.Bool.{Bool, true, false, cond, not, _&&_, _||_}
 use mathlib.Core.List.{List, _++_}
 use Prim.Native.Nat.{ℕ, _+_, _-_, _*_}
-use lib.Dec.{ltb, eqb}
+use lib.Dec.{ltb, leb, eqb}
 use lib.ListN.{length, take, drop, replicate}
 use Rattle.limits.specs.Limits.{maxPath, maxShare, parties, numbered}
+use Rattle.buffer.specs.Entries.{size}
 use Rattle.buffer.specs.Given.{Given, gave, written}
 use Rattle.buffer.specs.declared.Written.the-variants as given
-use Rattle.merkle.specs.Shares.{blank, sidesOf}
+use Rattle.merkle.specs.Shares.{blank, sidesOf, passes}
 use Rattle.packet.specs.Format.{Reading, silence, unreadable, shared, hashes, packetOf, entryOf, readOf}
-use Rattle.packet.specs.Class.{Class, silent, faulty, valid, classOf}
 use Rattle.packet.specs.declared.Packet.{Packet}
 use Rattle.packet.specs.declared.Packet.the-variants as packet
+use Rattle.packet.specs.declared.Entry.{Entry}
 use Rattle.packet.specs.declared.Judged.{Judged}
-use Rattle.packet.specs.declared.Judged.the-variants as verdict
+use Rattle.packet.specs.declared.Judged.the-variants as judged
+
+-- document 01's number of the cause for which a reading was turned away; 0 if it was not
+abbrev pub causeIn : Packet → ℕ
+causeIn (packet.Refused k) = k
+causeIn packet.Silence = 0
+causeIn (packet.Share number from len count) = 0
+
+-- the values given with it: a share's number, where it lies and how long it is, and how many hashes follow it; 0 where there is no share
+pub record Values : Type 0 where
+  pub number : ℕ
+  pub from : ℕ
+  pub len : ℕ
+  pub count : ℕ
+
+abbrev pub noValues : Values
+noValues = record { number = 0; from = 0; len = 0; count = 0 }
+
+abbrev pub valuesIn : Packet → Values
+valuesIn (packet.Refused k) = noValues
+valuesIn packet.Silence = noValues
+valuesIn (packet.Share number from len count) = record { number = number; from = from; len = len; count = count }
+
+-- what reading a packet gives back: the answer, with document 01's number and the values
+pub record Told : Type 0 where
+  pub answer : Packet
+  pub cause : ℕ
+  pub values : Values
+
+abbrev pub told : Packet → Told
+told p = record { answer = p; cause = causeIn p; values = valuesIn p }
 
 -- the answer for a packet that starts at a place: where its share lies, and how many hashes follow it
 abbrev pub placed : ℕ → Reading → Packet
@@ -26,6 +57,26 @@ placed at (shared number share path) = packet.Share number (at + 4) (length shar
 unfoldable pub readAt : ℕ → List ℕ → ℕ → Packet
 readAt n s at = cond (not (parties n)) (packet.Refused 1) (placed at (readOf n (drop at s)))
 
+-- what reading an entry gives back: the answer, with what is told of its packet
+pub record ToldEntry : Type 0 where
+  pub answer : Entry
+  pub packet : Told
+
+abbrev pub toldEntry : Entry → ToldEntry
+toldEntry e = record { answer = e; packet = told (e .packet) }
+
+-- the place behind the entry at a place: two bytes of length, and as many bytes as they tell
+abbrev pub nextAt : List ℕ → ℕ → ℕ
+nextAt s at = at + 2 + size (drop at s)
+
+-- the entry at a place of an inbox, among n parties: cause 1, then 8 where it runs short, and the place stays; else the packet that its bytes
+-- are, by its place in s, and the place behind it
+unfoldable pub entryAt : ℕ → List ℕ → ℕ → Entry
+entryAt n s at =
+    cond (not (parties n)) (record { packet = packet.Refused 1; next = at })
+    (cond (ltb (length s) (nextAt s at)) (record { packet = packet.Refused 8; next = at })
+    (record { packet = readAt n (take (nextAt s at) s) (at + 2); next = nextAt s at }))
+
 -- the path of `count` hashes at a place, as the reader tells it, and blanks past them; all blank where it is longer than any path or
 -- runs past the end
 unfoldable pub pathAt : List ℕ → ℕ → ℕ → List (List ℕ)
@@ -33,19 +84,47 @@ pathAt s at count =
     cond (ltb maxPath count || ltb (length s) (at + 32 * count)) (replicate maxPath blank)
     (hashes count (drop at s) ++ replicate (maxPath - count) blank)
 
--- the answer for a packet's class
-abbrev pub told : Class → Judged
-told silent = verdict.Silent
-told faulty = verdict.Faulty
-told (valid share path) = verdict.Valid 4 (length share) (length path)
+-- document 01's number of the cause for which a judgement was turned away; 0 if it was not
+abbrev pub verdictCause : Judged → ℕ
+verdictCause (judged.Refused k) = k
+verdictCause judged.Silent = 0
+verdictCause judged.Faulty = 0
+verdictCause judged.Valid = 0
 
--- a packet judged by the hash H: causes 1, 3 and 7, then its class
-unfoldable pub judgeOf : (List ℕ → List ℕ) → ℕ → ℕ → List ℕ → List ℕ → Judged
-judgeOf H n j root p =
-    cond (not (parties n)) (verdict.Refused 1)
-    (cond (not (numbered n j)) (verdict.Refused 3)
-    (cond (not (eqb (length root) 32)) (verdict.Refused 7)
-    (told (classOf H n j root p))))
+-- the value given with it: whether steps 4 and 5 may take the packet
+abbrev pub verdictValid : Judged → Bool
+verdictValid (judged.Refused k) = false
+verdictValid judged.Silent = false
+verdictValid judged.Faulty = false
+verdictValid judged.Valid = true
+
+-- what judging gives back: the answer, with document 01's number and the value
+pub record Verdict : Type 0 where
+  pub answer : Judged
+  pub cause : ℕ
+  pub valid : Bool
+
+abbrev pub verdict : Judged → Verdict
+verdict r = record { answer = r; cause = verdictCause r; valid = verdictValid r }
+
+module _ (H : List ℕ → List ℕ) where
+  -- what was read from s, judged: a share is valid if it has the number demanded, is no longer than a share may be, lies within s with its
+  -- path, and passes the path check by the hash H
+  abbrev pub verdictOn : ℕ → ℕ → List ℕ → List ℕ → Packet → Judged
+  verdictOn n j root s (packet.Refused k) = judged.Faulty
+  verdictOn n j root s packet.Silence = judged.Silent
+  verdictOn n j root s (packet.Share number from len count) =
+      cond (eqb number j && leb len maxShare && leb (from + len + 32 * count) (length s)
+      && passes H n j (take len (drop from s)) (hashes count (drop (from + len) s)) count root)
+      judged.Valid judged.Faulty
+
+  -- a packet that was read from s: causes 1, 3 and 7, then the judgement
+  unfoldable pub judgeOf : ℕ → ℕ → List ℕ → List ℕ → Packet → Judged
+  judgeOf n j root s p =
+      cond (not (parties n)) (judged.Refused 1)
+      (cond (not (numbered n j)) (judged.Refused 3)
+      (cond (not (eqb (length root) 32)) (judged.Refused 7)
+      (verdictOn n j root s p)))
 
 -- why the packet of a share of len bytes with `count` hashes is not written: n or the number out of its range (1, 3), or a packet that
 -- no reader would take (10, here by our own choice); 0: it is

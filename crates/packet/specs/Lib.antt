@@ -2,3 +2,4 @@ pub mod Format
 pub mod Inbox
 pub mod Class
 pub mod Answer
+pub mod Private

@@ -1,16 +1,14 @@
 // Packets: the bytes in which one party sends another a share with its audit path. Reading them, judging them, and writing them.
 ghost use mathlib.Core.Path.{_≡_};
-ghost use mathlib.Core.List.{List};
-ghost use Prim.Native.Nat.{ℕ, _+_, _-_, _*_, _≤_, _<_};
-ghost use lib.ListN.{length, getD, take, drop};
-ghost use Rattle.limits.specs.Limits.{maxParties, maxPath, maxShare};
+ghost use Prim.Native.Nat.{_+_, _*_, _≤_, _<_};
+ghost use lib.ListN.{length, take, drop};
+ghost use Rattle.limits.specs.Limits.{maxParties, maxPath, maxEntry};
 ghost use Rattle.buffer.specs.Given.{gave};
 ghost use Rattle.buffer.specs.Splice.{spliced};
-ghost use Rattle.packet.specs.Format.{packetOf, chained, hashes, shareIn};
-ghost use Rattle.merkle.specs.Shares.{passes};
-ghost use mathlib.Core.Bool.{true, false};
+ghost use Rattle.packet.specs.Format.{packetOf, chained, shareIn};
 ghost use Rattle.sha256.specs.Sha256.{sha256};
-ghost use Rattle.packet.specs.Answer.{readAt, placed, pathAt, judgeOf, writeCause, writeOf, writeEntryOf};
+ghost use Rattle.packet.specs.Answer.{told, readAt, placed, toldEntry, entryAt, pathAt, verdict, verdictOn, judgeOf};
+ghost use Rattle.packet.specs.Answer.{writeCause, writeOf, writeEntryOf};
 use buffer::Written;
 use limits::MAX_PATH;
 use limits::MAX_SHARE;
@@ -20,7 +18,7 @@ use merkle::Hash;
 
 // What stands at a place.
 pub enum Packet {
-    // Turned away for this cause of document 01: 1, n is out of its range, or 10, neither silence nor readable.
+    // Turned away for this cause of document 01: 1, n is out of its range; 8, its entry runs short; or 10, neither silence nor readable.
     Refused(u8),
     Silence,
     // A share: its number, where it lies and how long it is, and how many hashes of its path follow it.
@@ -32,23 +30,24 @@ pub enum Packet {
     },
 }
 
-// A packet judged against a number and a root.
+// An entry of an inbox: the packet in it, and where the next entry begins.
+pub struct Entry {
+    pub packet: Packet,
+    pub next: usize,
+}
+
+// A packet that was read, judged against a number and a root.
 pub enum Judged {
     // Turned away for this cause of document 01: 1, 3 or 7.
     Refused(u8),
     Silent,
     Faulty,
-    // The share of that number: where it lies and how long it is, and how many hashes of its path follow it.
-    Valid {
-        from: usize,
-        len: usize,
-        count: usize,
-    },
+    Valid,
 }
 
 // Reads the packet that stands from place at on to the end of s, among n parties.
 pub fn read_at(n: usize, s: &[u8], at: usize) -> Packet
-    ensures { λ r. ⌜ r ≡ readAt n (now (s .entry)) at ⌝ }
+    ensures { λ r. ⌜ told r ≡ told (readAt n (now (s .entry)) at) ⌝ }
 {
     if !limits::parties(n) {
         return Packet::Refused(1);
@@ -106,6 +105,42 @@ fn wide(x: u8) -> usize
     x as usize
 }
 
+// Reads the entry that stands at a place of an inbox, among n parties. The place stays where it is turned away.
+pub fn read_entry(n: usize, s: &[u8], at: usize) -> Entry
+    ensures { λ r. ⌜ toldEntry r ≡ toldEntry (entryAt n (now (s .entry)) at) ⌝ }
+{
+    if !limits::parties(n) {
+        return Entry {
+            packet: Packet::Refused(1),
+            next: at,
+        };
+    }
+    if s.len() < 2 {
+        return short(at);
+    }
+    if s.len() - 2 < at {
+        return short(at);
+    }
+    let from = at + 2;
+    let size = buffer::size_at(s, at);
+    if s.len() - from < size {
+        return short(at);
+    }
+    let next = from + size;
+    let packet = read_at(n, &s[..next], from);
+    Entry { packet, next }
+}
+
+// An entry that runs short.
+fn short(at: usize) -> Entry
+    ensures { λ r. ⌜ r ≡ record { packet = Packet.Refused 8; next = at } ⌝ }
+{
+    Entry {
+        packet: Packet::Refused(8),
+        next: at,
+    }
+}
+
 // The path of `count` hashes at a place. Blanks stand past it, and everywhere if it is longer than any path or runs past the end.
 pub fn path_at(s: &[u8], at: usize, count: usize) -> [Hash; MAX_PATH]
     ensures { λ r. ⌜ r ≡ pathAt (now (s .entry)) at count ⌝ }
@@ -143,9 +178,9 @@ fn hash_at(s: &[u8], at: usize) -> Hash
     hash
 }
 
-// Judges the packet that is s: whether it bears number j and its path leads to the root.
-pub fn judge(n: usize, j: usize, root: &[u8], s: &[u8]) -> Judged
-    ensures { λ r. ⌜ r ≡ judgeOf sha256 n j (now (root .entry)) (now (s .entry)) ⌝ }
+// Judges a packet that was read from s: whether it bears number j and its path leads to the root.
+pub fn judge(n: usize, j: usize, root: &[u8], s: &[u8], packet: Packet) -> Judged
+    ensures { λ r. ⌜ verdict r ≡ verdict (judgeOf sha256 n j (now (root .entry)) (now (s .entry)) packet) ⌝ }
 {
     if !limits::parties(n) {
         return Judged::Refused(1);
@@ -156,7 +191,6 @@ pub fn judge(n: usize, j: usize, root: &[u8], s: &[u8]) -> Judged
     if root.len() != 32 {
         return Judged::Refused(7);
     }
-    let packet = read_at(n, s, 0);
     if let Packet::Silence = packet {
         return Judged::Silent;
     }
@@ -172,11 +206,11 @@ pub fn judge(n: usize, j: usize, root: &[u8], s: &[u8]) -> Judged
     if number != j {
         return Judged::Faulty;
     }
-    judge_path(n, j, root, s, from, len, count)
+    judge_share(n, j, root, s, from, len, count)
 }
 
-// The same of a packet that bears number j and has its share and path at these places.
-fn judge_path(
+// The same of a share that bears number j. No place that it states is used before the bytes present are found to be as many.
+fn judge_share(
     n: usize,
     j: usize,
     root: &[u8],
@@ -185,17 +219,25 @@ fn judge_path(
     len: usize,
     count: usize,
 ) -> Judged
-    requires { ⌜ (1 ≤ n) × (n ≤ maxParties) × (1 ≤ j) × (j ≤ n) × (length (now root) ≡ 32) × (1 ≤ len) × (len ≤ maxShare)
-        × (from + len + 32 * count ≤ length (now s)) × (count ≤ maxPath) ⌝ }
-    ensures { λ r. ⌜ (passes sha256 n j (take len (drop from (now (s .entry)))) (hashes count (drop (from + len) (now (s .entry)))) count
-        (now (root .entry)) ≡ true → r ≡ Judged.Valid from len count)
-        × (passes sha256 n j (take len (drop from (now (s .entry)))) (hashes count (drop (from + len) (now (s .entry)))) count
-        (now (root .entry)) ≡ false → r ≡ Judged.Faulty) ⌝ }
+    requires { ⌜ (1 ≤ n) × (n ≤ maxParties) × (1 ≤ j) × (j ≤ n) × (length (now root) ≡ 32) ⌝ }
+    ensures { λ r. ⌜ r ≡ verdictOn sha256 n j (now (root .entry)) (now (s .entry)) (Packet.Share j from len count) ⌝ }
 {
+    if MAX_SHARE < len {
+        return Judged::Faulty;
+    }
+    if MAX_PATH < count {
+        return Judged::Faulty;
+    }
+    if s.len() < from {
+        return Judged::Faulty;
+    }
+    if s.len() - from < len + 32 * count {
+        return Judged::Faulty;
+    }
     let end = from + len;
     let path = path_at(s, end, count);
     if let Checked::Yes = merkle::check(n, j, &s[from..end], path, count, root) {
-        return Judged::Valid { from, len, count };
+        return Judged::Valid;
     }
     Judged::Faulty
 }
@@ -280,7 +322,7 @@ fn write_fields(
     out: &mut [u8],
     at: usize,
 )
-    requires { ⌜ (number < 256) × (length (now share) < 65536) × (count ≤ maxPath) × (at + (4 + length (now share) + 32 * count) ≤ length (now out)) ⌝ }
+    requires { ⌜ (number < 256) × (length (now share) ≤ maxEntry) × (count ≤ maxPath) × (at + (4 + length (now share) + 32 * count) ≤ length (now out)) ⌝ }
     ensures { λ _. ⌜ now (out .exit) ≡ spliced (now (out .entry)) at (packetOf number (now (share .entry)) (take count path)) ⌝ }
 {
     let len = share.len();
@@ -310,7 +352,7 @@ fn write_path(path: [Hash; MAX_PATH], count: usize, out: &mut [u8], at: usize)
     }
 }
 
-// A packet's bytes, read from a place that it remembers (document 01: the cursor).
+// An inbox, read entry by entry from a place that it remembers (document 01: the cursor).
 pub struct Reader<'a> {
     pub src: &'a [u8],
     pub at: usize,
@@ -323,16 +365,19 @@ pub fn start<'a>(src: &'a [u8]) -> Reader<'a>
     Reader { src, at: 0 }
 }
 
-// The packet at the reader's place, among n parties.
+// The packet of the entry at the reader's place, among n parties.
 pub fn next<'a>(r: Reader<'a>, n: usize) -> Packet
-    ensures { λ p. ⌜ p ≡ readAt n (now (r .entry .src)) (r .entry .at) ⌝ }
+    ensures { λ p. ⌜ told p ≡ told (entryAt n (now (r .entry .src)) (r .entry .at) .packet) ⌝ }
 {
-    read_at(n, r.src, r.at)
+    read_entry(n, r.src, r.at).packet
 }
 
-// The packet that the bytes are, among n parties: for callers that have no reader.
-pub fn read(s: &[u8], n: usize) -> Packet
-    ensures { λ r. ⌜ r ≡ readAt n (now (s .entry)) 0 ⌝ }
+// The reader at the next entry.
+pub fn moved<'a>(r: Reader<'a>, n: usize) -> Reader<'a>
+    ensures { λ q. ⌜ (q .src ≡ r .entry .src) × (q .at ≡ entryAt n (now (r .entry .src)) (r .entry .at) .next) ⌝ }
 {
-    next(start(s), n)
+    Reader {
+        src: r.src,
+        at: read_entry(n, r.src, r.at).next,
+    }
 }

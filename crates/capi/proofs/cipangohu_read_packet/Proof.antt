@@ -1,6 +1,7 @@
 -- `capi::cipangohu_read_packet` meets its contract: refused, silence, or the parts of a share. Assumes nothing.
 use mathlib.Core.Path.{sym, ap, _∙_}
 use native.Mathlib.Omega.{arith}
+use Rattle.packet.proofs.Reading.{told-one}
 use Rattle.capi.specs.Calls.{readAnswer, readPacketCall}
 use Rattle.capi.proofs.Tools.{read-silent, Parts, parts-of}
 use borrow.Author.Needs.{needs}
@@ -13,7 +14,7 @@ parts k =
     let d = k .before .before .before in
     let a = d .before .before .args in
     let g = k .reading2 .given in
-    parts-of (a .n) (a .packet .now) (g .0 .0) (g .0 .1 .0) (g .0 .1 .1 .0) (g .0 .1 .1 .1 .0) (sym (d .read-at .ensures) ∙ g .1)
+    parts-of (a .n) (a .packet .now) (g .0 .0) (g .0 .1 .0) (g .0 .1 .1 .0) (g .0 .1 .1 .1 .0) (sym (told-one (d .read-at .ensures)) ∙ g .1)
 
 read-at-requires : tie.Need-read-at-requires
 read-at-requires c κs = search needs
@@ -28,7 +29,7 @@ returns : tie.Need-returns
 unfolding readPacketCall
 returns c = let i = c .before .before in
     let d = i .before .before in
-    c .pack .ensures ∙ sym (ap readAnswer (sym (d .read-at .ensures) ∙ i .reading .given .1))
+    c .pack .ensures ∙ sym (ap readAnswer (sym (told-one (d .read-at .ensures)) ∙ i .reading .given .1))
 
 enum-known-reading-2 : tie.Need-enum-known-reading-2
 enum-known-reading-2 c = search needs
@@ -42,7 +43,7 @@ returns-2 c = let i = c .before in
     let e = i .before in
     let d = e .before in
     c .pack2 .ensures
-    ∙ sym (ap readAnswer (sym (d .read-at .ensures)) ∙ read-silent (d .read-at .result) (e .match .keys2) (i .match2 .keys2))
+    ∙ sym (ap readAnswer (sym (told-one (d .read-at .ensures))) ∙ read-silent (d .read-at .result) (e .match .keys2) (i .match2 .keys2))
 
 mul-pack : tie.Need-mul-pack
 mul-pack c = omega (arith, parts (c .before))
@@ -63,7 +64,7 @@ returns-3 : tie.Need-returns-3
 unfolding readPacketCall
 returns-3 c = let k = c .before .before in
     let d = k .before .before .before in
-    c .pack3 .ensures ∙ sym (ap readAnswer (sym (d .read-at .ensures) ∙ k .reading2 .given .1))
+    c .pack3 .ensures ∙ sym (ap readAnswer (sym (told-one (d .read-at .ensures)) ∙ k .reading2 .given .1))
 
 pub cipangohu-read-packet-spec : {M : Type 1} → statement M
 cipangohu-read-packet-spec =

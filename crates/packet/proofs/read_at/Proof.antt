@@ -8,7 +8,7 @@ use Rattle.limits.specs.Limits.{maxParties}
 use Rattle.limits.proofs.Booleans.{denied}
 use Rattle.limits.proofs.Ranges.{parties-told}
 use Rattle.packet.specs.Format.{Reading, readOf}
-use Rattle.packet.specs.Answer.{placed, readAt}
+use Rattle.packet.specs.Answer.{told, placed, readAt}
 use Rattle.packet.proofs.Reading.{map-at, at-parties, at-read}
 use Rattle.packet.proofs.Reading.{read-empty, read-share, read-other, read-alone, read-more}
 use borrow.Author.Needs.{needs}
@@ -33,24 +33,24 @@ range : (e : tie.Else1) → let a = Entry e .args in (1 ≤ a .n) × (a .n ≤ m
 range e = parties-told _ (e .before .parties .ensures) (e .if1 .left)
 
 -- the answer is that of what the packet says
-told : (e : tie.Else1) (r : Reading) → let st = Entry e in readOf (st .args .n) (P st) ≡ r
-    → placed (st .args .at) r ≡ readAt (st .args .n) (st .args .s .now) (st .args .at)
-told e r h =
+says : (e : tie.Else1) (r : Reading) → let st = Entry e in readOf (st .args .n) (P st) ≡ r
+    → told (placed (st .args .at) r) ≡ told (readAt (st .args .n) (st .args .s .now) (st .args .at))
+says e r h =
     let st = Entry e in
     let w = range e in
-    sym (at-read (st .args .n) (st .args .s .now) (st .args .at) (w .0) (w .1) ∙ ap (placed (st .args .at)) h)
+    ap told (sym (at-read (st .args .n) (st .args .s .now) (st .args .at) (w .0) (w .1) ∙ ap (placed (st .args .at)) h))
 
 parties-requires : tie.Need-parties-requires
 parties-requires c κs = search needs
 
 returns : tie.Need-returns
-returns c = sym (at-parties _ _ _ (denied (c .before .parties .ensures) (c .if1 .taken)))
+returns c = ap told (sym (at-parties _ _ _ (denied (c .before .parties .ensures) (c .if1 .taken))))
 
 returns-2 : tie.Need-returns-2
 returns-2 c =
     let e = c .before in
     let st = Entry e in
-    told e _ (read-empty (st .args .n) (P st) (omega (arith, long st)))
+    says e _ (read-empty (st .args .n) (P st) (omega (arith, long st)))
 
 shared-slice-read-map : tie.Need-shared-slice-read-map
 shared-slice-read-map c = search needs
@@ -63,14 +63,14 @@ returns-3 c =
     let t = c .before in
     let e = t .before .before .before in
     let st = Entry e in
-    c .read-share .ensures ∙ told e _ (read-share (st .args .n) (P st) (omega (arith, long st)) (map st ∙ t .if3 .taken))
+    ap told (c .read-share .ensures) ∙ says e _ (read-share (st .args .n) (P st) (omega (arith, long st)) (map st ∙ t .if3 .taken))
 
 returns-4 : tie.Need-returns-4
 returns-4 c =
     let f = c .before in
     let e = f .before .before .before in
     let st = Entry e in
-    told e _ (read-other (st .args .n) (P st) (omega (arith, long st))
+    says e _ (read-other (st .args .n) (P st) (omega (arith, long st))
     (λ q. f .if3 .left (sym (map st) ∙ q)) (λ q. c .if4 .taken (sym (map st) ∙ q)))
 
 sub-if5 : tie.Need-sub-if5
@@ -82,7 +82,7 @@ returns-5 c =
     let f = g .before in
     let e = f .before .before .before in
     let st = Entry e in
-    told e _ (read-alone (st .args .n) (P st) (omega (arith, long st))
+    says e _ (read-alone (st .args .n) (P st) (omega (arith, long st))
     (λ q. f .if3 .left (sym (map st) ∙ q)) (map st ∙ g .if4 .left) (omega (arith, long st)))
 
 returns-6 : tie.Need-returns-6
@@ -91,7 +91,7 @@ returns-6 c =
     let f = g .before in
     let e = f .before .before .before in
     let st = Entry e in
-    told e _ (read-more (st .args .n) (P st) (omega (arith, long st))
+    says e _ (read-more (st .args .n) (P st) (omega (arith, long st))
     (λ q. f .if3 .left (sym (map st) ∙ q)) (map st ∙ g .if4 .left) (λ q. c .if5 .left (sym (long st) ∙ q)))
 
 pub read-at-spec : {M : Type 1} → statement M

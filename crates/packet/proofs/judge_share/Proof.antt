@@ -1,6 +1,7 @@
--- `packet::judge_path` meets its contract: the check is of the path that lies behind the share. Assumes nothing.
-use mathlib.Core.Path.{_≡_, refl, sym, ap, ap₂, _∙_}
-use mathlib.Core.Bool.{Bool, true, false, false≢true}
+-- `packet::judge_share` meets its contract: each return is one outcome of the definition; the check is of the path that lies behind the
+-- share. Assumes nothing.
+use mathlib.Core.Path.{_≡_, sym, ap, ap₂, _∙_}
+use mathlib.Core.Bool.{Bool}
 use mathlib.Core.List.{List}
 use Prim.Native.Nat.{ℕ, _+_, _-_}
 use native.Mathlib.Omega.{arith}
@@ -11,21 +12,21 @@ use Rattle.merkle.specs.Shares.{blank, passes, told, checkOf}
 use Rattle.merkle.proofs.Judged.{check-judged}
 use Rattle.packet.specs.Format.{hashes}
 use Rattle.packet.proofs.Path.{padded, path-there, length-hashes}
-use Rattle.packet.proofs.Verdict.{leads, passes-take, told-true, told-false}
+use Rattle.packet.proofs.Verdict.{leads, passes-take, told-true, told-false, on-long, on-many, on-outside, on-failed, on-valid}
 use borrow.Author.Needs.{needs}
 use Rattle.sha256.specs.Sha256.{sha256}
-use Rattle.packet.proofs.judge_path.Statement.{statement}
-use Rattle.packet.proofs.judge_path.Tie as tie
+use Rattle.packet.proofs.judge_share.Statement.{statement}
+use Rattle.packet.proofs.judge_share.Tie as tie
 
 -- the function's entry, from where the path is checked
 abbrev Entry : tie.After-check → tie.Start
-Entry k = k .before .before .before .before .before
+Entry k = k .before .before .before .before .before .before .before .before .before
 
 -- whether the path leads to the root
 abbrev Leads : tie.After-check → Bool
 Leads k =
     let a = Entry k .args in
-    leads (a .n) (a .j) (a .root .now) (a .s .now) (a .from) (a .len) (a .count)
+    leads sha256 (a .n) (a .j) (a .root .now) (a .s .now) (a .from) (a .len) (a .count)
 
 -- the path read, the bytes of the share, and the part of the bytes that is passed on
 abbrev Path : tie.After-check → List (List ℕ)
@@ -81,6 +82,35 @@ answer k =
     ∙ ap told (passes-take (a .n) (a .j) (X k) (hashes (a .count) r) (replicate (maxPath - a .count) blank)
     (a .count) (a .root .now) (length-hashes (a .count) r))
 
+returns : tie.Need-returns
+returns c =
+    let a = c .before .before .before .args in
+    sym (on-long sha256 (a .n) (a .j) (a .root .now) (a .s .now) (a .from) (a .len) (a .count) (omega arith))
+
+returns-2 : tie.Need-returns-2
+returns-2 c =
+    let a = c .before .before .before .before .args in
+    sym (on-many sha256 (a .n) (a .j) (a .root .now) (a .s .now) (a .from) (a .len) (a .count) (omega arith) (omega arith) (omega arith) (omega arith))
+
+returns-3 : tie.Need-returns-3
+returns-3 c =
+    let a = c .before .before .before .before .before .args in
+    sym (on-outside sha256 (a .n) (a .j) (a .root .now) (a .s .now) (a .from) (a .len) (a .count) (omega arith) (omega arith))
+
+sub-if4 : tie.Need-sub-if4
+sub-if4 c = search needs
+
+mul-if4 : tie.Need-mul-if4
+mul-if4 c = search needs
+
+add-if4 : tie.Need-add-if4
+add-if4 c = search needs
+
+returns-4 : tie.Need-returns-4
+returns-4 c =
+    let a = c .before .before .before .before .before .before .args in
+    sym (on-outside sha256 (a .n) (a .j) (a .root .now) (a .s .now) (a .from) (a .len) (a .count) (omega arith) (omega arith))
+
 add-end : tie.Need-add-end
 add-end c = search needs
 
@@ -102,22 +132,31 @@ check-requires c κs = search needs
 enum-told : tie.Need-enum-told
 enum-told c = search needs
 
-returns : tie.Need-returns
-returns c =
+returns-5 : tie.Need-returns-5
+returns-5 c =
     let k = c .before .before in
-    let yes : Leads k ≡ true = told-true (Leads k) (sym (answer k) ∙ c .enum-told .given .1) in
-    (λ t. refl, λ f. absurd (false≢true (sym f ∙ yes)))
+    let a = Entry k .args in
+    sym (on-valid sha256 (a .n) (a .j) (a .root .now) (a .s .now) (a .from) (a .len) (a .count) (omega arith) (omega arith)
+    (told-true (Leads k) (sym (answer k) ∙ c .enum-told .given .1)))
 
-returns-2 : tie.Need-returns-2
-returns-2 c =
+returns-6 : tie.Need-returns-6
+returns-6 c =
     let k = c .before in
-    let no : Leads k ≡ false = told-false (k .check .result) (Leads k) (answer k) (c .match .keys2) in
-    (λ t. absurd (false≢true (sym no ∙ t)), λ f. refl)
+    let a = Entry k .args in
+    sym (on-failed sha256 (a .n) (a .j) (a .root .now) (a .s .now) (a .from) (a .len) (a .count)
+    (told-false (k .check .result) (Leads k) (answer k) (c .match .keys2)))
 
-pub judge-path-spec : {M : Type 1} → statement M
-judge-path-spec =
+pub judge-share-spec : {M : Type 1} → statement M
+judge-share-spec =
     tie.close
     (tie.spec
+    returns
+    returns-2
+    returns-3
+    sub-if4
+    mul-if4
+    add-if4
+    returns-4
     add-end
     path-at-requires
     sub-check
@@ -125,5 +164,5 @@ judge-path-spec =
     part-check-end
     check-requires
     enum-told
-    returns
-    returns-2)
+    returns-5
+    returns-6)
