@@ -2,7 +2,6 @@ pub mod Causes
 pub mod Outcomes
 pub mod Kept
 pub mod Silence
-pub mod Valid
 pub mod Walk
 pub mod Taking
 pub mod Ways

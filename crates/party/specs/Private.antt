@@ -1,13 +1,14 @@
 -- What the private functions suppose and give. No public contract cites this file. Assumes nothing.
 use mathlib.Core.Path.{_≡_}
-use mathlib.Core.List.{List}
+use mathlib.Core.List.{List, _++_}
 use Prim.Native.Nat.{ℕ, _+_, _*_, _≤_}
-use lib.ListN.{length, take, drop}
-use Rattle.limits.specs.Limits.{maxParties, maxMessage, maxShare, maxPath}
+use lib.ListN.{length}
+use Rattle.limits.specs.Limits.{maxParties, maxMessage, maxShare}
 use Rattle.buffer.specs.declared.Written.{Written}
 use Rattle.buffer.specs.declared.Written.the-variants.{Refused, Short, Done}
-use Rattle.packet.specs.Format.{hashes}
-use Rattle.packet.specs.Class.{Class, silent, faulty, valid}
+use Rattle.erasure.specs.Rebuild.{partsAt, allLie}
+use Rattle.erasure.specs.declared.Places.{Places}
+use Rattle.packet.specs.Private.{Lies}
 use Rattle.party.specs.Steps.{Taken, missing, found}
 use Rattle.party.specs.declared.Party.{Party}
 use Rattle.party.specs.declared.Answer.the-variants as answer
@@ -25,29 +26,17 @@ pub record Fit (x : Party) : Type 0 where
   pub short : x .len ≤ maxMessage
   pub few : x .held ≤ maxShare
 
--- a share of a list of bytes that was found, by its place there
-pub record Lies (s : List ℕ) (share : List ℕ) (path : List (List ℕ)) (from len count : ℕ) : Type 0 where
-  pub some : 1 ≤ len
-  pub most : len ≤ maxShare
-  pub few : count ≤ maxPath
-  pub inside : from + len + 32 * count ≤ length s
-  pub share-lies : share ≡ take len (drop from s)
-  pub path-lies : path ≡ hashes count (drop (from + len) s)
-
--- the answer for a class, and for a share taken
-abbrev pub ClassIs : Placed → Class → List ℕ → Type 0
-ClassIs Nowhere silent s = Unit {0}
-ClassIs Nowhere faulty s = Unit {0}
-ClassIs Nowhere (valid share path) s = ⊥
-ClassIs (At from len count) silent s = ⊥
-ClassIs (At from len count) faulty s = ⊥
-ClassIs (At from len count) (valid share path) s = Lies s share path from len count
-
+-- the answer for a share taken
 abbrev pub TakenIs : Placed → Taken → List ℕ → Type 0
 TakenIs Nowhere missing s = Unit {0}
 TakenIs Nowhere (found share path) s = ⊥
 TakenIs (At from len count) missing s = ⊥
 TakenIs (At from len count) (found share path) s = Lies s share path from len count
+
+-- these shares lie in x and in y behind it, each whole in one of the two
+pub record Gathered (shares : List (List ℕ)) (x y : List ℕ) (p : Places) : Type 0 where
+  pub lie : allLie (length shares) (length x) (length y) p ≡ true
+  pub parts : partsAt (length shares) (x ++ y) p ≡ shares
 
 -- what comes of writing: the next state where bytes were written, else the state as it was
 abbrev pub after : Party → Party → Written → Reply

@@ -9,22 +9,21 @@ ghost use Rattle.limits.specs.Limits.{maxParties, maxMessage, maxShare};
 ghost use Rattle.buffer.specs.Splice.{spliced};
 ghost use Rattle.buffer.specs.Entries.{fills, bodies};
 ghost use Rattle.merkle.specs.Shares.{blank};
-ghost use Rattle.packet.specs.Format.{entryOf};
-ghost use Rattle.packet.specs.Inbox.{inboxOf};
-ghost use Rattle.packet.specs.Class.{classOf};
 ghost use Rattle.commitment.specs.Commitment.{mailWith};
-ghost use Rattle.party.specs.State.{padded, messageIn, settled, blankState, overlong, broken, happy};
+ghost use Rattle.party.specs.State.{padded, messageIn, shareHeld, settled, blankState, overlong, broken, happy};
 ghost use Rattle.party.specs.Steps.{turnOf, stateCause, inboxCause, firstValid, gathered};
 ghost use Rattle.party.specs.Steps.{stepped, writes, ending, openOf, agreeRootOf, agreeBitOf, takeSharesOf, takeRelaysOf};
-ghost use Rattle.party.specs.Private.{Fit, ClassIs, TakenIs, after};
+ghost use Rattle.party.specs.Private.{Fit, TakenIs, Gathered, after};
 use buffer::Written;
 use commitment::Rooted;
 use commitment::Sent;
+use erasure::Places;
 use limits::MAX_MESSAGE;
 use limits::MAX_PARTIES;
 use limits::MAX_SHARE;
-use merkle::Checked;
 use merkle::Hash;
+use packet::Entry;
+use packet::Judged;
 use packet::Packet;
 
 // The result of a session: nothing, or a message of so many bytes.
@@ -83,9 +82,6 @@ pub struct Reply {
     pub state: Party,
     pub answer: Answer,
 }
-
-// The greatest length of n entries with a share each.
-const MAX_ENTRIES: usize = MAX_PARTIES * (MAX_SHARE + 2);
 
 // What came of sending: whether the party is happy, and what the step then gives back.
 struct Tried {
@@ -213,13 +209,16 @@ impl Party {
             let message = self.message;
             return self.settle(&message[..len], out);
         }
-        let mut entries = [0u8; MAX_ENTRIES];
-        let size = self.gather(inbox, &mut entries);
+        let places = self.gather(inbox);
+        let share = self.share;
+        let held = self.held;
         let mut message = [0u8; MAX_MESSAGE];
-        let Written::Done(len) = erasure::rebuild(
+        let Written::Done(len) = erasure::rebuild_at(
             self.seat.n,
             self.seat.t,
-            &entries[..size],
+            inbox,
+            &share[..held],
+            places,
             &mut message,
         ) else {
             return Reply {
@@ -307,36 +306,43 @@ impl Party {
         }
     }
 
-    // The entries to rebuild from: from each sender j a share numbered j that passes the check, and the own relayed share.
-    fn gather(self, inbox: &[u8], entries: &mut [u8]) -> usize
-        requires { ⌜ Fit self × (fills (self .seat .n) (now inbox) ≡ true) × (length (now entries) ≡ maxParties * (maxShare + 2)) ⌝ }
-        ensures { λ r. ⌜ (r ≤ length (now (entries .exit))) × (take r (now (entries .exit)) ≡ inboxOf (gathered sha256 self 1 (bodies (self .seat .n) (now (inbox .entry))))) ⌝ }
+    // Where the shares lie to rebuild from: of each sender j a share numbered j that passes the check, in the inbox; the own relayed share, behind it.
+    fn gather(self, inbox: &[u8]) -> Places
+        requires { ⌜ Fit self × (fills (self .seat .n) (now inbox) ≡ true) ⌝ }
+        ensures { λ r. ⌜ Gathered (gathered sha256 self 1 (bodies (self .seat .n) (now (inbox .entry)))) (now (inbox .entry)) (shareHeld self) r ⌝ }
     {
         let n = self.seat.n;
         let own = self.seat.own;
         let root = self.root;
-        let share = self.share;
-        let held = self.held;
+        let mut from = [0usize; MAX_PARTIES];
+        let mut len = [0usize; MAX_PARTIES];
         let mut at: usize = 0;
-        let mut to: usize = 0;
         let mut j: usize = 0;
         while j < n {
-            let size = buffer::size_at(inbox, at);
-            let from = at + 2;
-            at = from + size;
+            let Entry { packet, next } = packet::read_entry(n, inbox, at);
+            let i = j;
+            at = next;
             j += 1;
             if j == own {
-                to = put_entry(entries, to, &share[..held]);
+                from[i] = inbox.len();
+                len[i] = self.held;
                 continue;
             }
-            let Placed::At(place, len, _) = valid_at(n, j, &root, inbox, from, at) else {
-                to = put_entry(entries, to, &[]);
+            let Packet::Share {
+                from: start,
+                len: size,
+                ..
+            } = packet
+            else {
                 continue;
             };
-            let end = place + len;
-            to = put_entry(entries, to, &inbox[place..end]);
+            let Judged::Valid = packet::judge(n, j, &root, inbox, packet) else {
+                continue;
+            };
+            from[i] = start;
+            len[i] = size;
         }
-        to
+        Places { from, len }
     }
 
     // Cause 5 or 6, or 0.
@@ -463,32 +469,6 @@ enum Placed {
     At(usize, usize, usize),
 }
 
-// The packet between two places of an inbox, if it bears number j and its path leads to the root.
-fn valid_at(n: usize, j: usize, root: &Hash, inbox: &[u8], from: usize, to: usize) -> Placed
-    requires { ⌜ (1 ≤ n) × (n ≤ maxParties) × (1 ≤ j) × (j ≤ n) × (from ≤ to) × (to ≤ length (now inbox)) × (length (now root) ≡ 32) ⌝ }
-    ensures { λ r. ⌜ ClassIs r (classOf sha256 n j (now (root .entry)) (take (to - from) (drop from (now (inbox .entry))))) (now (inbox .entry)) ⌝ }
-{
-    let bytes = &inbox[from..to];
-    let Packet::Share {
-        number,
-        from: start,
-        len,
-        count,
-    } = packet::read(bytes, n)
-    else {
-        return Placed::Nowhere;
-    };
-    if number != j {
-        return Placed::Nowhere;
-    }
-    let end = start + len;
-    let path = packet::path_at(bytes, end, count);
-    if let Checked::Yes = merkle::check(n, j, &bytes[start..end], path, count, root) {
-        return Placed::At(from + start, len, count);
-    }
-    Placed::Nowhere
-}
-
 // What the lowest-numbered sender gave whose packet bears the own number and passes the check; the own entry is ignored.
 fn first_valid(n: usize, own: usize, root: &Hash, inbox: &[u8]) -> Placed
     requires { ⌜ (1 ≤ n) × (n ≤ maxParties) × (1 ≤ own) × (own ≤ n) × (fills n (now inbox) ≡ true) × (length (now root) ≡ 32) ⌝ }
@@ -497,30 +477,27 @@ fn first_valid(n: usize, own: usize, root: &Hash, inbox: &[u8]) -> Placed
     let mut at: usize = 0;
     let mut j: usize = 0;
     while j < n {
-        let size = buffer::size_at(inbox, at);
-        let from = at + 2;
-        at = from + size;
+        let Entry { packet, next } = packet::read_entry(n, inbox, at);
+        at = next;
         j += 1;
         if j == own {
             continue;
         }
-        let Placed::At(place, len, count) = valid_at(n, own, root, inbox, from, at) else {
+        let Packet::Share {
+            from,
+            len,
+            count,
+            ..
+        } = packet
+        else {
             continue;
         };
-        return Placed::At(place, len, count);
+        let Judged::Valid = packet::judge(n, own, root, inbox, packet) else {
+            continue;
+        };
+        return Placed::At(from, len, count);
     }
     Placed::Nowhere
-}
-
-// An entry of a share; the place behind it.
-fn put_entry(entries: &mut [u8], at: usize, share: &[u8]) -> usize
-    requires { ⌜ (length (now share) < 65536) × (at + 2 + length (now share) ≤ length (now entries)) ⌝ }
-    ensures { λ r. ⌜ (r ≡ at + 2 + length (now (share .entry))) × (now (entries .exit) ≡ spliced (now (entries .entry)) at (entryOf (now (share .entry)))) ⌝ }
-{
-    let len = share.len();
-    buffer::put(entries, at, &[(len / 256 % 256) as u8, (len % 256) as u8]);
-    buffer::put(entries, at + 2, share);
-    at + 2 + len
 }
 
 fn blank() -> Party

@@ -1,20 +1,25 @@
 -- `party::first_valid` meets its contract: what the search says of the whole inbox is what it says of the entries still to
 -- come. Assumes nothing.
-use mathlib.Core.Path.{_≡_, sym, subst, _∙_}
+use mathlib.Core.Path.{_≡_, refl, sym, ap, subst, _∙_}
 use mathlib.Core.Bool.{true}
 use mathlib.Core.List.{List}
 use Prim.Native.Nat.{ℕ, _+_, _-_, _≤_}
-use native.Mathlib.Nat.{sub-zero, add-sub-cancel-left}
+use native.Mathlib.Nat.{sub-zero}
 use native.Mathlib.Omega.{arith}
-use lib.ListN.{length, take, drop}
-use Rattle.buffer.specs.Entries.{fills, bodies}
-use Rattle.buffer.proofs.Entries.{Whole, whole}
-use Rattle.packet.specs.Class.{classOf}
+use lib.ListN.{length, drop}
+use Rattle.buffer.specs.Entries.{size, fills, bodies}
+use Rattle.packet.specs.Answer.{nextAt}
+use Rattle.packet.specs.declared.Entry.{Entry}
+use Rattle.packet.specs.declared.Packet.{Packet}
+use Rattle.packet.specs.Answer.{placed}
+use Rattle.packet.specs.Format.{readOf}
+use Rattle.packet.specs.Private.{bodyAt}
+use Rattle.packet.proofs.Entries.{entry-one, Stands, entry-stands}
+use Rattle.packet.proofs.Verdict.{verdict-one, class-unread, class-passed-over, class-taken}
 use Rattle.party.specs.Steps.{Taken, firstValid}
-use Rattle.party.specs.Private.{ClassIs, TakenIs}
-use Rattle.party.specs.declared.Placed.{Placed}
+use Rattle.party.specs.Private.{TakenIs}
 use Rattle.party.specs.declared.Placed.the-variants.{Nowhere, At as Found}
-use Rattle.party.proofs.Walk.{bodyAt, first-own, first-later, first-taken, first-none}
+use Rattle.party.proofs.Walk.{first-own, first-later, first-taken, first-none}
 use borrow.Author.Needs.{needs}
 use Rattle.sha256.specs.Sha256.{sha256}
 use Rattle.party.proofs.first_valid.Statement.{statement}
@@ -47,32 +52,31 @@ At c = c .before .loop .at
 abbrev J : tie.In-loop Inv-loop μ-loop → ℕ
 J c = c .before .loop .j
 
--- the entry is whole
-entry : (c : tie.In-loop Inv-loop μ-loop) → Whole (N c - (J c + 1)) (N c - J c) (At c) (S c) (omega arith)
-entry c = whole _ _ _ _ _ (c .before .loop .inv .2)
+-- the entry of a turn, and what was read of it
+stands : (c : tie.In-loop Inv-loop μ-loop) → Stands (N c) (N c - (J c + 1)) (At c) (S c)
+stands c =
+    let p = c .before .before .before .pre in
+    entry-stands (N c) (N c - (J c + 1)) (N c - J c) (At c) (S c) (p .0) (p .1) (omega arith) (c .before .loop .inv .2)
 
--- the answer for the entry's packet
-answered : (c : tie.After-valid-at Inv-loop μ-loop) → let d = c .before .before .before in (r : Placed) → c .valid-at .result ≡ r
-    → ClassIs r (classOf sha256 (N d) (Own d) (Z d) (bodyAt (At d) (S d))) (S d)
-answered c r q =
-    let d = c .before .before .before in
-    let k = c .before .before .size-at in
-    subst (λ (x : Placed). ClassIs x (classOf sha256 (N d) (Own d) (Z d) (bodyAt (At d) (S d)))
-    (S d)) q
-    (subst (λ (i : ℕ). ClassIs (c .valid-at .result) (classOf sha256 (N d) (Own d) (Z d) (take i (drop (At d + 2) (S d)))) (S d))
-    (add-sub-cancel-left (At d + 2) (k .result) ∙ k .ensures) (c .valid-at .ensures))
+read : (r : tie.After-read-entry Inv-loop μ-loop) → let d = r .before in
+    r .read-entry .result ≡ record { packet = placed (At d + 2) (readOf (N d) (bodyAt (At d) (S d))); next = nextAt (S d) (At d) }
+read r = entry-one (r .read-entry .ensures) ∙ stands (r .before) .read
+
+next : (r : tie.After-read-entry Inv-loop μ-loop) → let d = r .before in r .read-entry .result .next ≡ nextAt (S d) (At d)
+next r = ap (λ (e : Entry). e .next) (read r)
+
+packet : (r : tie.After-read-entry Inv-loop μ-loop) → let d = r .before in
+    r .read-entry .result .packet ≡ placed (At d + 2) (readOf (N d) (bodyAt (At d) (S d)))
+packet r = ap (λ (e : Entry). e .packet) (read r)
+
+room : (d : tie.In-loop Inv-loop μ-loop) → At d + 2 + size (drop (At d) (S d)) ≤ length (S d)
+room d = stands d .inside
 
 loop-holds : tie.Need-loop-holds Inv-loop μ-loop
 loop-holds c = (omega arith, omega arith, rw sub-zero (c .before .pre .4), rw sub-zero)
 
-size-at-requires : tie.Need-size-at-requires Inv-loop μ-loop
-size-at-requires c κs = search needs
-
-add-from : tie.Need-add-from Inv-loop μ-loop
-add-from c = omega (arith, entry (c .before), c .size-at .ensures)
-
-add-at : tie.Need-add-at Inv-loop μ-loop
-add-at c = omega (arith, entry (c .before), c .size-at .ensures)
+read-entry-requires : tie.Need-read-entry-requires Inv-loop μ-loop
+read-entry-requires c κs = search needs
 
 add-j : tie.Need-add-j Inv-loop μ-loop
 add-j c = search needs
@@ -82,52 +86,77 @@ loop-less c = search needs
 
 loop-again : tie.Need-loop-again Inv-loop μ-loop
 loop-again c =
-    let d = c .before .before in
-    let k = c .before .size-at .ensures in (
-      omega (arith, entry d, k),
+    let r = c .before in
+    let d = r .before in (
+      omega (arith, next r, room d),
       omega arith,
-      rw k (entry d .tail),
-      rw k (d .before .loop .inv .3 ∙ first-own sha256 (N d) (Own d) (Z d) (N d - (J d + 1)) (N d - J d) (J d + 1) (At d) (S d)
+      rw (next r) (stands d .tail),
+      rw (next r) (d .before .loop .inv .3 ∙ first-own sha256 (N d) (Own d) (Z d) (N d - (J d + 1)) (N d - J d) (J d + 1) (At d) (S d)
           (omega arith) (c .if1 .taken)),
     )
 
-valid-at-requires : tie.Need-valid-at-requires Inv-loop μ-loop
-valid-at-requires c κs =
-    let d = c .before .before in
-    let st = d .before .before .before in
-    let k = c .before .size-at .ensures in
-    (st .pre .0, st .pre .1, st .pre .2, st .pre .3, omega arith, omega (arith, entry d, k), st .pre .5)
-
-enum-known-place : tie.Need-enum-known-place Inv-loop μ-loop
-enum-known-place c = search needs
-
-enum-told : tie.Need-enum-told Inv-loop μ-loop
-enum-told c = search needs
+enum-known-packet : tie.Need-enum-known-packet Inv-loop μ-loop
+enum-known-packet c = search needs
 
 loop-less-2 : tie.Need-loop-less-2 Inv-loop μ-loop
 loop-less-2 c = search needs
 
 loop-again-2 : tie.Need-loop-again-2 Inv-loop μ-loop
 loop-again-2 c =
-    let r = c .before .before in
-    let d = r .before .before .before in
-    let k = r .before .before .size-at .ensures in (
-      omega (arith, entry d, k),
+    let e = c .before in
+    let r = e .before in
+    let d = r .before in (
+      omega (arith, next r, room d),
       omega arith,
-      rw k (entry d .tail),
-      rw k (d .before .loop .inv .3 ∙ first-later sha256 (N d) (Own d) (Z d) (N d - (J d + 1)) (N d - J d) (J d + 1) (At d) (S d)
-          (omega arith) (r .before .if1 .left) (answered r Nowhere (c .enum-told .given .1))),
+      rw (next r) (stands d .tail),
+      rw (next r) (d .before .loop .inv .3 ∙ first-later sha256 (N d) (Own d) (Z d) (N d - (J d + 1)) (N d - J d) (J d + 1) (At d) (S d)
+          (omega arith) (e .if1 .left)
+          (class-unread sha256 (N d) (Own d) (Z d) (S d) (At d + 2) (size (drop (At d) (S d))) (room d) _ (packet r) (c .match .keys2))),
+    )
+
+judge-requires : tie.Need-judge-requires Inv-loop μ-loop
+judge-requires c κs = search needs
+
+enum-told : tie.Need-enum-told Inv-loop μ-loop
+enum-told c = search needs
+
+loop-less-3 : tie.Need-loop-less-3 Inv-loop μ-loop
+loop-less-3 c = search needs
+
+loop-again-3 : tie.Need-loop-again-3 Inv-loop μ-loop
+loop-again-3 c =
+    let j = c .before in
+    let k = j .before .before .before in
+    let e = k .before .before in
+    let r = e .before in
+    let d = r .before in
+    let p = d .before .before .before .pre in (
+      omega (arith, next r, room d),
+      omega arith,
+      rw (next r) (stands d .tail),
+      rw (next r) (d .before .loop .inv .3 ∙ first-later sha256 (N d) (Own d) (Z d) (N d - (J d + 1)) (N d - J d) (J d + 1) (At d) (S d)
+          (omega arith) (e .if1 .left)
+          (class-passed-over sha256 (N d) (Own d) (Z d) (S d) (At d + 2) (size (drop (At d) (S d))) (room d) _
+          (sym (k .packet .given .1) ∙ packet r) (p .0) (p .1) (p .2) (p .3) (p .5) (j .judge .result) (verdict-one (j .judge .ensures)) (c .match2 .keys2))),
     )
 
 returns : tie.Need-returns Inv-loop μ-loop
 returns c =
-    let p = c .before in
-    let r = p .before .before in
-    let d = r .before .before .before in
-    let g = p .place .given .0 in
-    subst (λ (t : Taken). TakenIs (Found (g .0) (g .1 .0) (g .1 .1 .0)) t (S d)) (sym (d .before .loop .inv .3))
-    (first-taken sha256 (N d) (Own d) (Z d) (N d - (J d + 1)) (N d - J d) (J d + 1) (At d) (S d) (omega arith) (r .before .if1 .left)
-    (g .0) (g .1 .0) (g .1 .1 .0) (answered r (Found (g .0) (g .1 .0) (g .1 .1 .0)) (p .place .given .1)))
+    let j = c .before .before in
+    let k = j .before .before .before in
+    let e = k .before .before in
+    let r = e .before in
+    let d = r .before in
+    let p = d .before .before .before .pre in
+    let g = k .packet .given .0 in
+    let from = g .1 .0 in
+    let len = g .1 .1 .0 in
+    let count = g .1 .1 .1 .0 in
+    subst (λ (t : Taken). TakenIs (Found from len count) t (S d)) (sym (d .before .loop .inv .3))
+    (first-taken sha256 (N d) (Own d) (Z d) (N d - (J d + 1)) (N d - J d) (J d + 1) (At d) (S d) (omega arith) (e .if1 .left) from len count
+    (class-taken sha256 (N d) (Own d) (Z d) (S d) (At d + 2) (size (drop (At d) (S d))) (room d) _ (sym (k .packet .given .1) ∙ packet r)
+    (p .0) (p .1) (p .2) (p .3) (p .5) (j .judge .result) (verdict-one (j .judge .ensures)) (g .0) from len count refl
+    (c .enum-told .given .1)))
 
 returns-2 : tie.Need-returns-2 Inv-loop μ-loop
 returns-2 c =
@@ -144,16 +173,16 @@ first-valid-spec =
     Inv-loop
     μ-loop
     loop-holds
-    size-at-requires
-    add-from
-    add-at
+    read-entry-requires
     add-j
     loop-less
     loop-again
-    valid-at-requires
-    enum-known-place
-    enum-told
+    enum-known-packet
     loop-less-2
     loop-again-2
+    judge-requires
+    enum-told
+    loop-less-3
+    loop-again-3
     returns
     returns-2)
