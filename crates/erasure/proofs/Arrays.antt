@@ -12,7 +12,7 @@ use lib.Seq.{ext-getD, getD-drop, getD-take, length-take-le}
 use Rattle.buffer.specs.Splice.{spliced, putOf, tabulate}
 use Rattle.buffer.proofs.Splice.{put-fits, spliced-more}
 use Rattle.buffer.proofs.Tabulate.{length-tabulate, getD-tabulate, tabulate-cong}
-use Rattle.limits.specs.Limits.{maxParties}
+use Rattle.limits.specs.Limits.{maxParties, maxEntry}
 use Rattle.gf256.specs.Field.{product}
 use Rattle.polynomial.specs.Polynomial.{value, sum}
 use Rattle.polynomial.proofs.Value.{value-cong}
@@ -24,7 +24,7 @@ use Rattle.erasure.proofs.Field.{byte-horner}
 use Rattle.erasure.proofs.Frame.{getD-block, shareByte-at}
 
 -- byte i of b blocks of s bytes lies in a block, and within it
-pub filled : (b s i : ℕ) → i < b * s → 0 < s
+filled : (b s i : ℕ) → i < b * s → 0 < s
 filled b zero i h = absurd (omega (arith, mul-zero b))
 filled b (suc s) i h = omega arith
 
@@ -68,7 +68,7 @@ take-table l n f h e =
     (λ i k. let b : i < n = subst (λ (m : ℕ). i < m) long k in getD-take n l i 0 b ∙ e i b ∙ sym (getD-tabulate n f i 0 b))
 
 -- the bytes of b blocks are few enough to be counted
-pub blocks-small : (b s : ℕ) → b ≤ maxParties → s < 65536 → b * s ≤ maxParties * 65536
+pub blocks-small : (b s : ℕ) → b ≤ maxParties → s ≤ maxEntry → b * s ≤ maxParties * maxEntry
 blocks-small b s hb hs = omega (arith, mul-le-mul-right s hb)
 
 pub inside : (b s k c : ℕ) → k < b → c < s → k * s + c < b * s
@@ -92,10 +92,10 @@ pub share-all : (f : List ℕ) (b s c j : ℕ) → value bytes b (λ i. getD (bl
 unfolding shareByte
 share-all f b s c j = value-cong bytes b j (λ i l. ap (λ (q : ℕ). getD (block s f q) c 0) (zero-add i))
 
-pub length-combined : (b s : ℕ) (table es places : List ℕ) → length (combined b s table es places) ≡ b * s
+pub length-combined : (b s : ℕ) (table es from : List ℕ) → length (combined b s table es from) ≡ b * s
 unfolding combined
-length-combined b s table es places =
-    length-tabulate (b * s) (λ i. sum bytes b (λ m. product (getD table (cell (i / s) m) 0) (getD es (getD places m 0 + i % s) 0)))
+length-combined b s table es from =
+    length-tabulate (b * s) (λ i. sum bytes b (λ m. product (getD table (cell (i / s) m) 0) (getD es (getD from m 0 + i % s) 0)))
 
 -- shares, one behind the other
 

@@ -1,75 +1,127 @@
--- Laws of the search for the present shares: what one entry adds, and the arrays that hold those found. Assumes nothing.
-use mathlib.Core.Path.{_≡_, sym, ap, ap₂, _∙_}
-use mathlib.Core.Logic.{_≢_}
-use mathlib.Core.List.{List, [], _∷_, _++_, append-assoc}
-use Prim.Native.Nat.{ℕ, suc, _+_, _-_, _<_, _≤_}
-use native.Mathlib.Decide.{ℕ-discrete}
+-- Laws of the search for the present shares: what one share adds, and the arrays that hold those found. Assumes nothing.
+use mathlib.Core.Path.{_≡_, sym, ap, _∙_}
+use mathlib.Core.Bool.{Bool, true, false, cond}
+use mathlib.Core.List.{List, [], _∷_, _++_, append-nil}
+use Prim.Native.Nat.{ℕ, _+_, _<_, _≤_}
+use native.Mathlib.Nat.{add-zero}
 use native.Mathlib.Numerals.{add-one}
 use native.Mathlib.Omega.{arith}
 use borrow.Author.Tests.{eq-eqb, ne-eqb}
-use lib.ListN.{length, getD, take, drop, set, length-take, length-drop}
-use lib.Seq.{getD-set-same, getD-set-other, take-at, length-take-le}
+use lib.Dec.{eqb}
+use lib.ListN.{length, getD, take, drop, set, length-take, length-append}
+use lib.Seq.{take-all, take-append-le}
+use Rattle.limits.specs.Limits.{maxEntry}
 use Rattle.buffer.specs.Splice.{tabulate}
-use Rattle.buffer.specs.Entries.{size, bodies}
-use Rattle.buffer.proofs.Tabulate.{length-tabulate, tabulate-cong}
-use Rattle.buffer.proofs.Entries.{bodies-more, size-drop}
-use Rattle.erasure.specs.Rebuild.{Point, present}
-use Rattle.erasure.specs.Arrays.{held, Within}
+use Rattle.buffer.proofs.Parts.{length-part}
+use Rattle.buffer.proofs.Tabulate.{length-tabulate}
+use Rattle.erasure.specs.Rebuild.{Point, present, partAt, partsAt}
+use Rattle.erasure.specs.Arrays.{held, InOne, Lie, Within, Picked}
+use Rattle.erasure.specs.declared.Places.{Places}
+use Rattle.erasure.proofs.Placed.{lies-in-one, tabulate-more, both-set, set-other, set-same}
 
--- a length in two bytes
-pub size-lt : (s : List ℕ) (at : ℕ) → ((i : ℕ) → getD s i 0 < 256) → size (drop at s) < 65536
-size-lt s at h = omega (arith, size-drop at s, h at, h (at + 1))
+-- one entry, present or not, before others
+before : (j : ℕ) (e : List ℕ) (t : Bool) (P Q R : List Point) → P ≡ Q ++ R
+    → cond t P (record { number = j; share = e } ∷ P) ≡ cond t Q (record { number = j; share = e } ∷ Q) ++ R
+before j e true P Q R h = h
+before j e false P Q R h = ap (λ (ps : List Point). record { number = j; share = e } ∷ ps) h
 
--- One entry, numbered j, with m after it, at a place of s.
-module _ (m n j at : ℕ) (s : List ℕ) (e : n ≡ suc m) where
-  pub present-missing : size (drop at s) ≡ 0
-      → present j (bodies n (drop at s)) ≡ present (j + 1) (bodies m (drop (at + 2 + size (drop at s)) s))
+present-append : (j : ℕ) (es fs : List (List ℕ)) → present j (es ++ fs) ≡ present j es ++ present (j + length es) fs
+unfolding present
+present-append j [] fs = ap (λ (k : ℕ). present k fs) (sym (add-zero j))
+present-append j (e ∷ es) fs =
+    let n : j + 1 + length es ≡ j + length (e ∷ es) = omega arith in
+    before j e (eqb (length e) 0) (present (j + 1) (es ++ fs)) (present (j + 1) es) (present (j + length (e ∷ es)) fs)
+    (present-append (j + 1) es fs ∙ ap (λ (k : ℕ). present (j + 1) es ++ present k fs) n)
+
+-- Share j + 1, behind j others.
+module _ (s : List ℕ) (p : Places) (j : ℕ) where
+  parts-more : present 1 (partsAt (j + 1) s p) ≡ present 1 (partsAt j s p) ++ present (j + 1) (partAt s p j ∷ [])
+  unfolding partsAt tabulate
+  parts-more =
+      let n : 1 + length (partsAt j s p) ≡ j + 1 = omega (arith, length-tabulate j (partAt s p)) in
+      ap (λ (k : ℕ). present 1 (partsAt k s p)) (add-one j) ∙ present-append 1 (partsAt j s p) (partAt s p j ∷ [])
+      ∙ ap (λ (k : ℕ). present 1 (partsAt j s p) ++ present k (partAt s p j ∷ [])) n
+
+  parts-missing : getD (p .len) j 0 ≡ 0 → present 1 (partsAt (j + 1) s p) ≡ present 1 (partsAt j s p)
   unfolding present
-  present-missing z =
-      let none : length (take (size (drop at s)) (drop (at + 2) s)) ≡ 0 = length-take (size (drop at s)) (drop (at + 2) s) ∙ omega arith in
-      rw (bodies-more m n at s e, eq-eqb (length (take (size (drop at s)) (drop (at + 2) s))) 0 none)
+  parts-missing z =
+      let none : length (partAt s p j) ≡ 0 = length-take (getD (p .len) j 0) (drop (getD (p .from) j 0) s) ∙ omega arith in
+      parts-more ∙ rw (eq-eqb (length (partAt s p j)) 0 none) (append-nil (present 1 (partsAt j s p)))
 
-  pub present-found : (size (drop at s) ≡ 0 → ⊥) → 2 + size (drop at s) ≤ length s - at
-      → present j (bodies n (drop at s))
-      ≡ record { number = j; share = take (size (drop at s)) (drop (at + 2) s) } ∷ present (j + 1) (bodies m (drop (at + 2 + size (drop at s)) s))
+  parts-found : 1 ≤ getD (p .len) j 0 → getD (p .from) j 0 + getD (p .len) j 0 ≤ length s
+      → present 1 (partsAt (j + 1) s p) ≡ present 1 (partsAt j s p) ++ (record { number = j + 1; share = partAt s p j } ∷ [])
   unfolding present
-  present-found z h =
-      let some : length (take (size (drop at s)) (drop (at + 2) s)) ≡ 0 → ⊥ =
-      λ q. z (sym (length-take-le (size (drop at s)) (drop (at + 2) s) (omega (arith, length-drop (at + 2) s))) ∙ q) in
-      rw (bodies-more m n at s e, ne-eqb (length (take (size (drop at s)) (drop (at + 2) s))) 0 some)
+  parts-found some h =
+      let there : length (partAt s p j) ≡ 0 → ⊥ = λ q. omega (arith, length-part s (getD (p .from) j 0) (getD (p .len) j 0) h) in
+      parts-more ∙ rw (ne-eqb (length (partAt s p j)) 0 there)
 
-pub present-none : (n j at : ℕ) (s : List ℕ) → n ≡ 0 → present j (bodies n (drop at s)) ≡ []
-unfolding present bodies
-present-none n j at s e = rw e
-
-pub length-held : (s N P L : List ℕ) (k : ℕ) → length (held s N P L k) ≡ k
+pub length-held : (s N F L : List ℕ) (k : ℕ) → length (held s N F L k) ≡ k
 unfolding held
-length-held s N P L k = length-tabulate k (λ m. record { number = getD N m 0; share = take (getD L m 0) (drop (getD P m 0) s) })
+length-held s N F L k = length-tabulate k (λ m. record { number = getD N m 0; share = take (getD L m 0) (drop (getD F m 0) s) })
 
 -- Point k joins the arrays.
-module _ (s N P L : List ℕ) (k j p l : ℕ) (hN : k < length N) (hP : k < length P) (hL : k < length L) where
-  pub held-more : held s (set N k j) (set P k p) (set L k l) (k + 1) ≡ held s N P L k ++ (record { number = j; share = take l (drop p s) } ∷ [])
-  unfolding held tabulate
+module _ (s N F L : List ℕ) (k j a l : ℕ) (hN : k < length N) (hF : k < length F) (hL : k < length L) where
+  held-more : held s (set N k j) (set F k a) (set L k l) (k + 1) ≡ held s N F L k ++ (record { number = j; share = take l (drop a s) } ∷ [])
+  unfolding held
   held-more =
-      rw add-one
-      (ap₂ {C = List Point} (λ a b. a ++ (b ∷ []))
-      (tabulate-cong k
-      (λ m. record { number = getD (set N k j) m 0; share = take (getD (set L k l) m 0) (drop (getD (set P k p) m 0) s) })
-      (λ m. record { number = getD N m 0; share = take (getD L m 0) (drop (getD P m 0) s) })
-      (λ m h. let ne : m ≢ k = (λ q. omega arith) in
-      rw (getD-set-other N k m j 0 ne, getD-set-other P k m p 0 ne, getD-set-other L k m l 0 ne)))
-      (rw (getD-set-same N k j 0 hN, getD-set-same P k p 0 hP, getD-set-same L k l 0 hL)))
+      tabulate-more k
+      (λ m. record { number = getD N m 0; share = take (getD L m 0) (drop (getD F m 0) s) })
+      (λ m. record { number = getD (set N k j) m 0; share = take (getD (set L k l) m 0) (drop (getD (set F k a) m 0) s) })
+      (record { number = j; share = take l (drop a s) })
+      (λ m h. rw (set-other N k m j h, set-other F k m a h, set-other L k m l h))
+      (rw (set-same N k j hN, set-same F k a hF, set-same L k l hL))
 
-  pub within-more : Within s P L k → 1 ≤ l → l < 65536 → p + l ≤ length s → Within s (set P k p) (set L k l) (k + 1)
-  within-more w a b c m h =
-      elim (ℕ-discrete m k) [
-        | yes e ↦ rw (e, getD-set-same P k p 0 hP, getD-set-same L k l 0 hL) (a, b, c)
-        | no ne ↦ rw (getD-set-other P k m p 0 ne, getD-set-other L k m l 0 ne) (w m (omega arith))
-      ]
+  within-more : (f g : ℕ) → Within f g F L k → (1 ≤ l) × (l ≤ maxEntry) × InOne f g a l → Within f g (set F k a) (set L k l) (k + 1)
+  within-more f g = both-set (λ b m. (1 ≤ m) × (m ≤ maxEntry) × InOne f g b m) F L k a l hF hL
 
 -- a point behind b others is not used
-pub take-past : (b : ℕ) (F R : List Point) (p : Point) → length F ≡ b → take b (F ++ (p ∷ R)) ≡ take b (F ++ R)
-take-past b F R p e = take-at F (p ∷ R) b e ∙ sym (take-at F R b e)
+take-full : (b : ℕ) (P Q : List Point) → b ≤ length (take b P) → take b (P ++ Q) ≡ take b P
+take-full b P Q h = take-append-le b P Q (omega (arith, length-take b P))
 
-pub take-next : (b : ℕ) (F R : List Point) (p : Point) → take b (F ++ (p ∷ R)) ≡ take b ((F ++ (p ∷ [])) ++ R)
-take-next b F R p = ap (take b) (sym (append-assoc F (p ∷ []) R))
+-- one behind fewer is
+take-next : (b : ℕ) (P : List Point) (p : Point) → length (take b P) < b → take b (P ++ (p ∷ [])) ≡ take b P ++ (p ∷ [])
+take-next b P p h =
+    let few : length P < b = omega (arith, length-take b P) in
+    take-all b (P ++ (p ∷ [])) (omega (arith, length-append P (p ∷ [])))
+    ∙ ap (λ (l : List Point). l ++ (p ∷ [])) (sym (take-all b P (omega arith)))
+
+-- A turn of the search: share j + 1 is missing, or b are held already, or it joins.
+module _ (p : Places) (j b : ℕ) (N F L : List ℕ) (k : ℕ) (h : Picked p j b N F L k) where
+  pub picked-missing : getD (p .len) j 0 ≡ 0 → Picked p (j + 1) b N F L k
+  picked-missing z x y lie =
+      let r = h x y (λ i l. lie i (omega arith)) in
+      (r .0 ∙ ap (take b) (sym (parts-missing (x ++ y) p j z)), r .1)
+
+  module _ (some : 1 ≤ getD (p .len) j 0) where
+    in-one : (x y : List ℕ) → Lie (j + 1) (length x) (length y) p
+        → (1 ≤ getD (p .len) j 0) × (getD (p .len) j 0 ≤ maxEntry) × InOne (length x) (length y) (getD (p .from) j 0) (getD (p .len) j 0)
+    in-one x y lie = lies-in-one (length x) (length y) (getD (p .from) j 0) (getD (p .len) j 0) some (lie j (omega arith))
+
+    found : (x y : List ℕ) → Lie (j + 1) (length x) (length y) p → present 1 (partsAt (j + 1) (x ++ y) p)
+        ≡ present 1 (partsAt j (x ++ y) p) ++ (record { number = j + 1; share = partAt (x ++ y) p j } ∷ [])
+    found x y lie =
+        let (a, e, w) = in-one x y lie in
+        parts-found (x ++ y) p j some (omega (arith, length-append x y, w .1))
+
+    count : (x y : List ℕ) → Lie j (length x) (length y) p → length (take b (present 1 (partsAt j (x ++ y) p))) ≡ k
+    count x y lie = ap length (sym (h x y lie .0)) ∙ length-held (x ++ y) N F L k
+
+    pub picked-full : b ≤ k → Picked p (j + 1) b N F L k
+    picked-full full x y lie =
+        let l : Lie j (length x) (length y) p = λ i q. lie i (omega arith) in
+        let P = present 1 (partsAt j (x ++ y) p) in
+        let r = h x y l in
+        (r .0 ∙ sym (ap (take b) (found x y lie) ∙ take-full b P _ (omega (arith, count x y l))), r .1)
+
+    pub picked-more : k < b → k < length N → k < length F → k < length L
+        → Picked p (j + 1) b (set N k (j + 1)) (set F k (getD (p .from) j 0)) (set L k (getD (p .len) j 0)) (k + 1)
+    picked-more few hN hF hL x y lie =
+        let l : Lie j (length x) (length y) p = λ i q. lie i (omega arith) in
+        let P = present 1 (partsAt j (x ++ y) p) in
+        let q : Point = record { number = j + 1; share = partAt (x ++ y) p j } in
+        let r = h x y l in (
+          held-more (x ++ y) N F L k (j + 1) (getD (p .from) j 0) (getD (p .len) j 0) hN hF hL
+              ∙ ap (λ (ps : List Point). ps ++ (q ∷ [])) (r .0)
+              ∙ sym (ap (take b) (found x y lie) ∙ take-next b P q (omega (arith, count x y l))),
+          within-more (x ++ y) N F L k (j + 1) (getD (p .from) j 0) (getD (p .len) j 0) hN hF hL (length x) (length y) (r .1) (in-one x y lie),
+        )

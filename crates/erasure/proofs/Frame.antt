@@ -11,7 +11,7 @@ use borrow.Author.Tests.{le-ltb, eq-eqb, ne-eqb, ltb-false, eqb-true}
 use lib.Dec.{ltb, eqb}
 use lib.ListN.{length, getD, take, drop, replicate, length-append, length-drop, length-replicate, List·getD-eq-default}
 use lib.Seq.{ext-getD, getD-take, getD-drop, length-take-le, take-append-seam}
-use Rattle.limits.specs.Limits.{maxMessage, maxShare}
+use Rattle.limits.specs.Limits.{maxMessage, maxShare, maxParties, maxEntry}
 use Rattle.buffer.specs.Entries.{size, body, rest}
 use Rattle.buffer.proofs.Tabulate.{length-tabulate, getD-tabulate}
 use Rattle.polynomial.specs.Polynomial.{value}
@@ -90,7 +90,7 @@ module _ (b : ℕ) (m : List ℕ) where
       let n : ℕ = b * shareLength b (length m) - (length m + 2) in
       omega (arith, length-append m (replicate n 0), length-replicate {A = ℕ} n 0, share-low b (length m) low)
 
-  pub frame-bytes : Bytes m → length m < 65536 → Bytes (frame b m)
+  pub frame-bytes : Bytes m → length m ≤ maxEntry → Bytes (frame b m)
   unfolding headed
   frame-bytes hm h i = subst (λ (x : ℕ). x < 256) (sym (getD-frame i)) (go i)
     where
@@ -221,9 +221,10 @@ third-fails true q r t m h = refl
 third-fails false true r t m h = refl
 third-fails false false r t m h = let e = h refl in rw e
 
--- no message has a share longer than the limit
-pub long-share : (b s : ℕ) (f : List ℕ) → 1 ≤ b → maxShare < s → unframed b s f ≡ cause 12
+-- no message has a frame longer than the greatest message's filled up
+pub unframed-great : (b s : ℕ) (f : List ℕ) → 1 ≤ b → b ≤ maxParties → maxShare + maxParties < b * s → unframed b s f ≡ cause 12
 unfolding unframed
-long-share b s f low h =
+unframed-great b s f low few h =
     third-fails (ltb (length f) 2) (ltb maxMessage (size f)) (eqb s (shareLength b (size f))) (other 0 (rest f)) (body f)
-    (λ q. ne-eqb s (shareLength b (size f)) (λ e. omega (arith, ltb-false maxMessage (size f) q, share-most b (size f) low)))
+    (λ q. ne-eqb s (shareLength b (size f))
+    (λ e. omega (arith, ltb-false maxMessage (size f) q, ap (λ (n : ℕ). b * n) e, share-high b (size f) low)))

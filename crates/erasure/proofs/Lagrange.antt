@@ -30,11 +30,11 @@ cell-other k i l m a b n e = n (omega arith)
 
 -- a table for the points below m, its other columns kept and column m set right, is one for the points below m + 1
 pub table-more : (t u : List ℕ) (b : ℕ) (xs : List ℕ) (m : ℕ) → m ≤ maxParties → Table t b xs m
-    → ((k i : ℕ) → k < maxParties → i < maxParties → i ≢ m → getD u (cell k i) 0 ≡ getD t (cell k i) 0)
-    → ((k : ℕ) → k < maxParties → getD u (cell k m) 0 ≡ basis bytes b (λ i. getD xs i 0) m k) → Table u b xs (m + 1)
+    → ((k i : ℕ) → i < maxParties → i ≢ m → getD u (cell k i) 0 ≡ getD t (cell k i) 0)
+    → ((k : ℕ) → k < b → getD u (cell k m) 0 ≡ basis bytes b (λ i. getD xs i 0) m k) → Table u b xs (m + 1)
 table-more t u b xs m q h kept new j k l r =
     below-more (λ i. getD u (cell k i) 0 ≡ basis bytes b (λ n. getD xs n 0) i k) m
-    (λ i a. kept k i r (omega arith) (λ e. omega arith) ∙ h i k a r)
+    (λ i a. kept k i (omega arith) (λ e. omega arith) ∙ h i k a r)
     (new k r) j l
 
 -- the polynomial 1 in an array

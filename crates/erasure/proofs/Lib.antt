@@ -6,6 +6,7 @@ pub mod Complete
 pub mod Sound
 pub mod Injective
 pub mod Outcomes
+pub mod Placed
 pub mod Found
 pub mod Arrays
 pub mod Lagrange

@@ -1,17 +1,19 @@
 -- The outcomes of the definitions, one law for each, from plain facts about numbers. Assumes nothing.
 use mathlib.Core.Path.{_≡_}
-use mathlib.Core.Bool.{true, false}
-use mathlib.Core.List.{List, map}
+use mathlib.Core.Bool.{Bool, true, false, cond, not}
+use mathlib.Core.List.{List, _++_, map}
 use Prim.Native.Nat.{ℕ, _-_, _<_, _≤_}
 use borrow.Author.Tests.{lt-ltb, le-ltb, eq-eqb, ne-eqb}
+use lib.Dec.{eqb}
 use lib.ListN.{length, take}
 use Rattle.limits.specs.Limits.{maxMessage, groupCause}
 use Rattle.buffer.specs.Entries.{size, body, rest, fills, bodies}
-use Rattle.buffer.specs.Given.{gave, written}
+use Rattle.buffer.specs.Given.{Given, gave, written}
 use Rattle.erasure.specs.Coding.{shareLength, shares, encodeOf}
 use Rattle.erasure.specs.Rebuild.{Point, point, present, framed, other, unframed, joined, recovered, answered, rebuildOf}
-use Rattle.erasure.specs.Rebuild.{cause, message}
+use Rattle.erasure.specs.Rebuild.{cause, message, partsAt, allLie, rebuildAtOf}
 use Rattle.erasure.specs.Arrays.{judged}
+use Rattle.erasure.specs.declared.Places.{Places}
 use Rattle.buffer.specs.declared.Written.the-variants.{Refused}
 
 module _ (n t : ℕ) (m out : List ℕ) where
@@ -71,17 +73,48 @@ module _ (b : ℕ) (ps : List Point) where
     unfolding recovered joined
     recovered-even h = rw (le-ltb (length ps) b enough, first, h)
 
+-- causes 1 and 2, then 8, then what the shares give
+module _ (g : ℕ) (laid : Bool) (out : List ℕ) (r : Given) where
+  abbrev checked : Given
+  checked = cond (not (eqb g 0)) (gave (Refused g) out) (cond (not laid) (gave (Refused 8) out) r)
+
+  checked-refused : (g ≡ 0 → ⊥) → checked ≡ gave (Refused g) out
+  checked-refused h = rw (ne-eqb g 0 h)
+
+  checked-unlaid : g ≡ 0 → laid ≡ false → checked ≡ gave (Refused 8) out
+  checked-unlaid fine h = rw (eq-eqb g 0 fine, h)
+
+  checked-fine : g ≡ 0 → laid ≡ true → checked ≡ r
+  checked-fine fine h = rw (eq-eqb g 0 fine, h)
+
 module _ (n t : ℕ) (es out : List ℕ) where
+  abbrev given : Given
+  given = answered (recovered (n - t) (present 1 (bodies n es))) out
+
   pub rebuild-refused : (groupCause n t ≡ 0 → ⊥) → rebuildOf n t es out ≡ gave (Refused (groupCause n t)) out
   unfolding rebuildOf
-  rebuild-refused h = let e = ne-eqb (groupCause n t) 0 h in rw e
+  rebuild-refused = checked-refused (groupCause n t) (fills n es) out given
 
-  module _ (fine : groupCause n t ≡ 0) where
-    pub rebuild-unlaid : fills n es ≡ false → rebuildOf n t es out ≡ gave (Refused 8) out
-    unfolding rebuildOf
-    rebuild-unlaid h = let e = eq-eqb (groupCause n t) 0 fine in rw (e, h)
+  pub rebuild-unlaid : groupCause n t ≡ 0 → fills n es ≡ false → rebuildOf n t es out ≡ gave (Refused 8) out
+  unfolding rebuildOf
+  rebuild-unlaid = checked-unlaid (groupCause n t) (fills n es) out given
 
-    pub rebuild-answered : fills n es ≡ true
-        → rebuildOf n t es out ≡ answered (recovered (n - t) (present 1 (bodies n es))) out
-    unfolding rebuildOf
-    rebuild-answered h = let e = eq-eqb (groupCause n t) 0 fine in rw (e, h)
+  pub rebuild-answered : groupCause n t ≡ 0 → fills n es ≡ true → rebuildOf n t es out ≡ given
+  unfolding rebuildOf
+  rebuild-answered = checked-fine (groupCause n t) (fills n es) out given
+
+module _ (n t : ℕ) (x y : List ℕ) (p : Places) (out : List ℕ) where
+  abbrev given-at : Given
+  given-at = answered (recovered (n - t) (present 1 (partsAt n (x ++ y) p))) out
+
+  pub rebuild-at-refused : (groupCause n t ≡ 0 → ⊥) → rebuildAtOf n t x y p out ≡ gave (Refused (groupCause n t)) out
+  unfolding rebuildAtOf
+  rebuild-at-refused = checked-refused (groupCause n t) (allLie n (length x) (length y) p) out given-at
+
+  pub rebuild-at-astray : groupCause n t ≡ 0 → allLie n (length x) (length y) p ≡ false → rebuildAtOf n t x y p out ≡ gave (Refused 8) out
+  unfolding rebuildAtOf
+  rebuild-at-astray = checked-unlaid (groupCause n t) (allLie n (length x) (length y) p) out given-at
+
+  pub rebuild-at-answered : groupCause n t ≡ 0 → allLie n (length x) (length y) p ≡ true → rebuildAtOf n t x y p out ≡ given-at
+  unfolding rebuildAtOf
+  rebuild-at-answered = checked-fine (groupCause n t) (allLie n (length x) (length y) p) out given-at

@@ -1,16 +1,17 @@
--- The message again from n entries (document 01, "Rebuild", and causes 8, 11, 12 and 9). Assumes nothing.
-use mathlib.Core.Bool.{Bool, false, cond, not, _||_}
-use mathlib.Core.List.{List, [], _∷_, map}
-use Prim.Native.Nat.{ℕ, _+_, _-_, _*_, _/_, _%_}
-use lib.Dec.{ltb, eqb}
-use lib.ListN.{length, getD, take}
-use Rattle.limits.specs.Limits.{maxMessage, groupCause}
+-- The message again from n entries, or from n shares where they lie (document 01, "Rebuild", and causes 8, 11, 12 and 9). Assumes nothing.
+use mathlib.Core.Bool.{Bool, true, false, cond, not, _&&_, _||_}
+use mathlib.Core.List.{List, [], _∷_, _++_, map}
+use Prim.Native.Nat.{ℕ, zero, suc, _+_, _-_, _*_, _/_, _%_}
+use lib.Dec.{leb, ltb, eqb}
+use lib.ListN.{length, getD, take, drop}
+use Rattle.limits.specs.Limits.{maxMessage, maxEntry, groupCause}
 use Rattle.buffer.specs.Splice.{tabulate}
 use Rattle.buffer.specs.Entries.{size, body, rest, fills, bodies}
 use Rattle.polynomial.specs.Polynomial.{through}
 use Rattle.erasure.specs.Bytes.{bytes}
 use Rattle.buffer.specs.Given.{Given, gave, written}
 use Rattle.erasure.specs.Coding.{shareLength}
+use Rattle.erasure.specs.declared.Places.{Places}
 use Rattle.buffer.specs.declared.Written.the-variants.{Refused}
 
 -- a share with its number
@@ -67,3 +68,28 @@ rebuildOf n t es out =
     cond (not (eqb (groupCause n t) 0)) (gave (Refused (groupCause n t)) out)
     (cond (not (fills n es)) (gave (Refused 8) out)
     (answered (recovered (n - t) (present 1 (bodies n es))) out))
+
+-- share i + 1 where it lies in s
+abbrev pub partAt : List ℕ → Places → ℕ → List ℕ
+partAt s places i = take (getD (places .len) i 0) (drop (getD (places .from) i 0) s)
+
+-- shares 1 to n where they lie
+unfoldable pub partsAt : ℕ → List ℕ → Places → List (List ℕ)
+partsAt n s places = tabulate n (partAt s places)
+
+-- len bytes from a place on are none; or they are as many as an entry may have, and lie whole in the first f bytes or in the g behind these
+unfoldable pub lies : ℕ → ℕ → ℕ → ℕ → Bool
+lies f g from len =
+    eqb len 0 || leb len maxEntry && (leb (from + len) f || leb f from && leb (from + len) (f + g))
+
+-- shares 1 to n lie so
+unfoldable pub allLie : ℕ → ℕ → ℕ → Places → Bool
+allLie zero f g places = true
+allLie (suc n) f g places = allLie n f g places && lies f g (getD (places .from) n 0) (getD (places .len) n 0)
+
+-- the same as `rebuildOf`, of shares where they lie in x and in y behind it: cause 8 where one does not
+unfoldable pub rebuildAtOf : ℕ → ℕ → List ℕ → List ℕ → Places → List ℕ → Given
+rebuildAtOf n t x y places out =
+    cond (not (eqb (groupCause n t) 0)) (gave (Refused (groupCause n t)) out)
+    (cond (not (allLie n (length x) (length y) places)) (gave (Refused 8) out)
+    (answered (recovered (n - t) (present 1 (partsAt n (x ++ y) places))) out))

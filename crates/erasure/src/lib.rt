@@ -1,22 +1,23 @@
 // The erasure code: a message becomes n shares, and any b = n - t of them give it back.
 ghost use mathlib.Core.Path.{_≡_};
 ghost use mathlib.Core.Bool.{true};
-ghost use mathlib.Core.List.{map};
+ghost use mathlib.Core.List.{_++_};
 ghost use Prim.Native.Nat.{ℕ, _+_, _-_, _*_, _≤_, _<_};
 ghost use lib.Bits.{bitXor};
 ghost use lib.ListN.{length, getD, take, drop};
-ghost use Rattle.limits.specs.Limits.{maxParties, maxMessage, maxShare};
+ghost use Rattle.limits.specs.Limits.{maxParties, maxMessage, maxShare, maxEntry};
 ghost use Rattle.buffer.specs.Splice.{spliced, tabulate};
 ghost use Rattle.buffer.specs.Entries.{size, fills, bodies};
-ghost use Rattle.gf256.specs.Field.{product, inverse};
-ghost use Rattle.polynomial.specs.Polynomial.{value, factor, numerator, denominator, basis, sum};
+ghost use Rattle.gf256.specs.Field.{product};
+ghost use Rattle.polynomial.specs.Polynomial.{factor, numerator, denominator};
 ghost use Rattle.erasure.specs.Bytes.{bytes};
 ghost use Rattle.buffer.specs.Bounds.{Bytes};
 ghost use Rattle.buffer.specs.Given.{gave};
 ghost use Rattle.erasure.specs.Coding.{shareLength, headed, shareOf, encodeOf};
-ghost use Rattle.erasure.specs.Rebuild.{present, recovered, unframed, answered, other, rebuildOf};
-ghost use Rattle.erasure.specs.Arrays.{sharesOf, held, Within, Reach, Table, cell, combined, judged};
+ghost use Rattle.erasure.specs.Rebuild.{present, recovered, unframed, answered, other, rebuildOf, partsAt, lies, allLie, rebuildAtOf};
+ghost use Rattle.erasure.specs.Arrays.{sharesOf, Lie, Picked, Reach, Table, cell, combined, judged};
 use buffer::Written;
+use limits::MAX_ENTRY;
 use limits::MAX_MESSAGE;
 use limits::MAX_PARTIES;
 use limits::MAX_SHARE;
@@ -51,7 +52,7 @@ pub fn encode(n: usize, t: usize, message: &[u8], out: &mut [u8]) -> Written
 
 // The length of each share of a message of `len` bytes in b blocks.
 fn share_length(b: usize, len: usize) -> usize
-    requires { ⌜ (1 ≤ b) × (b ≤ maxParties) × (len < 65536) ⌝ }
+    requires { ⌜ (1 ≤ b) × (b ≤ maxParties) × (len ≤ maxEntry) ⌝ }
     ensures { λ r. ⌜ r ≡ shareLength b len ⌝ }
 {
     (len + 2 + (b - 1)) / b
@@ -120,57 +121,145 @@ pub fn rebuild(n: usize, t: usize, entries: &[u8], out: &mut [u8]) -> Written
         return Written::Refused(cause);
     }
     if buffer::laid_out(entries, n) {
-        recover(n, n - t, entries, out)
+        let places = places_of(entries, n);
+        recover(n, n - t, entries, &[], places, out)
     } else {
         Written::Refused(8)
     }
 }
 
-// The same of entries that are laid out well, with b shares to use.
-fn recover(n: usize, b: usize, entries: &[u8], out: &mut [u8]) -> Written
-    requires { ⌜ (fills n (now entries) ≡ true) × (n ≤ maxParties) × (1 ≤ b) × (b ≤ n) ⌝ }
+// Shares by their places in bytes: where each begins and how long it is, for numbers 1 on; a length of 0 for a missing one.
+pub struct Places {
+    pub from: [usize; MAX_PARTIES],
+    pub len: [usize; MAX_PARTIES],
+}
+
+// Writes the message that n shares give, where they lie in two strings of bytes; places count on from the first into the second.
+pub fn rebuild_at(
+    n: usize,
+    t: usize,
+    first: &[u8],
+    second: &[u8],
+    places: Places,
+    out: &mut [u8],
+) -> Written
     ensures { λ r. ⌜ gave r (now (out .exit))
-        ≡ answered (recovered b (present 1 (bodies n (now (entries .entry))))) (now (out .entry)) ⌝ }
+        ≡ rebuildAtOf n t (now (first .entry)) (now (second .entry)) places (now (out .entry)) ⌝ }
 {
-    let chosen = choose(entries, n, b);
+    let cause = limits::group_cause(n, t);
+    if cause != 0 {
+        return Written::Refused(cause);
+    }
+    if all_lie(first.len(), second.len(), places, n) {
+        recover(n, n - t, first, second, places, out)
+    } else {
+        Written::Refused(8)
+    }
+}
+
+// Where the bytes of n entries lie.
+fn places_of(entries: &[u8], n: usize) -> Places
+    requires { ⌜ (fills n (now entries) ≡ true) × (n ≤ maxParties) ⌝ }
+    ensures { λ r. ⌜ Lie n (length (now (entries .entry))) 0 r
+        × (partsAt n (now (entries .entry)) r ≡ bodies n (now (entries .entry))) ⌝ }
+{
+    let mut from = [0usize; MAX_PARTIES];
+    let mut len = [0usize; MAX_PARTIES];
+    let mut at: usize = 0;
+    let mut j: usize = 0;
+    while j < n {
+        let size = buffer::size_at(entries, at);
+        let start = at + 2;
+        from[j] = start;
+        len[j] = size;
+        at = start + size;
+        j += 1;
+    }
+    Places { from, len }
+}
+
+// Whether len bytes from a place on are none, or lie whole in one of two strings of these lengths and may be an entry's.
+fn lies(first: usize, second: usize, from: usize, len: usize) -> bool
+    ensures { λ r. ⌜ r ≡ lies first second from len ⌝ }
+{
+    if len == 0 {
+        return true;
+    }
+    if MAX_ENTRY < len {
+        return false;
+    }
+    if from < first {
+        return len <= first - from;
+    }
+    if second < len {
+        return false;
+    }
+    from - first <= second - len
+}
+
+// Whether each of n shares lies so.
+fn all_lie(first: usize, second: usize, places: Places, n: usize) -> bool
+    requires { ⌜ n ≤ maxParties ⌝ }
+    ensures { λ r. ⌜ r ≡ allLie n first second places ⌝ }
+{
+    let mut j: usize = 0;
+    while j < n {
+        if !lies(first, second, places.from[j], places.len[j]) {
+            return false;
+        }
+        j += 1;
+    }
+    true
+}
+
+// Writes the message that n shares give which lie well, with b of them to use.
+fn recover(
+    n: usize,
+    b: usize,
+    first: &[u8],
+    second: &[u8],
+    places: Places,
+    out: &mut [u8],
+) -> Written
+    requires { ⌜ Lie n (length (now first)) (length (now second)) places × (n ≤ maxParties) × (1 ≤ b) × (b ≤ n) ⌝ }
+    ensures { λ r. ⌜ gave r (now (out .exit))
+        ≡ answered (recovered b (present 1 (partsAt n (now (first .entry) ++ now (second .entry)) places))) (now (out .entry)) ⌝ }
+{
+    let chosen = choose(places, n, b);
     if chosen.count < b {
         return Written::Refused(11);
     }
     let numbers = chosen.numbers;
-    let places = chosen.places;
+    let from = chosen.from;
     let lens = chosen.lens;
     if uneven(&lens, b) {
         return Written::Refused(12);
     }
     let table = bases(&numbers, b);
-    read_frame(&table, entries, &places, b, lens[0], out)
+    read_frame(&table, first, second, &from, b, lens[0], out)
 }
 
-// The shares to use: how many, their numbers, and where each lies in the entries.
+// The shares to use: how many, their numbers, and the place and length of each.
 struct Chosen {
     count: usize,
     numbers: [u8; MAX_PARTIES],
-    places: [usize; MAX_PARTIES],
+    from: [usize; MAX_PARTIES],
     lens: [usize; MAX_PARTIES],
 }
 
-// The b lowest-numbered present shares, or all if fewer are present.
-fn choose(entries: &[u8], n: usize, b: usize) -> Chosen
-    requires { ⌜ (fills n (now entries) ≡ true) × (n ≤ maxParties) × (b ≤ n) ⌝ }
-    ensures { λ r. ⌜ (held (now (entries .entry)) (r .numbers) (r .places) (r .lens) (r .count)
-        ≡ take b (present 1 (bodies n (now (entries .entry)))))
-        × Within (now (entries .entry)) (r .places) (r .lens) (r .count) ⌝ }
+// The b lowest-numbered present shares, or all if fewer are present, wherever the shares may lie.
+fn choose(places: Places, n: usize, b: usize) -> Chosen
+    requires { ⌜ (n ≤ maxParties) × (b ≤ n) ⌝ }
+    ensures { λ r. ⌜ Picked places n b (r .numbers) (r .from) (r .lens) (r .count) ⌝ }
 {
     let mut numbers = [0u8; MAX_PARTIES];
-    let mut places = [0usize; MAX_PARTIES];
+    let mut from = [0usize; MAX_PARTIES];
     let mut lens = [0usize; MAX_PARTIES];
     let mut count: usize = 0;
-    let mut at: usize = 0;
     let mut j: usize = 0;
     while j < n {
-        let len = buffer::size_at(entries, at);
-        let from = at + 2;
-        at = from + len;
+        let start = places.from[j];
+        let len = places.len[j];
         j += 1;
         if len == 0 {
             continue;
@@ -179,14 +268,14 @@ fn choose(entries: &[u8], n: usize, b: usize) -> Chosen
             continue;
         }
         numbers[count] = (j % 256) as u8;
-        places[count] = from;
+        from[count] = start;
         lens[count] = len;
         count += 1;
     }
     Chosen {
         count,
         numbers,
-        places,
+        from,
         lens,
     }
 }
@@ -207,14 +296,15 @@ fn uneven(lens: &[usize; MAX_PARTIES], b: usize) -> bool
     false
 }
 
-// (X + r) times the polynomial w, as far as the array holds coefficients.
-fn times_factor(w: [u8; MAX_PARTIES], r: u8) -> [u8; MAX_PARTIES]
-    ensures { λ v. ⌜ ((k : ℕ) → k < maxParties → getD v k 0 ≡ factor bytes r (λ i. getD w i 0) k) ⌝ }
+// The first b coefficients of (X + r) times the polynomial w.
+fn times_factor(w: [u8; MAX_PARTIES], r: u8, b: usize) -> [u8; MAX_PARTIES]
+    requires { ⌜ b ≤ maxParties ⌝ }
+    ensures { λ v. ⌜ ((k : ℕ) → k < b → getD v k 0 ≡ factor bytes r (λ i. getD w i 0) k) ⌝ }
 {
     let mut v = [0u8; MAX_PARTIES];
     v[0] = gf256::mul(r, w[0]);
     let mut k: usize = 1;
-    while k < MAX_PARTIES {
+    while k < b {
         v[k] = w[k - 1] ^ gf256::mul(r, w[k]);
         k += 1;
     }
@@ -224,7 +314,7 @@ fn times_factor(w: [u8; MAX_PARTIES], r: u8) -> [u8; MAX_PARTIES]
 // The product of (X + x) over the first b numbers but number i.
 fn numerator_of(numbers: &[u8; MAX_PARTIES], b: usize, i: usize) -> [u8; MAX_PARTIES]
     requires { ⌜ b ≤ maxParties ⌝ }
-    ensures { λ w. ⌜ ((k : ℕ) → k < maxParties
+    ensures { λ w. ⌜ ((k : ℕ) → k < b
         → getD w k 0 ≡ numerator bytes b (λ m. getD (now (numbers .entry)) m 0) i k) ⌝ }
 {
     let mut w = [0u8; MAX_PARTIES];
@@ -232,7 +322,7 @@ fn numerator_of(numbers: &[u8; MAX_PARTIES], b: usize, i: usize) -> [u8; MAX_PAR
     let mut m: usize = 0;
     while m < b {
         if m != i {
-            let v = times_factor(w, numbers[m]);
+            let v = times_factor(w, numbers[m], b);
             w = v;
         }
         m += 1;
@@ -257,16 +347,15 @@ fn denominator_of(numbers: &[u8; MAX_PARTIES], b: usize, i: usize) -> u8
     d
 }
 
-// The table with the polynomial w times d in column m.
-fn write_column(table: [u8; TABLE], m: usize, w: [u8; MAX_PARTIES], d: u8) -> [u8; TABLE]
-    requires { ⌜ m < maxParties ⌝ }
-    ensures { λ r. ⌜ ((k i : ℕ) → k < maxParties → i < maxParties → (i ≡ m → ⊥)
-        → getD r (cell k i) 0 ≡ getD table (cell k i) 0)
-        × ((k : ℕ) → k < maxParties → getD r (cell k m) 0 ≡ product (getD w k 0) d) ⌝ }
+// The table with the first b coefficients of the polynomial w, times d, in column m.
+fn write_column(table: [u8; TABLE], m: usize, w: [u8; MAX_PARTIES], d: u8, b: usize) -> [u8; TABLE]
+    requires { ⌜ (m < maxParties) × (b ≤ maxParties) ⌝ }
+    ensures { λ r. ⌜ ((k i : ℕ) → i < maxParties → (i ≡ m → ⊥) → getD r (cell k i) 0 ≡ getD table (cell k i) 0)
+        × ((k : ℕ) → k < b → getD r (cell k m) 0 ≡ product (getD w k 0) d) ⌝ }
 {
     let mut next = table;
     let mut k: usize = 0;
-    while k < MAX_PARTIES {
+    while k < b {
         next[k * MAX_PARTIES + m] = gf256::mul(w[k], d);
         k += 1;
     }
@@ -283,55 +372,39 @@ fn bases(numbers: &[u8; MAX_PARTIES], b: usize) -> [u8; TABLE]
     while m < b {
         let w = numerator_of(numbers, b, m);
         let d = gf256::inv(denominator_of(numbers, b, m));
-        let next = write_column(table, m, w, d);
+        let next = write_column(table, m, w, d, b);
         table = next;
         m += 1;
     }
     table
 }
 
-// Byte i of the frame: b products.
-fn frame_byte(
-    table: &[u8; TABLE],
-    entries: &[u8],
-    places: &[usize; MAX_PARTIES],
-    b: usize,
-    s: usize,
-    i: usize,
-) -> u8
-    requires { ⌜ (b ≤ maxParties) × (i < b * s) × Reach (now entries) (now places) b s ⌝ }
-    ensures { λ r. ⌜ r ≡ getD (combined b s (now (table .entry)) (now (entries .entry)) (now (places .entry))) i 0 ⌝ }
-{
-    let row = i / s * MAX_PARTIES;
-    let c = i % s;
-    let mut total = 0u8;
-    let mut m: usize = 0;
-    while m < b {
-        total = total ^ gf256::mul(table[row + m], entries[places[m] + c]);
-        m += 1;
-    }
-    total
-}
-
-// Writes the message that stands in the frame, if the frame is one.
+// Writes the message that stands in the frame of b shares of s bytes, if the frame is one.
 fn read_frame(
     table: &[u8; TABLE],
-    entries: &[u8],
-    places: &[usize; MAX_PARTIES],
+    first: &[u8],
+    second: &[u8],
+    from: &[usize; MAX_PARTIES],
     b: usize,
     s: usize,
     out: &mut [u8],
 ) -> Written
-    requires { ⌜ (1 ≤ b) × (b ≤ maxParties) × (1 ≤ s) × (s < 65536) × Reach (now entries) (now places) b s ⌝ }
+    requires { ⌜ (1 ≤ b) × (b ≤ maxParties) × (s ≤ maxEntry) × Reach (length (now first)) (length (now second)) (now from) b s ⌝ }
     ensures { λ r. ⌜ gave r (now (out .exit))
-        ≡ answered (unframed b s (combined b s (now (table .entry)) (now (entries .entry)) (now (places .entry))))
+        ≡ answered
+        (unframed b s (combined b s (now (table .entry)) (now (first .entry) ++ now (second .entry)) (now (from .entry))))
         (now (out .entry)) ⌝ }
 {
-    if b * s < 2 {
+    let size = b * s;
+    if size < 2 {
         return Written::Refused(12);
     }
-    let high = wide(frame_byte(table, entries, places, b, s, 0));
-    let low = wide(frame_byte(table, entries, places, b, s, 1));
+    if MAX_FRAME < size {
+        return Written::Refused(12);
+    }
+    let frame = whole_frame(table, first, second, from, b, s);
+    let high = wide(frame[0]);
+    let low = wide(frame[1]);
     let len = high * 256 + low;
     if MAX_MESSAGE < len {
         return Written::Refused(12);
@@ -339,8 +412,7 @@ fn read_frame(
     if s != share_length(b, len) {
         return Written::Refused(12);
     }
-    let frame = whole_frame(table, entries, places, b, s);
-    give_message(&frame[..b * s], len, out)
+    give_message(&frame[..size], len, out)
 }
 
 fn wide(x: u8) -> usize
@@ -349,60 +421,60 @@ fn wide(x: u8) -> usize
     x as usize
 }
 
-// Adds a times the s bytes from place `from` of the entries on to those from place at of the frame on.
-fn add_multiple(frame: &mut [u8], at: usize, entries: &[u8], from: usize, s: usize, a: u8)
-    requires { ⌜ (at + s ≤ length (now frame)) × (from + s ≤ length (now entries)) ⌝ }
+// Adds a times the first s bytes of a share to those from place at of the frame on.
+fn add_multiple(frame: &mut [u8], at: usize, share: &[u8], s: usize, a: u8)
+    requires { ⌜ (at + s ≤ length (now frame)) × (s ≤ length (now share)) ⌝ }
     ensures { λ _. ⌜ ((i : ℕ) → i < at → getD (now (frame .exit)) i 0 ≡ getD (now (frame .entry)) i 0)
         × ((c : ℕ) → c < s → getD (now (frame .exit)) (at + c) 0
-        ≡ bitXor (getD (now (frame .entry)) (at + c) 0) (product a (getD (now (entries .entry)) (from + c) 0)))
+        ≡ bitXor (getD (now (frame .entry)) (at + c) 0) (product a (getD (now (share .entry)) c 0)))
         × ((i : ℕ) → at + s ≤ i → getD (now (frame .exit)) i 0 ≡ getD (now (frame .entry)) i 0) ⌝ }
 {
     let mut c: usize = 0;
     while c < s {
-        frame[at + c] = frame[at + c] ^ gf256::mul_bits(a, entries[from + c]);
+        frame[at + c] = frame[at + c] ^ gf256::mul_bits(a, share[c]);
         c += 1;
     }
 }
 
-// Adds share m, which lies at place `from` of the entries, to each block of the frame, by the block's coefficient.
-fn add_share(
-    frame: &mut [u8],
-    table: &[u8; TABLE],
-    m: usize,
-    entries: &[u8],
-    from: usize,
-    b: usize,
-    s: usize,
-)
-    requires { ⌜ (b ≤ maxParties) × (m < maxParties) × (b * s ≤ length (now frame)) × (from + s ≤ length (now entries)) ⌝ }
+// Adds the first s bytes of share m to each block of the frame, by the block's coefficient.
+fn add_share(frame: &mut [u8], table: &[u8; TABLE], m: usize, share: &[u8], b: usize, s: usize)
+    requires { ⌜ (b ≤ maxParties) × (m < maxParties) × (b * s ≤ length (now frame)) × (s ≤ length (now share)) ⌝ }
     ensures { λ _. ⌜ ((k c : ℕ) → k < b → c < s → getD (now (frame .exit)) (k * s + c) 0
         ≡ bitXor (getD (now (frame .entry)) (k * s + c) 0)
-        (product (getD (now (table .entry)) (cell k m) 0) (getD (now (entries .entry)) (from + c) 0))) ⌝ }
+        (product (getD (now (table .entry)) (cell k m) 0) (getD (now (share .entry)) c 0))) ⌝ }
 {
     let mut k: usize = 0;
     while k < b {
         let a = table[k * MAX_PARTIES + m];
-        add_multiple(frame, k * s, entries, from, s, a);
+        add_multiple(frame, k * s, share, s, a);
         k += 1;
     }
 }
 
-// The frame, at the start of an array: the shares are added one after the other.
+// The frame, at the start of an array: the shares are added one after the other, each from the string that it lies in.
 fn whole_frame(
     table: &[u8; TABLE],
-    entries: &[u8],
-    places: &[usize; MAX_PARTIES],
+    first: &[u8],
+    second: &[u8],
+    from: &[usize; MAX_PARTIES],
     b: usize,
     s: usize,
 ) -> [u8; MAX_FRAME]
-    requires { ⌜ (b ≤ maxParties) × (b * s ≤ maxShare + maxParties) × Reach (now entries) (now places) b s ⌝ }
-    ensures { λ r. ⌜ take (b * s) r ≡ combined b s (now (table .entry)) (now (entries .entry)) (now (places .entry)) ⌝ }
+    requires { ⌜ (b ≤ maxParties) × (b * s ≤ maxShare + maxParties)
+        × Reach (length (now first)) (length (now second)) (now from) b s ⌝ }
+    ensures { λ r. ⌜ take (b * s) r
+        ≡ combined b s (now (table .entry)) (now (first .entry) ++ now (second .entry)) (now (from .entry)) ⌝ }
 {
     let mut frame = [0u8; MAX_FRAME];
     let mut m: usize = 0;
     while m < b {
-        let from = places[m];
-        add_share(&mut frame, table, m, entries, from, b, s);
+        let at = from[m];
+        if at < first.len() {
+            add_share(&mut frame, table, m, &first[at..], b, s);
+        } else {
+            let start = at - first.len();
+            add_share(&mut frame, table, m, &second[start..], b, s);
+        }
         m += 1;
     }
     frame

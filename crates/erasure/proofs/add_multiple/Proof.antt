@@ -13,14 +13,14 @@ use Rattle.erasure.proofs.add_multiple.Statement.{statement}
 use Rattle.erasure.proofs.add_multiple.Tie as tie
 
 abbrev Inv-loop : tie.InvT-loop
-Inv-loop frame₀ at entries from s a c₀ frame c =
+Inv-loop frame₀ at share s a c₀ frame c =
     (c ≤ s) × (length frame ≡ length frame₀)
     × ((i : ℕ) → i < at → getD frame i 0 ≡ getD frame₀ i 0)
-    × ((i : ℕ) → i < c → getD frame (at + i) 0 ≡ bitXor (getD frame₀ (at + i) 0) (product a (getD entries (from + i) 0)))
+    × ((i : ℕ) → i < c → getD frame (at + i) 0 ≡ bitXor (getD frame₀ (at + i) 0) (product a (getD share i 0)))
     × ((i : ℕ) → at + c ≤ i → getD frame i 0 ≡ getD frame₀ i 0)
 
 abbrev μ-loop : tie.MeasureT-loop
-μ-loop frame₀ at entries from s a c₀ frame c = s - c
+μ-loop frame₀ at share s a c₀ frame c = s - c
 
 loop-holds : tie.Need-loop-holds Inv-loop μ-loop
 loop-holds c = (omega arith, refl, λ i h. refl, λ i h. absurd (omega arith), λ i h. refl)
@@ -30,9 +30,6 @@ add-frame c = search needs
 
 slice-read-frame : tie.Need-slice-read-frame Inv-loop μ-loop
 slice-read-frame c = search needs
-
-add-mul-bits : tie.Need-add-mul-bits Inv-loop μ-loop
-add-mul-bits c = search needs
 
 shared-slice-read-mul-bits : tie.Need-shared-slice-read-mul-bits Inv-loop μ-loop
 shared-slice-read-mul-bits c = search needs
@@ -59,7 +56,7 @@ loop-again c =
     let k = l .loop .c in
     let d = l .loop .frame in
     let x : ℕ = bitXor (getD d (a .at + k) 0) (c .mul-bits .result) in
-    let f : ℕ → ℕ = λ i. bitXor (getD (a .frame .now) (a .at + i) 0) (product (a .a) (getD (a .entries .now) (a .from + i) 0)) in
+    let f : ℕ → ℕ = λ i. bitXor (getD (a .frame .now) (a .at + i) 0) (product (a .a) (getD (a .share .now) i 0)) in
     let new : x ≡ f k = ap₂ bitXor (l .loop .inv .4 (a .at + k) (omega arith)) (c .mul-bits .ensures) in (
       omega arith,
       simp length-set (l .loop .inv .1),
@@ -85,7 +82,6 @@ add-multiple-spec =
     loop-holds
     add-frame
     slice-read-frame
-    add-mul-bits
     shared-slice-read-mul-bits
     mul-bits-requires
     add-frame-2

@@ -16,14 +16,14 @@ use Rattle.erasure.proofs.add_share.Statement.{statement}
 use Rattle.erasure.proofs.add_share.Tie as tie
 
 abbrev Inv-loop : tie.InvT-loop
-Inv-loop frame₀ table m entries from b s k₀ frame k =
+Inv-loop frame₀ table m share b s k₀ frame k =
     (k ≤ b) × (length frame ≡ length frame₀)
     × ((q c : ℕ) → q < k → c < s → getD frame (q * s + c) 0
-    ≡ bitXor (getD frame₀ (q * s + c) 0) (product (getD table (cell q m) 0) (getD entries (from + c) 0)))
+    ≡ bitXor (getD frame₀ (q * s + c) 0) (product (getD table (cell q m) 0) (getD share c 0)))
     × ((q c : ℕ) → k ≤ q → c < s → getD frame (q * s + c) 0 ≡ getD frame₀ (q * s + c) 0)
 
 abbrev μ-loop : tie.MeasureT-loop
-μ-loop frame₀ table m entries from b s k₀ frame k = b - k
+μ-loop frame₀ table m share b s k₀ frame k = b - k
 
 loop-holds : tie.Need-loop-holds Inv-loop μ-loop
 loop-holds c = (omega arith, refl, λ q i h g. absurd (omega arith), λ q i h g. refl)
@@ -66,7 +66,7 @@ loop-again c =
       w .add-multiple .kept .0 ∙ l .loop .inv .1,
       λ q i h g. elim (ℕ-discrete q k) [
         | yes same ↦ rw same
-            (e .1 i g ∙ ap (λ (x : ℕ). bitXor x (product (getD (a .table .now) (cell k (a .m)) 0) (getD (a .entries .now) (a .from + i) 0)))
+            (e .1 i g ∙ ap (λ (x : ℕ). bitXor x (product (getD (a .table .now) (cell k (a .m)) 0) (getD (a .share .now) i 0)))
             (l .loop .inv .3 k i (le-refl k) g))
         | no other ↦ e .0 (q * a .s + i) (inside k (a .s) q i (omega arith) g) ∙ l .loop .inv .2 q i (omega arith) g
       ],

@@ -16,7 +16,7 @@ use Rattle.erasure.proofs.numerator_of.Tie as tie
 abbrev Inv-loop : tie.InvT-loop
 Inv-loop numbers b i w₀ m₀ w m =
     (m ≤ b) × (b ≤ maxParties)
-    × ((k : ℕ) → k < maxParties → getD w k 0 ≡ numerator bytes m (λ j. getD numbers j 0) i k)
+    × ((k : ℕ) → k < b → getD w k 0 ≡ numerator bytes m (λ j. getD numbers j 0) i k)
 
 abbrev μ-loop : tie.MeasureT-loop
 μ-loop numbers b i w₀ m₀ w m = b - m
@@ -26,7 +26,7 @@ array-write-w c = search needs
 
 loop-holds : tie.Need-loop-holds Inv-loop μ-loop
 unfolding numerator
-loop-holds c = (omega arith, omega arith, one-unit maxParties)
+loop-holds c = (omega arith, omega arith, λ k l. one-unit maxParties k (omega arith))
 
 element-copy-out-times-factor : tie.Need-element-copy-out-times-factor Inv-loop μ-loop
 element-copy-out-times-factor c = search needs
@@ -49,7 +49,7 @@ loop-again c =
       l .inv .1,
       ⊎-elim
           (λ w k b. ap (λ v. getD v k 0) (w .3) ∙ w .2 .ensures k b
-          ∙ factor-below bytes maxParties (x (l .m)) (l .inv .2) k b
+          ∙ factor-below bytes (a .b) (x (l .m)) (l .inv .2) k b
           ∙ sym (numerator-more bytes (l .m) x (a .i) (w .0 .taken) k))
           (λ w k b. ap (λ v. getD v k 0) (w .1) ∙ l .inv .2 k b ∙ sym (numerator-skip bytes (l .m) x (a .i) (w .0 .left) k))
           (c .if1 .came),

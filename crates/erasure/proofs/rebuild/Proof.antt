@@ -1,10 +1,12 @@
 -- `erasure::rebuild` meets its contract: the causes of n and t, then of the layout, then what the shares give. Assumes nothing.
 use mathlib.Core.Path.{_≡_, sym, ap, _∙_}
-use Prim.Native.Nat.{ℕ}
+use mathlib.Core.List.{List, append-nil}
+use Prim.Native.Nat.{ℕ, _-_}
 use Rattle.limits.specs.Limits.{groupCause}
 use Rattle.limits.proofs.Group.{Group, group-of}
 use Rattle.buffer.specs.Given.{gave}
 use Rattle.buffer.specs.declared.Written.the-variants.{Refused}
+use Rattle.erasure.specs.Rebuild.{present, recovered, answered, partsAt}
 use Rattle.erasure.proofs.Outcomes.{rebuild-refused, rebuild-unlaid, rebuild-answered}
 use borrow.Author.Needs.{needs}
 use native.Mathlib.Omega.{arith}
@@ -34,15 +36,20 @@ returns c =
 laid-out-requires : tie.Need-laid-out-requires
 laid-out-requires c κs = search needs
 
+places-of-requires : tie.Need-places-of-requires
+places-of-requires c κs = (sym (c .before .laid-out .ensures) ∙ c .if2 .taken, group (c .before .before) .high)
+
 sub-recover : tie.Need-sub-recover
-sub-recover c = omega (arith, group (c .before .before))
+sub-recover c = omega (arith, group (c .before .before .before))
+
+slice-aggregate-recover : tie.Need-slice-aggregate-recover
+slice-aggregate-recover c = search needs
 
 recover-requires : tie.Need-recover-requires
 recover-requires c κs =
-    let d = c .before in
-    let e = d .before .before in
-    let g = group e in
-    (sym (d .before .laid-out .ensures) ∙ d .if2 .taken, g .high, omega arith, omega arith)
+    let p = c .before .before in
+    let g = group (p .before .before .before) in
+    (p .places-of .ensures .0, g .high, omega arith, omega arith)
 
 same-length : tie.Need-same-length
 same-length c = search needs
@@ -50,10 +57,13 @@ same-length c = search needs
 returns-2 : tie.Need-returns-2
 returns-2 c =
     let r = c .before .before in
-    let d = r .before .before in
+    let p = r .before .before .before in
+    let d = p .before in
     let e = d .before .before in
     let a = Entry e .args in
     r .recover .ensures
+    ∙ ap (λ (l : List (List ℕ)). answered (recovered (a .n - a .t) (present 1 l)) (a .out .now))
+    (ap (λ (s : List ℕ). partsAt (a .n) s (p .places-of .result)) (append-nil (a .entries .now)) ∙ p .places-of .ensures .1)
     ∙ sym (rebuild-answered (a .n) (a .t) (a .entries .now) (a .out .now) (fine e) (sym (d .before .laid-out .ensures) ∙ d .if2 .taken))
 
 returns-3 : tie.Need-returns-3
@@ -69,7 +79,9 @@ rebuild-spec =
     group-cause-requires
     returns
     laid-out-requires
+    places-of-requires
     sub-recover
+    slice-aggregate-recover
     recover-requires
     same-length
     returns-2

@@ -13,12 +13,12 @@ use Rattle.erasure.proofs.times_factor.Statement.{statement}
 use Rattle.erasure.proofs.times_factor.Tie as tie
 
 abbrev Inv-loop : tie.InvT-loop
-Inv-loop r w v₀ k₀ v k =
+Inv-loop r b w v₀ k₀ v k =
     (1 ≤ k) × (k ≤ maxParties) × (length v ≡ maxParties)
     × ((j : ℕ) → j < k → getD v j 0 ≡ factor bytes r (λ i. getD w i 0) j)
 
 abbrev μ-loop : tie.MeasureT-loop
-μ-loop r w v₀ k₀ v k = maxParties - k
+μ-loop r b w v₀ k₀ v k = b - k
 
 array-read-mul : tie.Need-array-read-mul Inv-loop μ-loop
 array-read-mul c = search needs

@@ -14,13 +14,13 @@ use Rattle.erasure.proofs.write_column.Statement.{statement}
 use Rattle.erasure.proofs.write_column.Tie as tie
 
 abbrev Inv-loop : tie.InvT-loop
-Inv-loop m d w next₀ k₀ next k =
+Inv-loop m d b w next₀ k₀ next k =
     (k ≤ maxParties) × (length next ≡ maxParties * maxParties)
     × ((j i : ℕ) → i < maxParties → (i ≡ m → ⊥) → getD next (cell j i) 0 ≡ getD next₀ (cell j i) 0)
     × ((j : ℕ) → j < k → getD next (cell j m) 0 ≡ product (getD w j 0) d)
 
 abbrev μ-loop : tie.MeasureT-loop
-μ-loop m d w next₀ k₀ next k = maxParties - k
+μ-loop m d b w next₀ k₀ next k = b - k
 
 loop-holds : tie.Need-loop-holds Inv-loop μ-loop
 loop-holds c = (omega arith, search needs, λ j i b n. refl, λ j l. absurd (omega arith))
@@ -54,7 +54,7 @@ loop-again c =
       omega arith,
       length-set (l .next) (cell (l .k) (a .m)) y ∙ l .inv .1,
       λ j i b n. getD-set-other (l .next) (cell (l .k) (a .m)) (cell j i) y 0
-          (cell-other j i (l .k) (a .m) b (c .before .before .before .pre) n) ∙ l .inv .2 j i b n,
+          (cell-other j i (l .k) (a .m) b (c .before .before .before .pre .0) n) ∙ l .inv .2 j i b n,
       set-next (l .next) (λ j. cell j (a .m)) (λ j. product (getD (a .t3) j 0) (a .d)) (l .k) y (omega arith)
           (λ j b e. omega arith) (l .inv .3) (c .mul .ensures),
     )
@@ -62,7 +62,7 @@ loop-again c =
 returns : tie.Need-returns Inv-loop μ-loop
 returns c =
     let l = c .before .loop in
-    (λ k i b r n. l .inv .2 k i r n, λ k b. l .inv .3 k (omega arith))
+    (λ k i r n. l .inv .2 k i r n, λ k b. l .inv .3 k (omega arith))
 
 pub write-column-spec : {M : Type 1} → statement M
 write-column-spec =
