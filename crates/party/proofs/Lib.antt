@@ -3,6 +3,7 @@ pub mod Outcomes
 pub mod Kept
 pub mod Silence
 pub mod Walk
+pub mod Gather
 pub mod Taking
 pub mod Ways
 pub mod Checks

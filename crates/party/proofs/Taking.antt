@@ -13,32 +13,31 @@ use lib.ListN.{length, take, drop, length-take}
 use Rattle.limits.specs.Limits.{maxParties, maxMessage, maxShare, maxPath}
 use Rattle.limits.proofs.Group.{group-fine}
 use Rattle.buffer.specs.Splice.{spliced}
-use Rattle.buffer.specs.Entries.{size, body, fills, bodies}
+use Rattle.buffer.specs.Entries.{size, body, bodies}
 use Rattle.buffer.specs.Given.{Given, gave, written, valueOf}
 use Rattle.buffer.specs.declared.Written.{Written}
 use Rattle.buffer.specs.declared.Written.the-variants as given
 use Rattle.buffer.proofs.Written.{the-type as written-type}
 use Rattle.buffer.proofs.Splice.{length-spliced, take-spliced}
 use Rattle.buffer.proofs.Given.{written-done}
-use Rattle.buffer.proofs.Entries.{length-bodies}
 use Rattle.erasure.specs.Rebuild.{Recovered, cause, message, Point, point, present, other, unframed, joined, framed, recovered}
-use Rattle.erasure.specs.Rebuild.{answered, rebuildOf}
+use Rattle.erasure.specs.Rebuild.{answered, rebuildAtOf}
+use Rattle.erasure.specs.declared.Places.{Places}
 use Rattle.erasure.proofs.Frame.{is-unframed}
-use Rattle.erasure.proofs.Outcomes.{rebuild-answered}
+use Rattle.erasure.proofs.Outcomes.{rebuild-at-answered}
+use Rattle.erasure.proofs.Placed.{all-lie}
 use Rattle.merkle.specs.Shares.{passes}
 use Rattle.merkle.proofs.Judged.{passes-true}
 use Rattle.packet.specs.Format.{hashes, packetOf}
-use Rattle.packet.specs.Inbox.{inboxOf}
 use Rattle.packet.specs.Answer.{writeOf}
-use Rattle.packet.proofs.Inbox.{inbox-fills, inbox-bodies}
 use Rattle.packet.proofs.Writing.{cause-fine, write-written}
-use Rattle.party.specs.State.{nothing, settled}
+use Rattle.party.specs.State.{nothing, settled, shareHeld}
 use Rattle.party.specs.Steps.{Taken, missing, found, firstValid, gathered, rebuilt}
-use Rattle.party.specs.Private.{Fit, TakenIs}
+use Rattle.party.specs.Private.{Fit, TakenIs, Gathered}
 use Rattle.party.specs.declared.Party.{Party}
 use Rattle.party.specs.declared.Placed.the-variants.{Nowhere, At}
 use Rattle.commitment.proofs.Answers.{not-done}
-use Rattle.party.proofs.Checks.{took, passing, gathered-length}
+use Rattle.party.proofs.Checks.{took, passing}
 
 -- nothing was taken
 pub taken-none : (t : Taken) (s : List ℕ) → TakenIs Nowhere t s → t ≡ missing
@@ -93,15 +92,16 @@ module _ (H : List ℕ → List ℕ) where
       (cause-fine n own (length y) c low high first last some most (sym count ∙ passes-true H n own y p (length p) z q .0))
       ∙ ap (λ (l : List (List ℕ)). written (packetOf own y l) out) h
 
-  -- rebuilding from the entries of the shares gathered
-  pub rebuilt-of : (x : Party) (inbox es out : List ℕ) → Fit x → es ≡ inboxOf (gathered H x 1 (bodies (x .seat .n) inbox))
-      → rebuildOf (x .seat .n) (x .seat .t) es out ≡ answered (recovered (x .seat .n - x .seat .t) (present 1 (gathered H x 1 (bodies (x .seat .n) inbox)))) out
-  rebuilt-of x inbox es out f e =
-      let gs : List (List ℕ) = gathered H x 1 (bodies (x .seat .n) inbox) in
-      let long : length gs ≡ x .seat .n = gathered-length H x 1 (bodies (x .seat .n) inbox) ∙ length-bodies (x .seat .n) inbox in
-      rebuild-answered (x .seat .n) (x .seat .t) es out (group-fine (x .seat .n) (x .seat .t) (f .low) (f .high) (omega (arith, f .faults)))
-      (ap₂ fills (sym long) e ∙ inbox-fills gs)
-      ∙ ap (λ (l : List (List ℕ)). answered (recovered (x .seat .n - x .seat .t) (present 1 l)) out) (ap₂ bodies (sym long) e ∙ inbox-bodies gs)
+  -- rebuilding from the shares gathered, where they lie
+  pub rebuilt-of : (x : Party) (inbox : List ℕ) (p : Places) (out : List ℕ) → Fit x
+      → Gathered (x .seat .n) (gathered H x 1 (bodies (x .seat .n) inbox)) inbox (shareHeld x) p
+      → rebuildAtOf (x .seat .n) (x .seat .t) inbox (shareHeld x) p out
+      ≡ answered (recovered (x .seat .n - x .seat .t) (present 1 (gathered H x 1 (bodies (x .seat .n) inbox)))) out
+  rebuilt-of x inbox p out f g =
+      rebuild-at-answered (x .seat .n) (x .seat .t) inbox (shareHeld x) p out
+      (group-fine (x .seat .n) (x .seat .t) (f .low) (f .high) (omega (arith, f .faults)))
+      (all-lie (length inbox) (length (shareHeld x)) p (x .seat .n) (g .lie))
+      ∙ ap (λ (l : List (List ℕ)). answered (recovered (x .seat .n - x .seat .t) (present 1 l)) out) (g .parts)
 
 -- a message that was found is within its limit
 abbrev pub Short : Recovered → Type 0

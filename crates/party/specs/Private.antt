@@ -6,7 +6,8 @@ use lib.ListN.{length}
 use Rattle.limits.specs.Limits.{maxParties, maxMessage, maxShare}
 use Rattle.buffer.specs.declared.Written.{Written}
 use Rattle.buffer.specs.declared.Written.the-variants.{Refused, Short, Done}
-use Rattle.erasure.specs.Rebuild.{partsAt, allLie}
+use Rattle.erasure.specs.Rebuild.{partsAt}
+use Rattle.erasure.specs.Arrays.{Lie}
 use Rattle.erasure.specs.declared.Places.{Places}
 use Rattle.packet.specs.Private.{Lies}
 use Rattle.party.specs.Steps.{Taken, missing, found}
@@ -33,10 +34,10 @@ TakenIs Nowhere (found share path) s = ⊥
 TakenIs (At from len count) missing s = ⊥
 TakenIs (At from len count) (found share path) s = Lies s share path from len count
 
--- these shares lie in x and in y behind it, each whole in one of the two
-pub record Gathered (shares : List (List ℕ)) (x y : List ℕ) (p : Places) : Type 0 where
-  pub lie : allLie (length shares) (length x) (length y) p ≡ true
-  pub parts : partsAt (length shares) (x ++ y) p ≡ shares
+-- these n shares lie in x and in y behind it, each whole in one of the two
+pub record Gathered (n : ℕ) (shares : List (List ℕ)) (x y : List ℕ) (p : Places) : Type 0 where
+  pub lie : Lie n (length x) (length y) p
+  pub parts : partsAt n (x ++ y) p ≡ shares
 
 -- what comes of writing: the next state where bytes were written, else the state as it was
 abbrev pub after : Party → Party → Written → Reply

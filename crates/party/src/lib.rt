@@ -309,7 +309,7 @@ impl Party {
     // Where the shares lie to rebuild from: of each sender j a share numbered j that passes the check, in the inbox; the own relayed share, behind it.
     fn gather(self, inbox: &[u8]) -> Places
         requires { ⌜ Fit self × (fills (self .seat .n) (now inbox) ≡ true) ⌝ }
-        ensures { λ r. ⌜ Gathered (gathered sha256 self 1 (bodies (self .seat .n) (now (inbox .entry)))) (now (inbox .entry)) (shareHeld self) r ⌝ }
+        ensures { λ r. ⌜ Gathered (self .seat .n) (gathered sha256 self 1 (bodies (self .seat .n) (now (inbox .entry)))) (now (inbox .entry)) (shareHeld self) r ⌝ }
     {
         let n = self.seat.n;
         let own = self.seat.own;

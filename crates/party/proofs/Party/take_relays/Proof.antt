@@ -1,15 +1,15 @@
 -- `party::Party::take_relays` meets its contract: each return is one outcome of step 5, by the cause, by whether the party is
--- happy and by the answer of rebuilding, which takes the entries that were gathered apart again. Assumes nothing.
+-- happy and by the answer of rebuilding from the shares that were gathered. Assumes nothing.
 use mathlib.Core.Path.{_≡_, refl, sym, ap, _∙_}
 use mathlib.Core.List.{List}
 use Prim.Native.Nat.{ℕ, zero, _+_, _-_, _*_, _≤_}
 use native.Mathlib.Omega.{arith}
 use lib.ListN.{length, take, replicate, length-replicate}
 use lib.Seq.{length-take-le}
-use Rattle.limits.specs.Limits.{maxMessage, maxShare, maxParties}
+use Rattle.limits.specs.Limits.{maxMessage, maxShare}
 use Rattle.buffer.specs.Entries.{bodies}
 use Rattle.buffer.specs.Given.{gave}
-use Rattle.erasure.specs.Rebuild.{Recovered, present, recovered, answered, rebuildOf}
+use Rattle.erasure.specs.Rebuild.{Recovered, present, recovered, answered}
 use Rattle.party.specs.State.{Result, nothing, settled, messageIn, happy}
 use Rattle.party.specs.Steps.{inboxCause, gathered, rebuilt, Stepped, gives, stepped, refused, ending, takeRelaysOf}
 use Rattle.party.specs.Private.{Fit}
@@ -47,43 +47,43 @@ fit e = let x = X (Entry e) in state-fit 5 x (inbox-sound 5 x (S (Entry e)) (fin
 long : (st : tie.Start) → length (X st .message) ≡ maxMessage
 long st = search needs
 
+share-long : (st : tie.Start) → length (X st .share) ≡ maxShare
+share-long st = search needs
+
 -- the message held
 held : (e : tie.Else1) → length (messageIn (X (Entry e))) ≡ X (Entry e) .len
 held e = length-message (X (Entry e)) (omega (arith, long (Entry e), fit e .short))
 
+abbrev Gather : tie.After-rebuild-at → tie.After-gather
+Gather d = d .before .before .before .before
+
 -- a party that is not happy: what is recovered of the shares gathered
-abbrev E : tie.After-rebuild → tie.Else1
-E d = d .before .before .before .before .before .before .before .before
+abbrev E : tie.After-rebuild-at → tie.Else1
+E d = Gather d .before .before .before
 
 abbrev A : tie.Start → Recovered
 A st = recovered (X st .seat .n - X st .seat .t) (present 1 (gathered sha256 (X st) 1 (bodies (X st .seat .n) (S st))))
 
-rebuilding : (d : tie.After-rebuild) → let st = Entry (E d) in
+rebuilding : (d : tie.After-rebuild-at) → let st = Entry (E d) in
     takeRelaysOf sha256 (X st) (S st) (Out st) ≡ ending (X st) (rebuilt (A st)) (Out st)
 rebuilding d =
     let e = E d in
     let st = Entry e in
-    let u = d .before .before .before .before .before .before in
+    let u = Gather d .before in
     relays-rebuilt sha256 (X st) (S st) (Out st) (fine e) (sym (u .before .happy .ensures) ∙ u .if2 .left)
 
 -- the entries, the buffer after rebuilding, and what the answer says
-abbrev O : tie.After-rebuild → List ℕ
-O d = d .rebuild .last .1 .1 .1 .0
+abbrev O : tie.After-rebuild-at → List ℕ
+O d = d .rebuild-at .last .1 .1 .1 .1 .1 .0
 
 abbrev Zeros : List ℕ
 Zeros = replicate maxMessage 0
 
-abbrev Es : tie.After-rebuild → List ℕ
-Es d = let g = d .before .before .before .before .gather in take (g .result) (g .last .1 .1 .0)
-
-asked : (d : tie.After-rebuild) → let x = X (Entry (E d)) in gave (d .rebuild .result) (O d)
-    ≡ rebuildOf (x .seat .n) (x .seat .t) (Es d) Zeros
-asked d = d .rebuild .ensures
-
-told : (d : tie.After-rebuild) → gave (d .rebuild .result) (O d) ≡ answered (A (Entry (E d))) Zeros
+told : (d : tie.After-rebuild-at) → gave (d .rebuild-at .result) (O d) ≡ answered (A (Entry (E d))) Zeros
 told d =
     let st = Entry (E d) in
-    asked d ∙ rebuilt-of sha256 (X st) (S st) (Es d) Zeros (fit (E d)) (d .before .before .before .before .gather .ensures .1)
+    let g = Gather d .gather in
+    d .rebuild-at .ensures ∙ rebuilt-of sha256 (X st) (S st) (g .result) Zeros (fit (E d)) (g .ensures)
 
 short : (st : tie.Start) → Short (A st)
 short st = short-recovered (X st .seat .n - X st .seat .t) (present 1 (gathered sha256 (X st) 1 (bodies (X st .seat .n) (S st))))
@@ -92,7 +92,7 @@ found : (k : tie.After-len) → let d = k .before .before .before in let l = k .
     (rebuilt (A (Entry (E d))) ≡ settled (take l (O d))) × (l ≤ maxMessage) × (l ≤ length (O d))
 found k =
     let d = k .before .before .before in
-    rebuilt-done (O d) Zeros (d .rebuild .result) (length-replicate maxMessage zero) (A (Entry (E d))) (short (Entry (E d)))
+    rebuilt-done (O d) Zeros (d .rebuild-at .result) (length-replicate maxMessage zero) (A (Entry (E d))) (short (Entry (E d)))
     (told d)
     (k .len .given .0 .0) (k .len .given .1)
 
@@ -140,27 +140,26 @@ returns-2 c =
     let st = Entry e in
     w .settle .ensures ∙ sym (relays-happy sha256 (X st) (S st) (Out st) (fine e) (sym (u .before .happy .ensures) ∙ u .if2 .taken))
 
-slice-aggregate-gather : tie.Need-slice-aggregate-gather
-slice-aggregate-gather c = search needs
-
 gather-requires : tie.Need-gather-requires
 gather-requires c κs =
-    let e = c .before .before .before in
-    (fit e, inbox-sound 5 (X (Entry e)) (S (Entry e)) (fine e) .1, length-replicate (maxParties * (maxShare + 2)) zero)
+    let e = c .before .before in
+    (fit e, inbox-sound 5 (X (Entry e)) (S (Entry e)) (fine e) .1)
 
-array-share-prefix-entries : tie.Need-array-share-prefix-entries
-array-share-prefix-entries c = search needs
+array-share-prefix-share : tie.Need-array-share-prefix-share
+array-share-prefix-share c =
+    let e = c .before .before .before .before in
+    omega (arith, share-long (Entry e), fit e .few)
 
-slice-aggregate-rebuild : tie.Need-slice-aggregate-rebuild
-slice-aggregate-rebuild c =
-    let g = c .before .before .gather .ensures in
-    sym (length-take-le (c .before .before .gather .result) _ (g .0))
+slice-aggregate-rebuild-at : tie.Need-slice-aggregate-rebuild-at
+slice-aggregate-rebuild-at c =
+    let e = c .before .before .before .before .before in
+    sym (length-take-le (X (Entry e) .held) (X (Entry e) .share) (omega (arith, share-long (Entry e), fit e .few)))
 
-slice-aggregate-rebuild-2 : tie.Need-slice-aggregate-rebuild-2
-slice-aggregate-rebuild-2 c = search needs
+slice-aggregate-rebuild-at-2 : tie.Need-slice-aggregate-rebuild-at-2
+slice-aggregate-rebuild-at-2 c = search needs
 
-rebuild-requires : tie.Need-rebuild-requires
-rebuild-requires c κs = search needs
+rebuild-at-requires : tie.Need-rebuild-at-requires
+rebuild-at-requires c κs = search needs
 
 enum-known-len : tie.Need-enum-known-len
 enum-known-len c = search needs
@@ -176,7 +175,7 @@ returns-3 c =
     ap {B = Stepped} (λ (y : Party). gives y answer.Nothing (Out st))
     (c .ended .ensures ∙ ended-kept (x .seat) nothing _ refl)
     ∙ sym (rebuilding d ∙ ap (λ (r : Result). ending (X st) r (Out st))
-    (rebuilt-none (O d) Zeros (d .rebuild .result) (length-replicate maxMessage zero) (A st) (short st) (told d)
+    (rebuilt-none (O d) Zeros (d .rebuild-at .result) (length-replicate maxMessage zero) (A st) (short st) (told d)
     (c .before .match .keys2)))
 
 array-share-prefix-message-2 : tie.Need-array-share-prefix-message-2
@@ -215,12 +214,11 @@ take-relays-spec =
     settle-requires
     same-length
     returns-2
-    slice-aggregate-gather
     gather-requires
-    array-share-prefix-entries
-    slice-aggregate-rebuild
-    slice-aggregate-rebuild-2
-    rebuild-requires
+    array-share-prefix-share
+    slice-aggregate-rebuild-at
+    slice-aggregate-rebuild-at-2
+    rebuild-at-requires
     enum-known-len
     ended-requires
     returns-3
