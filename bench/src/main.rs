@@ -7,7 +7,8 @@ use std::error::Error;
 use std::path::Path;
 use std::{env, fs};
 
-use figures::contest::{Others, Tables};
+use cipangohu::MAX_HASHED;
+use figures::contest::{Others, Tables, B, S};
 use figures::every_call::every_call;
 use figures::growth::Sweeps;
 use figures::library::{Isal, Openssl, Zfec};
@@ -74,6 +75,21 @@ fn measure(others: &Others, rounds: u32) -> Result<Measured, Box<dyn Error>> {
             .collect(),
         stack: stacks(),
     })
+}
+
+/// The sizes that the page speaks of, by their names there.
+fn sizes() -> [(&'static str, String); 8] {
+    [
+        ("{n}", GREATEST.n),
+        ("{others}", GREATEST.n - 1),
+        ("{t}", GREATEST.t),
+        ("{b}", B),
+        ("{length}", GREATEST.length),
+        ("{share}", S),
+        ("{leaf}", 2 + S),
+        ("{hashed}", MAX_HASHED),
+    ]
+    .map(|(name, size)| (name, markdown::grouped(size)))
 }
 
 /// The most of what ISA-L's coder looks for that this processor has.
@@ -152,6 +168,7 @@ fn write(docs: &Path, measured: &Measured) -> Result<(), Box<dyn Error>> {
         ),
     ]
     .iter()
+    .chain(&sizes())
     .fold(
         include_str!("figures.md").to_string(),
         |page, (name, text)| page.replace(name, text),

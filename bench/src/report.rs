@@ -4,6 +4,7 @@ use crate::contest::Times;
 use crate::growth::{Point, Sweep, STEPS};
 use crate::markdown::{grouped, ratio, table};
 use crate::plot::{Line, Plot};
+use crate::session::GREATEST;
 use crate::traffic::Traffic;
 
 /// A table of ratios whose columns are the rivals in the order in which they are first named.
@@ -44,11 +45,12 @@ impl Sweep {
         }
     }
 
-    pub fn title(self) -> &'static str {
+    pub fn title(self) -> String {
+        let (n, t, length) = (GREATEST.n, GREATEST.t, grouped(GREATEST.length));
         match self {
-            Sweep::Length => "Time by the length of the book (n 16, t 7)",
-            Sweep::Parties => "Time by the number of boxes (L 1,024, the greatest t)",
-            Sweep::Faults => "Time by the fault limit (n 16, L 1,024)",
+            Sweep::Length => format!("Time by the length of the book (n {n}, t {t})"),
+            Sweep::Parties => format!("Time by the number of boxes (L {length}, the greatest t)"),
+            Sweep::Faults => format!("Time by the fault limit (n {n}, L {length})"),
         }
     }
 }
@@ -75,9 +77,14 @@ pub fn growth_plot(sweep: Sweep, points: &[Point]) -> Plot {
             .collect(),
     };
     Plot {
-        title: sweep.title().into(),
+        title: sweep.title(),
         x_name: sweep.name().into(),
-        y_name: "opening at L 1,024, n 16, t 7 = 1".into(),
+        y_name: format!(
+            "opening at L {}, n {}, t {} = 1",
+            grouped(GREATEST.length),
+            GREATEST.n,
+            GREATEST.t
+        ),
         x_ticks: points.iter().map(|point| point.x as f64).collect(),
         lines: (0..STEPS.len()).map(line).collect(),
     }

@@ -3,6 +3,7 @@
 
 use std::fmt;
 
+use foreign::limits::{LONGEST_ENTRY, LONGEST_MESSAGE, MOST_PARTIES};
 use foreign::packet::HEADER;
 
 use crate::books::{Books, Coded};
@@ -44,9 +45,6 @@ pub enum Change {
     Cut(usize),
 }
 
-/// The longest packet or book whose length has room in two bytes.
-pub const LONGEST: usize = 65_535;
-
 /// A packet cut where its fields meet.
 struct Fields {
     header: [u8; HEADER],
@@ -68,9 +66,9 @@ impl Packet {
                 changes,
             } => changed(books, *number, book, changes)?,
         };
-        match bytes.len() > LONGEST {
+        match bytes.len() > LONGEST_ENTRY {
             true => Err(format!(
-                "the packet has {} bytes, over {LONGEST}",
+                "the packet has {} bytes, over {LONGEST_ENTRY}",
                 bytes.len()
             )),
             false => Ok(Some(bytes)),
@@ -92,8 +90,13 @@ impl Packet {
 
 /// The book's shares, or why there are none of this number.
 fn coded<'a>(books: &'a Books, name: &str, number: usize) -> Result<&'a Coded, String> {
-    let none = "there are no shares: n is 1 to 16, 2·t < n, and a book has at most 1024 bytes";
-    let coded = books.find(name)?.coded.as_ref().ok_or(none)?;
+    let none = || {
+        format!(
+            "there are no shares: n is 1 to {MOST_PARTIES}, 2·t < n, \
+             and a book has at most {LONGEST_MESSAGE} bytes"
+        )
+    };
+    let coded = books.find(name)?.coded.as_ref().ok_or_else(none)?;
     match (1..=books.n).contains(&number) {
         true => Ok(coded),
         false => Err(format!(

@@ -18,6 +18,14 @@ pub fn cut(text: &str, letters: usize) -> String {
     }
 }
 
+/// A number's digits in groups of three.
+pub fn grouped(number: usize) -> String {
+    match number {
+        0..1_000 => number.to_string(),
+        _ => format!("{},{:03}", grouped(number / 1_000), number % 1_000),
+    }
+}
+
 pub fn bytes(count: usize) -> String {
     counted(count, "byte", "bytes")
 }
