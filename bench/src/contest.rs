@@ -34,6 +34,11 @@ impl Times {
         self.others.iter().map(ratio)
     }
 
+    /// The proved code's time on this machine.
+    pub fn microseconds(&self) -> f64 {
+        self.proved * 1e6
+    }
+
     /// The proved code's time, then the others'.
     pub fn each(&mut self) -> impl Iterator<Item = &mut f64> {
         let others = self.others.iter_mut().map(|(_, time)| time);

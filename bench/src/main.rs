@@ -1,4 +1,5 @@
-//! Measures everything, prints the ratios, and writes docs/FIGURES.md with its plots.
+//! Measures everything, prints the ratios and the microseconds of this machine, and writes
+//! docs/FIGURES.md with its plots.
 //!
 //!     figures DOCS [ROUNDS]    # DOCS is the folder; more rounds take longer and trouble less
 //!     figures pass ROUNDS      # one pass, as the first runs several of
@@ -92,6 +93,16 @@ fn sizes() -> [(&'static str, String); 8] {
     .map(|(name, size)| (name, markdown::grouped(size)))
 }
 
+/// This machine's processor, as the system names it.
+fn machine() -> String {
+    let told = fs::read_to_string("/proc/cpuinfo").unwrap_or_default();
+    let mut lines = told.lines().filter_map(|line| line.split_once(": "));
+    let named = lines.find(|(field, _)| field.starts_with("model name"));
+    named
+        .map_or("an x86-64 without a name", |(_, name)| name)
+        .into()
+}
+
 /// The most of what ISA-L's coder looks for that this processor has.
 fn isal_uses() -> &'static str {
     if is_x86_feature_detected!("avx512bw") {
@@ -153,6 +164,7 @@ fn write(docs: &Path, measured: &Measured) -> Result<(), Box<dyn Error>> {
         ("{steps}", report::ratios(steps)),
         ("{coder}", report::ratios(coder)),
         ("{hash}", report::ratios(hash)),
+        ("{machine}", machine()),
         ("{isal}", isal_uses().into()),
         ("{openssl}", openssl_uses().into()),
         ("{targets}", verdict::targets(&measured.contests)),

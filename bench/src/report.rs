@@ -2,12 +2,16 @@
 
 use crate::contest::Times;
 use crate::growth::{Point, Sweep, STEPS};
-use crate::markdown::{grouped, ratio, table};
+use crate::markdown::{figure, grouped, table};
 use crate::plot::{Line, Plot};
 use crate::session::GREATEST;
 use crate::traffic::Traffic;
 
-/// A table of ratios whose columns are the rivals in the order in which they are first named.
+/// What the column of times is called.
+const HERE: &str = "µs, this machine";
+
+/// A table of ratios whose columns are the rivals in the order in which they are first named; last
+/// the proved code's own time.
 pub fn ratios(rows: &[Times]) -> String {
     let mut columns: Vec<&str> = Vec::new();
     for (name, _) in rows.iter().flat_map(Times::ratios) {
@@ -17,13 +21,16 @@ pub fn ratios(rows: &[Times]) -> String {
     }
     let cell = |row: &Times, column: &str| {
         let found = row.ratios().find(|(name, _)| *name == column);
-        found.map_or("–".into(), |(_, value)| ratio(value))
+        found.map_or("–".into(), |(_, value)| figure(value))
     };
     let line = |row: &Times| {
         let cells = columns.iter().map(|column| cell(row, column));
-        std::iter::once(row.work.to_string()).chain(cells).collect()
+        let named = std::iter::once(row.work.to_string()).chain(cells);
+        named.chain([figure(row.microseconds())]).collect()
     };
-    let head = std::iter::once("proved to").chain(columns.iter().copied());
+    let head = std::iter::once("proved to")
+        .chain(columns.iter().copied())
+        .chain([HERE]);
     let rows: Vec<Vec<String>> = rows.iter().map(line).collect();
     table(&head.map(str::to_string).collect::<Vec<_>>(), &rows)
 }
@@ -62,7 +69,7 @@ pub fn growth_table(sweep: Sweep, points: &[Point]) -> String {
         .map(str::to_string)
         .collect();
     let row = |point: &Point| {
-        let times = point.times.iter().map(|&time| ratio(time));
+        let times = point.times.iter().map(|&time| figure(time));
         std::iter::once(grouped(point.x)).chain(times).collect()
     };
     table(&head, &points.iter().map(row).collect::<Vec<_>>())
