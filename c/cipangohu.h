@@ -94,7 +94,7 @@ uint64_t cipangohu_read_packet(size_t n, const uint8_t *packet, size_t packet_le
 uint64_t cipangohu_check_path(size_t n, size_t j, const uint8_t *share, size_t share_len,
                               const uint8_t *path, size_t path_len, const uint8_t *root, size_t root_len);
 
-/* Writes the n shares of a message, of equal length, one behind the other. Value: the bytes written. Causes 1, 2, 4, 9. */
+/* Writes the n shares of a message, of equal length, concatenated. Value: the bytes written. Causes 1, 2, 4, 9. */
 uint64_t cipangohu_shares(size_t n, size_t t, const uint8_t *message, size_t message_len, uint8_t *out, size_t out_len);
 
 /* Rebuilds the message from n entries, each a share, of length 0 if it is missing; of those present the n - t lowest-numbered are used. Value:

@@ -54,7 +54,7 @@ pub fn shares_of(n: usize, b: usize, frame: &[u8]) -> Vec<Vec<u8>> {
         .collect()
 }
 
-/// Writes the n shares of `message` one behind the other.
+/// Writes the n shares of `message`, concatenated.
 pub fn encode(n: usize, t: usize, message: &[u8], out: &mut [u8]) -> Answer {
     if let Some(cause) = bad_parties(n, t) {
         return Answer::Refused(cause);

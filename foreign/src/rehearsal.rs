@@ -59,7 +59,7 @@ impl Fault {
 /// part of, and how many bytes it lacks; 0 if they are there, but are not lawful.
 #[derive(Clone, Copy, Debug, PartialEq, Eq)]
 pub struct Misfit {
-    pub place: usize,
+    pub offset: usize,
     pub part: Part,
     pub missing: usize,
 }
@@ -181,7 +181,7 @@ pub fn read(bytes: &[u8]) -> Result<Plan, Misfit> {
         bytes,
         whole: bytes.len(),
         seen: Misfit {
-            place: 0,
+            offset: 0,
             part: Part::Head,
             missing: 0,
         },
@@ -242,7 +242,7 @@ impl<'a> Rest<'a> {
     }
 
     fn take(&mut self, length: usize) -> Option<&'a [u8]> {
-        self.seen.place = self.whole - self.bytes.len();
+        self.seen.offset = self.whole - self.bytes.len();
         self.seen.missing = length.saturating_sub(self.bytes.len());
         let (taken, behind) = self.bytes.split_at_checked(length)?;
         self.bytes = behind;
@@ -708,9 +708,9 @@ mod tests {
     }
 
     #[test]
-    fn a_misfit_tells_its_place() {
+    fn a_misfit_tells_its_offset() {
         let sound = of_three(&[2, 1], [b"AB", b"AB"]);
-        let misfit = |bytes: &[u8]| read(bytes).err().map(|it| (it.place, it.part, it.missing));
+        let misfit = |bytes: &[u8]| read(bytes).err().map(|it| (it.offset, it.part, it.missing));
         let receivers = |exchange| Part::Receivers {
             exchange,
             sender: 3,

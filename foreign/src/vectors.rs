@@ -59,7 +59,7 @@ pub struct Case {
     pub expected: Part,
 }
 
-/// Bytes being laid out one behind the other.
+/// Bytes being laid out one after the other.
 #[derive(Clone, Debug, Default, PartialEq, Eq)]
 pub struct Part(pub Vec<u8>);
 

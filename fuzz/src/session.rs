@@ -75,7 +75,7 @@ fn parts(packet: &[u8]) -> (Vec<u8>, Vec<u8>) {
     (share.to_vec(), path.to_vec())
 }
 
-/// Writes bytes over others at a place, if they reach so far.
+/// Writes bytes over others at an offset, if they reach so far.
 fn put(bytes: &mut [u8], at: usize, new: &[u8]) {
     if let Some(old) = bytes.get_mut(at..at + new.len()) {
         old.copy_from_slice(new);

@@ -46,15 +46,15 @@ fn against(what: &str) -> String {
 /// Where the layout went wrong, or ran out.
 pub fn place(misfit: Misfit, length: usize) -> String {
     let Misfit {
-        place,
+        offset,
         part,
         missing,
     } = misfit;
     let part = named(part);
     let place = match missing {
-        0 => format!("At byte {place}: {}.", wrong(misfit.part)),
+        0 => format!("At byte {offset}: {}.", wrong(misfit.part)),
         _ => format!(
-            "At byte {place}, in {part}: the plan runs out, {} short.",
+            "At byte {offset}, in {part}: the plan runs out, {} short.",
             bytes(missing)
         ),
     };

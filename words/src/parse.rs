@@ -287,8 +287,8 @@ impl Reader {
                 let book = self.reference(line)?;
                 Ok(Change::Path { number, book })
             }
-            "path" => damage(line).map(|(place, bits)| Change::PathByte { place, bits }),
-            "share" => damage(line).map(|(place, bits)| Change::ShareByte { place, bits }),
+            "path" => damage(line).map(|(offset, bits)| Change::PathByte { offset, bits }),
+            "share" => damage(line).map(|(offset, bits)| Change::ShareByte { offset, bits }),
             "followed" => {
                 line.expect("by")?;
                 line.expect("hex")?;
@@ -348,13 +348,13 @@ fn written(line: &mut Line) -> Result<Option<Vec<u8>>, Error> {
     }
 }
 
-/// A byte's place, and the bits that are turned in it; the lowest one if none are said.
+/// A byte's offset, and the bits that are turned in it; the lowest one if none are said.
 fn damage(line: &mut Line) -> Result<(usize, u8), Error> {
     line.expect("byte")?;
-    let place = line.number("a byte's place", 0..=LONGEST_ENTRY)?;
+    let offset = line.number("a byte's place", 0..=LONGEST_ENTRY)?;
     line.expect("damaged")?;
     if !line.accept("by") {
-        return Ok((place, 1));
+        return Ok((offset, 1));
     }
     // Bits 00 would leave the byte as it is.
     let bits = line.take(|word| match pairs(word)?[..] {
@@ -362,5 +362,5 @@ fn damage(line: &mut Line) -> Result<(usize, u8), Error> {
         _ => None,
     });
     let bits = bits.ok_or_else(|| line.expected("two hexadecimal digits other than 00"))?;
-    Ok((place, bits))
+    Ok((offset, bits))
 }

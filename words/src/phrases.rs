@@ -41,7 +41,7 @@ fn counted(count: usize, one: &str, more: &str) -> String {
     }
 }
 
-/// Numbers one behind the other.
+/// Numbers one after the other.
 pub fn numbers(numbers: &[usize]) -> String {
     let numbers: Vec<String> = numbers.iter().map(usize::to_string).collect();
     numbers.join(" ")

@@ -176,7 +176,7 @@ fn small() -> [Vec<u8>; 3] {
     [KEPT[0].to_vec(), given.bytes(), sending.bytes()]
 }
 
-/// The plan cut short at every place, with a byte more, and with every bit turned.
+/// The plan cut short at every offset, with a byte more, and with every bit turned.
 fn damaged(plan: Vec<u8>) -> Vec<Made> {
     let cut = |length| laid_out(plan[..length].to_vec(), vec![Damage::Cut]);
     let turned = |place: usize| {

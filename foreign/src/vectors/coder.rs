@@ -557,7 +557,7 @@ fn rebuild_over(file: &mut File) {
     }
 }
 
-/// Cause 12 by a non-zero byte at each place of the filling; room or none.
+/// Cause 12 by a non-zero byte at each offset of the filling; room or none.
 fn rebuild_filling(file: &mut File) {
     for (n, t) in CHOSEN.into_iter().filter(|&(n, t)| n - t > 1) {
         let b = n - t;

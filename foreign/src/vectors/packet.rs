@@ -1,7 +1,7 @@
 //! The packets and the inboxes.
 //!
 //! - Reads: n (2 bytes), the packet. What is read of it, twice: the answer (0 silence, 1 a share),
-//!   and the share's number, place and length and the count of hashes (8 each, 0 without a share).
+//!   and the share's number, offset and length and the count of hashes (8 each, 0 without a share).
 //!   The share lies at byte 4, the path right behind it.
 //! - Judgements: n (2), j (2), the root (32), the packet. As above, with answer 0 for a silent,
 //!   1 for a valid and 2 for a faulty packet, and 0 for the number.
@@ -105,7 +105,7 @@ struct File {
     random: Random,
 }
 
-/// What is told of a packet: the answer, and the share's number, its place and length, and the
+/// What is told of a packet: the answer, and the share's number, its offset and length, and the
 /// count of hashes.
 fn told(answer: Answer, share: [usize; 4]) -> Part {
     let number = |part: Part, number: usize| part.eight(number as u64);
@@ -612,7 +612,7 @@ fn fitting_inboxes(file: &mut File) {
     file.inbox(3, &[0, 2, 0, 1, 0, 0, 0, 1, 0], true);
     file.inbox(3, &[0, 0, 0, 1, 0, 0, 0], true);
     file.inbox(3, &[0, 1, 0, 0, 0, 0, 0], true);
-    // The second length leads back into the first entry if places wrap at two to the 16.
+    // The second length leads back into the first entry if offsets wrap at two to the 16.
     file.inbox(3, &[0, 3, 0, 3, 9, 0xFF, 0xFB], false);
     file.inbox(1, &[0], false);
     file.inbox(1, &[1], false);

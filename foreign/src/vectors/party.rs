@@ -13,7 +13,7 @@
 //! - Numbers changed: where (1: 0 n, 1 t, 2 own, 3 len, 4 held), the number (8). Nothing.
 //! - Stages changed: which (1: 0 root, 1 bit, 2 first, 3 second, 4 ended with nothing, 5 with a
 //!   message), that message's length (8). Nothing.
-//! - Bytes changed: where (1: 0 message, 1 root, 2 share, 3 the inbox), from which place (2), the
+//! - Bytes changed: where (1: 0 message, 1 root, 2 share, 3 the inbox), from which offset (2), the
 //!   bytes. Nothing.
 //!
 //! The verdict: the answer, and SHA-256 (32) of the state with SHA-256 of the out buffer behind it,
