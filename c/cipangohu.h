@@ -23,9 +23,9 @@
  *  5 not a state                             11 fewer than n - t shares
  *  6 not the step that is due                12 shares of no message
  *
- * An entry is a two-byte length and as many bytes; n of them, in number order, make an inbox, an outbox, or what is rebuilt from. In an inbox
- * entry k is what party k sent, length 0 if it sent nothing. A packet in it that cannot be read or fails the check is passed over, and
- * so is the own entry.
+ * An entry is a two-byte length and as many bytes, up to CIPANGOHU_ENTRY; n of them, in number order, make an inbox, an outbox, or what is rebuilt
+ * from. In an inbox entry k is what party k sent, length 0 if it sent nothing. A packet in it that cannot be read or fails the check is passed
+ * over, and so is the own entry.
  *
  * A buffer that a call writes overlaps no other buffer of that call. Through a pointer with length 0 nothing is read or written. Nothing is
  * global: calls on different buffers may run at once. In trials every call fits a stack of 256 KiB; docs/FIGURES.md tells what each takes. */
@@ -39,16 +39,23 @@
 extern "C" {
 #endif
 
+/* The greatest numbers, each once: parties, hashes in a path, and the bytes of a message, of a string that is hashed and of an entry. Last the
+ * bytes of a hash, and so of a root. */
 #define CIPANGOHU_PARTIES 16
+#define CIPANGOHU_PATH 4
 #define CIPANGOHU_MESSAGE 1024
-#define CIPANGOHU_SHARE (CIPANGOHU_MESSAGE + 2)
+#define CIPANGOHU_HASHED 65535
+#define CIPANGOHU_ENTRY 65535
 #define CIPANGOHU_ROOT 32
-#define CIPANGOHU_STATE (40 + CIPANGOHU_MESSAGE + CIPANGOHU_SHARE)
 
-/* Room for any packet that a party writes: map, number and share length, the share, a path of four hashes. Then for any outbox: all shares of a
- * message together, and beside each its entry's length and the rest of its packet. */
-#define CIPANGOHU_PACKET (4 + CIPANGOHU_SHARE + 4 * CIPANGOHU_ROOT)
-#define CIPANGOHU_OUTBOX (2 * (CIPANGOHU_SHARE + CIPANGOHU_PARTIES) + CIPANGOHU_PARTIES * (6 + 4 * CIPANGOHU_ROOT))
+/* What follows from them, in bytes: the longest share, which is the whole frame of one party alone; a state; room for any packet that a party
+ * writes: map, number and share length, the share, the longest path; and for any outbox: all shares of a message together, and beside each
+ * its entry's length and the rest of its packet. */
+#define CIPANGOHU_SHARE (CIPANGOHU_MESSAGE + 2)
+#define CIPANGOHU_STATE (8 + CIPANGOHU_ROOT + CIPANGOHU_MESSAGE + CIPANGOHU_SHARE)
+#define CIPANGOHU_PACKET (4 + CIPANGOHU_SHARE + CIPANGOHU_PATH * CIPANGOHU_ROOT)
+#define CIPANGOHU_OUTBOX \
+    (2 * (CIPANGOHU_SHARE + CIPANGOHU_PARTIES) + CIPANGOHU_PARTIES * (6 + CIPANGOHU_PATH * CIPANGOHU_ROOT))
 
 /* The value of take_relays for the result nothing, which is no message, not even an empty one. */
 #define CIPANGOHU_NOTHING UINT32_C(0xFFFFFFFF)
@@ -83,18 +90,18 @@ uint64_t cipangohu_take_relays(uint8_t *state, size_t state_len, const uint8_t *
 uint64_t cipangohu_read_packet(size_t n, const uint8_t *packet, size_t packet_len);
 
 /* Whether a path of hashes leads from share j of n to the root. Value: 1 yes, 0 no; a path that is not as many whole hashes as
- * n and j give is a no. Causes 1, 3, 4 (a share over 65,533 bytes), 7. */
+ * n and j give is a no. Causes 1, 3, 4 (a share over CIPANGOHU_HASHED - 2 bytes), 7. */
 uint64_t cipangohu_check_path(size_t n, size_t j, const uint8_t *share, size_t share_len,
                               const uint8_t *path, size_t path_len, const uint8_t *root, size_t root_len);
 
-/* Writes the n shares of a message, of equal length, one behind the other. Value: the bytes written. Causes 1, 2, 4, 9. */
+/* Writes the n shares of a message, of equal length, concatenated. Value: the bytes written. Causes 1, 2, 4, 9. */
 uint64_t cipangohu_shares(size_t n, size_t t, const uint8_t *message, size_t message_len, uint8_t *out, size_t out_len);
 
 /* Rebuilds the message from n entries, each a share, of length 0 if it is missing; of those present the n - t lowest-numbered are used. Value:
  * the bytes written. Causes 1, 2, 8, 11, 12, and 9 where a message was found. */
 uint64_t cipangohu_rebuild(size_t n, size_t t, const uint8_t *entries, size_t entries_len, uint8_t *out, size_t out_len);
 
-/* SHA-256 of up to 65535 bytes. Value: 32. Causes 4, 9. */
+/* SHA-256 of up to CIPANGOHU_HASHED bytes. Value: 32. Causes 4, 9. */
 uint64_t cipangohu_hash(const uint8_t *message, size_t message_len, uint8_t *out, size_t out_len);
 
 #ifdef __cplusplus

@@ -49,7 +49,7 @@
     pop rax
     .endm
 
-# Jumps to `bad` unless the shadow of the byte at rdi is 0, or greater than the byte's place among its eight.
+# Jumps to `bad` unless the shadow of the byte at rdi is 0, or greater than the byte's offset in its eight.
     .macro shadow bad
     mov rax, rdi
     shr rax, 3

@@ -2,7 +2,7 @@
 
 use std::hint::black_box;
 
-use cipangohu::{calls, lay_out, MAX_HASHED, MAX_MESSAGE};
+use cipangohu::{calls, lay_out, HASH, MAX_HASHED, MAX_MESSAGE};
 use foreign::{coder, random::Random, sha256};
 
 use crate::clock::Race;
@@ -34,6 +34,11 @@ impl Times {
         self.others.iter().map(ratio)
     }
 
+    /// The proved code's time on this machine.
+    pub fn microseconds(&self) -> f64 {
+        self.proved * 1e6
+    }
+
     /// The proved code's time, then the others'.
     pub fn each(&mut self) -> impl Iterator<Item = &mut f64> {
         let others = self.others.iter_mut().map(|(_, time)| time);
@@ -63,10 +68,10 @@ pub struct Others {
     pub openssl_plain: Option<Openssl>,
 }
 
-/// The shape of the greatest session's code.
+/// The shape of the greatest session's code: as many blocks of as many bytes.
 const N: usize = GREATEST.n;
-const B: usize = GREATEST.n - GREATEST.t;
-const S: usize = (MAX_MESSAGE + 2).div_ceil(B);
+pub const B: usize = GREATEST.n - GREATEST.t;
+pub const S: usize = (MAX_MESSAGE + 2).div_ceil(B);
 
 struct Contest<'a> {
     work: &'static str,
@@ -117,7 +122,10 @@ fn steps(rounds: u32) -> Vec<Times> {
 
 /// Whole sessions: all parties happy, and as many unhappy as there may be bad.
 fn sessions(rounds: u32) -> Vec<Times> {
-    let named = [("a sitting, one book", 0), ("a sitting, seven rebuild", 7)];
+    let named = [
+        ("a sitting, one book", 0),
+        ("a sitting, t rebuild", GREATEST.t),
+    ];
     let times = named.map(|(name, unhappy)| {
         let setting = Setting {
             unhappy,
@@ -188,7 +196,7 @@ fn rebuilding(others: &Others, rounds: u32) -> Times {
     shares[..GREATEST.t].fill(Vec::new());
     let entries = lay_out(&shares);
     let (mut ours, mut theirs) = ([0; MAX_MESSAGE], [0; MAX_MESSAGE]);
-    let mut contest = Contest::of("a book from nine shares", || {
+    let mut contest = Contest::of("a book from b shares", || {
         calls::rebuild((N, GREATEST.t), black_box(&entries), &mut ours).expect("lawful");
     });
     contest.against(FOREIGN, || {
@@ -239,12 +247,12 @@ fn isal_rebuild(isal: Isal, by: Encoder, frame: &mut [u8]) -> impl FnMut() {
 /// The hash of the longest string, and of a leaf string of the greatest session.
 fn hashing(others: &Others, rounds: u32) -> Vec<Times> {
     let named = [
-        ("hash of 65,535 bytes", MAX_HASHED),
+        ("hash of the longest string", MAX_HASHED),
         ("hash of a leaf string", 2 + S),
     ];
     let times = named.map(|(name, length)| {
         let message = Random::new(3).bytes(length);
-        let mut digest = [0; 32];
+        let mut digest = [0; HASH];
         let mut contest = Contest::of(name, || {
             calls::hash(black_box(&message), &mut digest).expect("lawful");
         });

@@ -1,7 +1,8 @@
 //! Every function of the archive along each of its ways, for whoever wants to run them all.
 
 use cipangohu::{
-    calls, entries, lay_out, read_packet, Cause, MAX_HASHED, MAX_MESSAGE, MAX_OUTBOX, STATE,
+    calls, entries, lay_out, read_packet, Cause, HASH, MAX_HASHED, MAX_MESSAGE, MAX_OUTBOX,
+    MAX_PATH, STATE,
 };
 
 use crate::party::{Party, Proved};
@@ -151,11 +152,11 @@ fn read(n: usize, at: &Moments<Proved>, visit: Visit) {
 /// The functions that take long strings.
 fn strings(visit: Visit) {
     let string = vec![7; MAX_HASHED];
-    let mut digest = [0; 32];
+    let mut digest = [0; HASH];
     visit("hash", &mut || {
         calls::hash(&string, &mut digest).expect("a digest");
     });
-    let path = [0; 4 * 32];
+    let path = [0; MAX_PATH * HASH];
     visit("check_path, the longest string", &mut || {
         let share = &string[..MAX_HASHED - 2];
         let passes = calls::check_path((GREATEST.n, 1), share, &path, &digest);

@@ -1,4 +1,5 @@
-//! Measures everything, prints the ratios, and writes docs/FIGURES.md with its plots.
+//! Measures everything, prints the ratios and the microseconds of this machine, and writes
+//! docs/FIGURES.md with its plots.
 //!
 //!     figures DOCS [ROUNDS]    # DOCS is the folder; more rounds take longer and trouble less
 //!     figures pass ROUNDS      # one pass, as the first runs several of
@@ -7,7 +8,8 @@ use std::error::Error;
 use std::path::Path;
 use std::{env, fs};
 
-use figures::contest::{Others, Tables};
+use cipangohu::MAX_HASHED;
+use figures::contest::{Others, Tables, B, S};
 use figures::every_call::every_call;
 use figures::growth::Sweeps;
 use figures::library::{Isal, Openssl, Zfec};
@@ -76,6 +78,31 @@ fn measure(others: &Others, rounds: u32) -> Result<Measured, Box<dyn Error>> {
     })
 }
 
+/// The sizes that the page speaks of, by their names there.
+fn sizes() -> [(&'static str, String); 8] {
+    [
+        ("{n}", GREATEST.n),
+        ("{others}", GREATEST.n - 1),
+        ("{t}", GREATEST.t),
+        ("{b}", B),
+        ("{length}", GREATEST.length),
+        ("{share}", S),
+        ("{leaf}", 2 + S),
+        ("{hashed}", MAX_HASHED),
+    ]
+    .map(|(name, size)| (name, markdown::grouped(size)))
+}
+
+/// This machine's processor, as the system names it.
+fn machine() -> String {
+    let told = fs::read_to_string("/proc/cpuinfo").unwrap_or_default();
+    let mut lines = told.lines().filter_map(|line| line.split_once(": "));
+    let named = lines.find(|(field, _)| field.starts_with("model name"));
+    named
+        .map_or("an x86-64 without a name", |(_, name)| name)
+        .into()
+}
+
 /// The most of what ISA-L's coder looks for that this processor has.
 fn isal_uses() -> &'static str {
     if is_x86_feature_detected!("avx512bw") {
@@ -137,6 +164,7 @@ fn write(docs: &Path, measured: &Measured) -> Result<(), Box<dyn Error>> {
         ("{steps}", report::ratios(steps)),
         ("{coder}", report::ratios(coder)),
         ("{hash}", report::ratios(hash)),
+        ("{machine}", machine()),
         ("{isal}", isal_uses().into()),
         ("{openssl}", openssl_uses().into()),
         ("{targets}", verdict::targets(&measured.contests)),
@@ -152,6 +180,7 @@ fn write(docs: &Path, measured: &Measured) -> Result<(), Box<dyn Error>> {
         ),
     ]
     .iter()
+    .chain(&sizes())
     .fold(
         include_str!("figures.md").to_string(),
         |page, (name, text)| page.replace(name, text),

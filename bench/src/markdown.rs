@@ -13,12 +13,12 @@ pub fn grouped(number: usize) -> String {
     text
 }
 
-/// A ratio with as many digits as say something.
-pub fn ratio(ratio: f64) -> String {
-    match ratio {
-        r if r < 10.0 => format!("{r:.2}"),
-        r if r < 100.0 => format!("{r:.1}"),
-        r => format!("{r:.0}"),
+/// A ratio, or a time, with as many digits as say something.
+pub fn figure(measured: f64) -> String {
+    match measured {
+        m if m < 10.0 => format!("{m:.2}"),
+        m if m < 100.0 => format!("{m:.1}"),
+        m => grouped(m.round() as usize),
     }
 }
 
@@ -66,6 +66,13 @@ mod tests {
         assert_eq!(grouped(999), "999");
         assert_eq!(grouped(1_024), "1,024");
         assert_eq!(grouped(1_234_567), "1,234,567");
+    }
+
+    #[test]
+    fn figures_have_as_many_digits_as_say_something() {
+        assert_eq!(figure(0.014), "0.01");
+        assert_eq!(figure(28.86), "28.9");
+        assert_eq!(figure(12_345.6), "12,346");
     }
 
     #[test]

@@ -1,6 +1,6 @@
 //! One party of either implementation, behind one trait, so that both play the same sessions.
 
-use cipangohu::{calls, Hash, STATE};
+use cipangohu::{calls, Hash, HASH, STATE};
 use foreign::party::{Given, State};
 
 /// Each step changes the state that the caller keeps. The calls made here are lawful: a refusal ends
@@ -26,7 +26,7 @@ const LAWFUL: &str = "the call is lawful";
 impl Party for Proved {
     fn open((n, t): (usize, usize), own: usize, message: &[u8]) -> (Self, Hash) {
         let mut party = Proved([0; STATE]);
-        let mut root = [0; 32];
+        let mut root = [0; HASH];
         calls::open((n, t, own), message, &mut party.0, &mut root).expect(LAWFUL);
         (party, root)
     }

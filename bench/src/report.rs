@@ -2,11 +2,16 @@
 
 use crate::contest::Times;
 use crate::growth::{Point, Sweep, STEPS};
-use crate::markdown::{grouped, ratio, table};
+use crate::markdown::{figure, grouped, table};
 use crate::plot::{Line, Plot};
+use crate::session::GREATEST;
 use crate::traffic::Traffic;
 
-/// A table of ratios whose columns are the rivals in the order in which they are first named.
+/// What the column of times is called.
+const HERE: &str = "µs, this machine";
+
+/// A table of ratios whose columns are the rivals in the order in which they are first named; last
+/// the proved code's own time.
 pub fn ratios(rows: &[Times]) -> String {
     let mut columns: Vec<&str> = Vec::new();
     for (name, _) in rows.iter().flat_map(Times::ratios) {
@@ -16,13 +21,16 @@ pub fn ratios(rows: &[Times]) -> String {
     }
     let cell = |row: &Times, column: &str| {
         let found = row.ratios().find(|(name, _)| *name == column);
-        found.map_or("–".into(), |(_, value)| ratio(value))
+        found.map_or("–".into(), |(_, value)| figure(value))
     };
     let line = |row: &Times| {
         let cells = columns.iter().map(|column| cell(row, column));
-        std::iter::once(row.work.to_string()).chain(cells).collect()
+        let named = std::iter::once(row.work.to_string()).chain(cells);
+        named.chain([figure(row.microseconds())]).collect()
     };
-    let head = std::iter::once("proved to").chain(columns.iter().copied());
+    let head = std::iter::once("proved to")
+        .chain(columns.iter().copied())
+        .chain([HERE]);
     let rows: Vec<Vec<String>> = rows.iter().map(line).collect();
     table(&head.map(str::to_string).collect::<Vec<_>>(), &rows)
 }
@@ -44,11 +52,12 @@ impl Sweep {
         }
     }
 
-    pub fn title(self) -> &'static str {
+    pub fn title(self) -> String {
+        let (n, t, length) = (GREATEST.n, GREATEST.t, grouped(GREATEST.length));
         match self {
-            Sweep::Length => "Time by the length of the book (n 16, t 7)",
-            Sweep::Parties => "Time by the number of boxes (L 1,024, the greatest t)",
-            Sweep::Faults => "Time by the fault limit (n 16, L 1,024)",
+            Sweep::Length => format!("Time by the length of the book (n {n}, t {t})"),
+            Sweep::Parties => format!("Time by the number of boxes (L {length}, the greatest t)"),
+            Sweep::Faults => format!("Time by the fault limit (n {n}, L {length})"),
         }
     }
 }
@@ -60,7 +69,7 @@ pub fn growth_table(sweep: Sweep, points: &[Point]) -> String {
         .map(str::to_string)
         .collect();
     let row = |point: &Point| {
-        let times = point.times.iter().map(|&time| ratio(time));
+        let times = point.times.iter().map(|&time| figure(time));
         std::iter::once(grouped(point.x)).chain(times).collect()
     };
     table(&head, &points.iter().map(row).collect::<Vec<_>>())
@@ -75,9 +84,14 @@ pub fn growth_plot(sweep: Sweep, points: &[Point]) -> Plot {
             .collect(),
     };
     Plot {
-        title: sweep.title().into(),
+        title: sweep.title(),
         x_name: sweep.name().into(),
-        y_name: "opening at L 1,024, n 16, t 7 = 1".into(),
+        y_name: format!(
+            "opening at L {}, n {}, t {} = 1",
+            grouped(GREATEST.length),
+            GREATEST.n,
+            GREATEST.t
+        ),
         x_ticks: points.iter().map(|point| point.x as f64).collect(),
         lines: (0..STEPS.len()).map(line).collect(),
     }

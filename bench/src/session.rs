@@ -1,7 +1,7 @@
 //! A whole session of good parties, and its moments: the states and inboxes from which single steps
 //! are measured.
 
-use cipangohu::{entries, lay_out, Hash, MAX_MESSAGE, MAX_OUTBOX, MAX_PACKET};
+use cipangohu::{entries, lay_out, Hash, MAX_MESSAGE, MAX_OUTBOX, MAX_PACKET, MAX_PARTIES};
 use foreign::random::Random;
 
 use crate::party::Party;
@@ -18,14 +18,14 @@ pub struct Setting {
 
 /// The greatest session, of which all but the last party are happy.
 pub const GREATEST: Setting = Setting {
-    n: 16,
-    t: 7,
+    n: MAX_PARTIES,
+    t: most_faults(MAX_PARTIES),
     length: MAX_MESSAGE,
     unhappy: 1,
 };
 
 /// The greatest fault limit among n parties.
-pub fn most_faults(n: usize) -> usize {
+pub const fn most_faults(n: usize) -> usize {
     n.div_ceil(2) - 1
 }
 

@@ -1,6 +1,8 @@
 //! The bytes that good parties with one message send, beside what is proved of them and beside the
 //! plain way, in which every party sends its message to all others.
 
+use cipangohu::HASH;
+
 use crate::party::Proved;
 use crate::session::{most_faults, play, Setting, GREATEST};
 
@@ -18,7 +20,7 @@ pub struct Traffic {
 fn bound(n: usize, t: usize, length: usize) -> usize {
     let s = (length + 2).div_ceil(n - t);
     let h = n.next_power_of_two().ilog2() as usize;
-    2 * n * (n - 1) * (4 + s + 32 * h)
+    2 * n * (n - 1) * (4 + s + HASH * h)
 }
 
 /// For n from 2 up, with the greatest fault limit.

@@ -3,7 +3,7 @@
 use crate::contest::{
     Tables, FOREIGN, NATIVE, OPENSSL, OPENSSL_PLAIN, PORTABLE, PORTABLE_WHOLE, ZFEC,
 };
-use crate::markdown::ratio;
+use crate::markdown::figure;
 
 /// Ratios of equal code differ by as much from run to run.
 const NOISE: f64 = 0.02;
@@ -43,7 +43,7 @@ fn behind(tables: &Tables, other: &str) -> Vec<String> {
         let slower = row
             .ratios()
             .filter(|(name, r)| *name == other && *r > 1.0 + NOISE);
-        found.extend(slower.map(|(_, r)| format!("{} ({})", row.work, ratio(r))));
+        found.extend(slower.map(|(_, r)| format!("{} ({})", row.work, figure(r))));
     }
     found
 }

@@ -2,9 +2,7 @@
 //! Rebuilding is Gauss elimination on the system of the powers of the party numbers.
 
 use crate::field::{inv, mul, pow};
-
-pub const MOST_PARTIES: usize = 16;
-pub const LONGEST_MESSAGE: usize = 1024;
+use crate::limits::{LONGEST_MESSAGE, MOST_PARTIES};
 
 /// What a call answers: a cause, the length needed (cause 9), or the bytes written.
 #[derive(Clone, Copy, Debug, PartialEq, Eq)]
@@ -56,7 +54,7 @@ pub fn shares_of(n: usize, b: usize, frame: &[u8]) -> Vec<Vec<u8>> {
         .collect()
 }
 
-/// Writes the n shares of `message` one behind the other.
+/// Writes the n shares of `message`, concatenated.
 pub fn encode(n: usize, t: usize, message: &[u8], out: &mut [u8]) -> Answer {
     if let Some(cause) = bad_parties(n, t) {
         return Answer::Refused(cause);
@@ -167,6 +165,7 @@ fn message_in(b: usize, frame: &[u8]) -> Option<Vec<u8>> {
 #[cfg(test)]
 mod tests {
     use super::*;
+    use crate::limits::MOST_FAULTS;
 
     fn encoded(n: usize, t: usize, message: &[u8]) -> Vec<u8> {
         let mut out = vec![0u8; 4000];
@@ -202,16 +201,17 @@ mod tests {
     #[test]
     fn worked_limits() {
         let mut out = vec![0u8; 4000];
-        let message = vec![7u8; 1025];
+        let (n, t) = (MOST_PARTIES, MOST_FAULTS);
+        let message = vec![7u8; LONGEST_MESSAGE + 1];
         assert_eq!(
-            encode(16, 7, &message[..1024], &mut out),
-            Answer::Done(16 * 114)
+            encode(n, t, &message[1..], &mut out),
+            Answer::Done(n * share_length(n - t, LONGEST_MESSAGE))
         );
-        assert_eq!(encode(16, 7, &message, &mut out), Answer::Refused(4));
-        for t in [8, 1 << 63, usize::MAX] {
-            assert_eq!(encode(16, t, b"", &mut out), Answer::Refused(2));
+        assert_eq!(encode(n, t, &message, &mut out), Answer::Refused(4));
+        for t in [t + 1, 1 << 63, usize::MAX] {
+            assert_eq!(encode(n, t, b"", &mut out), Answer::Refused(2));
         }
-        assert_eq!(encode(17, 0, b"", &mut out), Answer::Refused(1));
+        assert_eq!(encode(n + 1, 0, b"", &mut out), Answer::Refused(1));
         assert_eq!(encode(0, 0, b"", &mut out), Answer::Refused(1));
     }
 

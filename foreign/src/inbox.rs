@@ -38,6 +38,7 @@ pub fn laid_out(n: usize, bytes: &[u8]) -> bool {
 #[cfg(test)]
 mod tests {
     use super::*;
+    use crate::limits::MOST_PARTIES;
 
     #[test]
     fn hand_made() {
@@ -55,7 +56,7 @@ mod tests {
 
     #[test]
     fn what_was_laid_out_is_taken_apart() {
-        for n in 1..=16 {
+        for n in 1..=MOST_PARTIES {
             let packets: Vec<Vec<u8>> = (0..n).map(|i| vec![i as u8; 97 * i]).collect();
             let bytes = lay_out(&packets);
             let found = entries(n, &bytes).expect("a good layout");

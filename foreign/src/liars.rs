@@ -2,6 +2,7 @@
 //! something close to it, or something else altogether.
 
 use crate::coder::{frame_of, shares_of};
+use crate::limits::{LONGEST_SHARE, MOST_PARTIES};
 use crate::packet::write;
 use crate::random::Random;
 use crate::sha256::Hash;
@@ -201,11 +202,12 @@ impl Scene {
             }
             Lie::LengthField => {
                 let length = u16::from_be_bytes([packet[2], packet[3]]);
-                let lengths = [0, length - 1, length + 1, length + 32, 1027, 65_535];
+                let over = LONGEST_SHARE as u16 + 1;
+                let lengths = [0, length - 1, length + 1, length + 32, over, u16::MAX];
                 packet[2..4].copy_from_slice(&random.pick(&lengths).to_be_bytes());
             }
             Lie::FieldMap => packet[0] = random.pick(&[0, 1, 3, 5, 6, 15, 135, 255]),
-            _ => packet[1] = random.pick(&[0, self.n() as u8 + 1, 17, 255]),
+            _ => packet[1] = random.pick(&[0, self.n() as u8 + 1, MOST_PARTIES as u8 + 1, 255]),
         }
         packet
     }
@@ -288,7 +290,7 @@ mod tests {
     #[test]
     fn only_the_honest_packet_is_taken() {
         let mut random = Random::new(1);
-        for n in 2..=16 {
+        for n in 2..=MOST_PARTIES {
             let t = (n - 1) / 2;
             let agreed = Sharing::of(n, t, &random.bytes(3 * n));
             let other = Sharing::of(n, t, &random.bytes(3 * n));

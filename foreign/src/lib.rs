@@ -6,6 +6,7 @@ pub mod coder;
 pub mod field;
 pub mod inbox;
 pub mod liars;
+pub mod limits;
 pub mod packet;
 pub mod party;
 pub mod plans;

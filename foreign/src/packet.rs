@@ -1,11 +1,9 @@
 //! Packets as the boxes send them: how one is written, read, and held against the number
 //! demanded of it and the agreed root.
 
-use crate::coder::MOST_PARTIES;
+use crate::limits::{LONGEST_SHARE, MOST_PARTIES};
 use crate::sha256::Hash;
 use crate::tree::{check, path_length};
-
-pub const LONGEST_SHARE: usize = 1026;
 
 /// The bytes in front of the share: map, number, and the share's length.
 pub const HEADER: usize = 4;
@@ -203,9 +201,9 @@ mod tests {
 
     #[test]
     fn longest_share() {
-        for (length, readable) in [(1026, true), (1027, false)] {
-            let [high, low] = u16::to_be_bytes(length);
-            let bytes = [vec![7, 1, high, low], vec![3; length.into()]].concat();
+        for (length, readable) in [(LONGEST_SHARE, true), (LONGEST_SHARE + 1, false)] {
+            let [high, low] = u16::to_be_bytes(length as u16);
+            let bytes = [vec![7, 1, high, low], vec![3; length]].concat();
             assert_eq!(read(1, &bytes) != Reading::Refused(10), readable);
         }
     }
@@ -214,11 +212,12 @@ mod tests {
     fn silence_and_causes() {
         let root = hash(&[0, 1, 9]);
         for bytes in [&[][..], &[0]] {
-            assert_eq!(read(16, bytes), Reading::Silence);
-            assert_eq!(classify(16, 16, root, bytes), Ok(Standing::Silent));
-            assert_eq!(classify(16, 17, root, bytes), Err(3));
-            assert_eq!(classify(16, 0, root, bytes), Err(3));
-            for n in [0, 17] {
+            let most = MOST_PARTIES;
+            assert_eq!(read(most, bytes), Reading::Silence);
+            assert_eq!(classify(most, most, root, bytes), Ok(Standing::Silent));
+            assert_eq!(classify(most, most + 1, root, bytes), Err(3));
+            assert_eq!(classify(most, 0, root, bytes), Err(3));
+            for n in [0, most + 1] {
                 assert_eq!(read(n, bytes), Reading::Refused(1));
                 assert_eq!(classify(n, 0, root, bytes), Err(1));
             }
@@ -240,7 +239,8 @@ mod tests {
         assert_eq!(write_into((1, 1), &[], &[], &mut out), Err((10, 0)));
         assert_eq!(write_into((1, 1), &[9], &[[0; 32]], &mut out), Err((10, 0)));
         assert_eq!(write_into((1, 2), &[], &[], &mut out), Err((3, 0)));
-        assert_eq!(write_into((17, 18), &[], &[], &mut out), Err((1, 0)));
+        let over = (MOST_PARTIES + 1, MOST_PARTIES + 2);
+        assert_eq!(write_into(over, &[], &[], &mut out), Err((1, 0)));
         assert_eq!(out, [0xA5; 5]);
     }
 }

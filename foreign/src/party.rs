@@ -1,9 +1,10 @@
 //! One party: its state, its opening and steps 2 to 5. A step takes the state apart into
 //! lawful values, works on those, and builds the next state anew.
 
-use crate::coder::{frame_of, rebuild, shares_of, Answer, LONGEST_MESSAGE, MOST_PARTIES};
+use crate::coder::{frame_of, rebuild, shares_of, Answer};
 use crate::inbox::{entries, lay_out};
-use crate::packet::{self, classify, Standing, LONGEST_SHARE};
+use crate::limits::{LONGEST_MESSAGE, LONGEST_SHARE, MOST_PARTIES};
+use crate::packet::{self, classify, Standing};
 use crate::sha256::Hash;
 use crate::tree;
 
@@ -358,6 +359,7 @@ impl Party {
 #[cfg(test)]
 mod tests {
     use super::*;
+    use crate::limits::{LONGEST_OUTBOX, MOST_FAULTS};
 
     const LENT: u8 = 0xA5;
 
@@ -372,7 +374,7 @@ mod tests {
 
     /// An accepted step's state and what it wrote.
     fn wrote(given: impl FnOnce(&mut [u8]) -> Given<usize>) -> (State, Vec<u8>) {
-        let mut out = vec![LENT; 20_000];
+        let mut out = vec![LENT; LONGEST_OUTBOX];
         let (state, answer) = given(&mut out);
         let length = answer.expect("accepted");
         assert!(out[length..].iter().all(|&x| x == LENT));
@@ -463,17 +465,18 @@ mod tests {
 
     #[test]
     fn an_opening_is_refused_by_its_lowest_cause() {
-        let long = vec![7; 1025];
-        assert!(State::open(16, 7, 16, &long[1..]).1.is_ok());
+        let long = vec![7; LONGEST_MESSAGE + 1];
+        let (most, half) = (MOST_PARTIES as u64, MOST_FAULTS as u64);
+        assert!(State::open(most, half, most, &long[1..]).1.is_ok());
         for (n, t, own, want) in [
             (0, 0, 0, 1),
-            (17, 9, 18, 1),
+            (most + 1, half + 2, most + 2, 1),
             (u64::MAX, 0, 1, 1),
-            (16, 8, 17, 2),
+            (most, half + 1, most + 1, 2),
             (1, 1 << 63, 0, 2),
-            (16, 7, 17, 3),
-            (16, 7, 0, 3),
-            (16, 7, 16, 4),
+            (most, half, most + 1, 3),
+            (most, half, 0, 3),
+            (most, half, most, 4),
         ] {
             let given = State::open(n, t, own, &long);
             assert_eq!(given.0, State::blank());
@@ -499,12 +502,12 @@ mod tests {
         assert_eq!(short(state.clone().agree_bit(0, &mut out[..3])), (9, 4));
         assert_eq!(out, vec![LENT; 39]);
         for change in [
-            |s: &mut State| s.n = 17,
+            |s: &mut State| s.n = MOST_PARTIES as u64 + 1,
             |s: &mut State| s.t = u64::MAX,
             |s: &mut State| s.own = 3,
-            |s: &mut State| s.len = 1025,
-            |s: &mut State| s.held = 1027,
-            |s: &mut State| s.stage = Stage::Ended(Outcome::Message(1025)),
+            |s: &mut State| s.len = LONGEST_MESSAGE as u64 + 1,
+            |s: &mut State| s.held = LONGEST_SHARE as u64 + 1,
+            |s: &mut State| s.stage = Stage::Ended(Outcome::Message(LONGEST_MESSAGE as u64 + 1)),
         ] {
             let mut broken = state.clone();
             change(&mut broken);

@@ -9,10 +9,10 @@ pub mod stored;
 
 use std::collections::{BTreeMap, BTreeSet};
 
-use crate::coder::{LONGEST_MESSAGE, MOST_PARTIES};
 use crate::liars::{flip, Lie, Scene, Sharing, Way};
+use crate::limits::{LONGEST_ENTRY, LONGEST_MESSAGE, LONGEST_PLAN, MOST_NAMED, MOST_PARTIES};
 use crate::random::Random;
-use crate::rehearsal::{BIT_GIVEN, LONGEST_PLAN, ROOT_GIVEN};
+use crate::rehearsal::{BIT_GIVEN, ROOT_GIVEN};
 use crate::sha256::Hash;
 
 /// A plan, and what was put into it.
@@ -127,7 +127,7 @@ fn kind(random: &mut Random) -> (Size, Vec<Damage>) {
     }
 }
 
-/// The two-byte map of these parties, each from 1 to 16.
+/// The two-byte map of these parties, each from 1 to [`MOST_NAMED`].
 pub fn map_of<'a>(parties: impl IntoIterator<Item = &'a usize>) -> [u8; 2] {
     let bits = parties.into_iter().map(|party| 1u16 << (party - 1));
     bits.fold(0, |map, bit| map | bit).to_be_bytes()
@@ -215,7 +215,8 @@ impl Draft {
         let room_above = damages.contains(&Damage::GoodBeyond);
         // Half of the plans have room for a liar anyway.
         let least = if liar { 3 } else { random.pick(&[1, 3]) };
-        let most = random.pick(&[6, MOST_PARTIES - usize::from(room_above)]);
+        let nameable = MOST_NAMED - usize::from(room_above);
+        let most = random.pick(&[6, MOST_PARTIES.min(nameable)]);
         let n = least + random.below(most - least + 1);
         let greatest = (n - 1) / 2;
         let any = random.below(greatest + 1);
@@ -486,7 +487,7 @@ impl Draft {
         let mut missing = total.saturating_sub(self.bytes().len());
         for block in self.exchanges.iter_mut().flatten() {
             let packet = block.packets.entry(receiver).or_default();
-            let growth = missing.min(65_535 - packet.len());
+            let growth = missing.min(LONGEST_ENTRY - packet.len());
             packet.resize(packet.len() + growth, 0x5A);
             missing -= growth;
         }
@@ -499,8 +500,9 @@ impl Draft {
     fn damage(&mut self, damage: Damage, random: &mut Random) {
         match damage {
             Damage::Parties => {
-                let above = 17 + random.below(239) as u8;
-                self.head[0] = random.pick(&[0, 0, 17, 17, 18, 32, 128, 255, above]);
+                let over = MOST_PARTIES as u8 + 1;
+                let above = over + random.below(255 - MOST_PARTIES) as u8;
+                self.head[0] = random.pick(&[0, 0, over, over, over + 1, 32, 128, 255, above]);
             }
             Damage::Faults => {
                 let least = self.n.div_ceil(2) as u8;
@@ -511,7 +513,7 @@ impl Draft {
             Damage::GoodBeyond => self.name_beyond(random),
             Damage::Receiver => self.name_not_good(random),
             Damage::Oversize => {
-                let more = [1, 1, 2, 1 + random.below(300), random.below(60_000)];
+                let more = [1, 1, 2, 1 + random.below(300), random.below(LONGEST_PLAN)];
                 self.stretch(LONGEST_PLAN + random.pick(&more));
             }
             Damage::LongMessage => self.lengthen(random),
@@ -527,8 +529,8 @@ impl Draft {
 
     /// Makes a party beyond n good, with or without a message.
     fn name_beyond(&mut self, random: &mut Random) {
-        let n = self.n.min(MOST_PARTIES - 1);
-        self.good.insert(n + 1 + random.below(MOST_PARTIES - n));
+        let n = self.n.min(MOST_NAMED - 1);
+        self.good.insert(n + 1 + random.below(MOST_NAMED - n));
         if random.once_in(2) {
             self.messages.push(random.bytes(3));
         }
@@ -541,7 +543,7 @@ impl Draft {
         let Some(&sender) = self.bad.get(place) else {
             return;
         };
-        let others: Vec<usize> = (1..=MOST_PARTIES)
+        let others: Vec<usize> = (1..=MOST_NAMED)
             .filter(|party| !self.good.contains(party))
             .collect();
         let other = random.pick(&others);
@@ -563,10 +565,11 @@ impl Draft {
     /// Makes a message too long.
     fn lengthen(&mut self, random: &mut Random) {
         let place = random.below(self.messages.len().max(1));
-        let far = 1_025 + random.below(300);
+        let over = LONGEST_MESSAGE + 1;
+        let far = over + random.below(300);
         let length = match random.once_in(10) {
             true => 20_000 + random.below(45_000),
-            false => random.pick(&[1_025, 1_025, 1_025, 1_026, 2_048, far]),
+            false => random.pick(&[over, over, over, over + 1, 2 * LONGEST_MESSAGE, far]),
         };
         if let Some(message) = self.messages.get_mut(place) {
             message.resize(length, 0x42);

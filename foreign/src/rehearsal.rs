@@ -3,19 +3,14 @@
 //! to its end, then judged, then played by the steps of party.rs. What was seen on the way is
 //! kept for whoever explains a session.
 
-use crate::coder::{LONGEST_MESSAGE, MOST_PARTIES};
 use crate::inbox::{entries, lay_out};
+use crate::limits::{LONGEST_MESSAGE, LONGEST_OUTBOX, LONGEST_PLAN, MOST_NAMED, MOST_PARTIES};
 use crate::party::{Given, Outcome, Stage, State};
 use crate::sha256::{hex, Hash};
-
-pub const LONGEST_PLAN: usize = 60_000;
 
 /// The option that a root is given, and the option that a bit is.
 pub const ROOT_GIVEN: u8 = 1;
 pub const BIT_GIVEN: u8 = 2;
-
-/// More bytes than any step writes.
-const ROOM: usize = 20_000;
 
 /// What is sent in one exchange: for each sender a row, in it for each receiver a packet, or
 /// none where nothing is sent.
@@ -64,7 +59,7 @@ impl Fault {
 /// part of, and how many bytes it lacks; 0 if they are there, but are not lawful.
 #[derive(Clone, Copy, Debug, PartialEq, Eq)]
 pub struct Misfit {
-    pub place: usize,
+    pub offset: usize,
     pub part: Part,
     pub missing: usize,
 }
@@ -186,7 +181,7 @@ pub fn read(bytes: &[u8]) -> Result<Plan, Misfit> {
         bytes,
         whole: bytes.len(),
         seen: Misfit {
-            place: 0,
+            offset: 0,
             part: Part::Head,
             missing: 0,
         },
@@ -247,7 +242,7 @@ impl<'a> Rest<'a> {
     }
 
     fn take(&mut self, length: usize) -> Option<&'a [u8]> {
-        self.seen.place = self.whole - self.bytes.len();
+        self.seen.offset = self.whole - self.bytes.len();
         self.seen.missing = length.saturating_sub(self.bytes.len());
         let (taken, behind) = self.bytes.split_at_checked(length)?;
         self.bytes = behind;
@@ -276,7 +271,8 @@ impl<'a> Rest<'a> {
     /// The numbers in a map, upward.
     fn parties(&mut self) -> Option<Vec<usize>> {
         let map = self.two()?;
-        Some((1..=16).filter(|p| map >> (p - 1) & 1 == 1).collect())
+        let named = (1..=MOST_NAMED).filter(|party| map >> (party - 1) & 1 == 1);
+        Some(named.collect())
     }
 
     /// What the bad parties send in one exchange; the rows of the good ones stay empty. Only
@@ -373,9 +369,9 @@ fn each<S, T>(parties: Vec<S>, step: impl Fn(S) -> Given<T>) -> (Vec<State>, Vec
         .unzip()
 }
 
-/// The step with what it wrote as its answer.
+/// The step with what it wrote as its answer; no step writes more than an outbox.
 fn written(step: impl FnOnce(&mut [u8]) -> Given<usize>) -> Given<Vec<u8>> {
-    let mut out = vec![0; ROOM];
+    let mut out = vec![0; LONGEST_OUTBOX];
     let (state, answer) = step(&mut out);
     (state, answer.map(|length| out[..length].to_vec()))
 }
@@ -416,6 +412,9 @@ fn result(state: &State) -> Option<Vec<u8>> {
 mod tests {
     use super::*;
     use crate::liars::Sharing;
+    use crate::limits::MOST_FAULTS;
+
+    const MOST: u8 = MOST_PARTIES as u8;
 
     /// No packet from one bad party, in either exchange.
     const SILENT: &[u8] = &[0, 0, 0, 0];
@@ -535,7 +534,7 @@ mod tests {
     #[test]
     fn under_two_bytes() {
         assert_eq!(cause(&[]), 13);
-        for n in [0, 1, 3, 16, 17, 255] {
+        for n in [0, 1, 3, MOST, MOST + 1, 255] {
             assert_eq!(cause(&[n]), 13);
         }
     }
@@ -554,10 +553,11 @@ mod tests {
         ];
         for behind in behind {
             let under = |n: u8, t: u8| cause(&[&[n, t], &behind[..]].concat());
-            for (n, t) in [(0, 0), (17, 0), (17, 255), (255, 1), (128, 128)] {
+            for (n, t) in [(0, 0), (MOST + 1, 0), (MOST + 1, 255), (255, 1), (128, 128)] {
                 assert_eq!(under(n, t), 1);
             }
-            for (n, t) in [(1, 1), (2, 1), (3, 2), (16, 8), (16, 128), (3, 255)] {
+            let half = MOST_FAULTS as u8 + 1;
+            for (n, t) in [(1, 1), (2, 1), (3, 2), (MOST, half), (MOST, 128), (3, 255)] {
                 assert_eq!(under(n, t), 2);
             }
         }
@@ -576,7 +576,7 @@ mod tests {
         for option in 2..8 {
             assert_eq!(cause(&of_three(&[1 << option], [b"AB", b"AB"])), 13);
         }
-        for beyond in 3..16 {
+        for beyond in 3..MOST_NAMED {
             let more: &[&[u8]] = &[b"AB", b"AB", b""];
             assert_eq!(cause(&plan(&[3, 1, 0], 3 | 1 << beyond, more, SILENT)), 13);
             let as_many = &more[..2];
@@ -592,7 +592,7 @@ mod tests {
     fn receivers_are_good() {
         for bit in [0, 1] {
             for place in 0..4 {
-                for receiver in 0..16 {
+                for receiver in 0..MOST_NAMED {
                     let mut blocks = [(); 4].map(|()| vec![0, 0]);
                     blocks[place] = (1u16 << receiver).to_be_bytes().to_vec();
                     let map_alone = blocks.concat();
@@ -671,7 +671,7 @@ mod tests {
 
     #[test]
     fn no_good_party() {
-        for n in 1..=16 {
+        for n in 1..=MOST {
             let t = (n - 1) / 2;
             let silent = SILENT.repeat(n.into());
             assert_eq!(cause(&plan(&[n, t, 0], 0, &[], &silent)), 14);
@@ -708,9 +708,9 @@ mod tests {
     }
 
     #[test]
-    fn a_misfit_tells_its_place() {
+    fn a_misfit_tells_its_offset() {
         let sound = of_three(&[2, 1], [b"AB", b"AB"]);
-        let misfit = |bytes: &[u8]| read(bytes).err().map(|it| (it.place, it.part, it.missing));
+        let misfit = |bytes: &[u8]| read(bytes).err().map(|it| (it.offset, it.part, it.missing));
         let receivers = |exchange| Part::Receivers {
             exchange,
             sender: 3,

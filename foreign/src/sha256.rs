@@ -1,8 +1,5 @@
 //! SHA-256 as FIPS 180-4 writes it down, one block of 64 bytes at a time.
 
-/// The longest string that the product hashes; this reference itself has no such limit.
-pub const LONGEST_STRING: usize = 65_535;
-
 pub type Hash = [u8; 32];
 
 /// The round constants of section 4.2.2.
@@ -101,6 +98,7 @@ pub fn hex(bytes: &[u8]) -> String {
 #[cfg(test)]
 mod tests {
     use super::*;
+    use crate::limits::LONGEST_STRING;
 
     /// Lines of a length, a space and the digest another program gave for the message of
     /// that length whose byte i is (7 * i + length) modulo 256.
@@ -149,7 +147,7 @@ mod tests {
             assert_eq!(hex(&hash(&message)), digest, "length {length}");
             lengths.push(length);
         }
-        let wanted: Vec<usize> = (0..=200).chain([1000, 65_535]).collect();
+        let wanted: Vec<usize> = (0..=200).chain([1000, LONGEST_STRING]).collect();
         assert_eq!(lengths, wanted);
     }
 }

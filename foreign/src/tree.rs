@@ -1,11 +1,8 @@
 //! The tree of RFC 6962, section 2.1, over the shares: root, audit path and path check.
 //! Leaves are numbered from 1, and a path runs from the leaf upward.
 
-use crate::coder::MOST_PARTIES;
-use crate::sha256::{hash, Hash, LONGEST_STRING};
-
-/// The hashes that a path has room for.
-pub const MOST_HASHES: usize = 4;
+use crate::limits::{LONGEST_STRING, MOST_HASHES, MOST_PARTIES};
+use crate::sha256::{hash, Hash};
 
 /// 0x00, the number in one byte, the share.
 pub fn leaf_string(j: usize, share: &[u8]) -> Vec<u8> {
@@ -146,7 +143,7 @@ mod tests {
         assert_eq!(lengths(3), [2, 2, 1]);
         assert_eq!(lengths(5), [3, 3, 3, 3, 1]);
         assert_eq!(lengths(7), [3, 3, 3, 3, 3, 3, 2]);
-        assert_eq!(lengths(16), [4; 16]);
+        assert_eq!(lengths(MOST_PARTIES), [MOST_HASHES; MOST_PARTIES]);
     }
 
     #[test]
@@ -226,16 +223,17 @@ mod tests {
     #[test]
     fn lowest_cause_first() {
         let none = [[0; 32]; MOST_HASHES];
-        let long = vec![0; 65_534];
+        let long = vec![0; LONGEST_STRING - 1];
         let root = hash(&[0, 1, 5]);
         assert_eq!(judge((1, 1), &[5], &none, 0, &root), Ok(true));
         assert_eq!(judge((1, 1), &[5], &none, 1, &root), Ok(false));
         assert_eq!(judge((1, 1), &[5], &none, 255, &root), Ok(false));
         assert_eq!(judge((1, 1), &long[1..], &none, 0, &root), Ok(false));
         assert_eq!(judge((0, 0), &long, &none, 0, b""), Err(1));
-        assert_eq!(judge((17, 18), &long, &none, 0, b""), Err(1));
-        assert_eq!(judge((16, 17), &long, &none, 0, b""), Err(3));
-        assert_eq!(judge((16, 16), &long, &none, 0, b""), Err(4));
-        assert_eq!(judge((16, 16), &[5], &none, 9, &root[1..]), Err(7));
+        let (most, over) = (MOST_PARTIES, MOST_PARTIES + 1);
+        assert_eq!(judge((over, over + 1), &long, &none, 0, b""), Err(1));
+        assert_eq!(judge((most, over), &long, &none, 0, b""), Err(3));
+        assert_eq!(judge((most, most), &long, &none, 0, b""), Err(4));
+        assert_eq!(judge((most, most), &[5], &none, 9, &root[1..]), Err(7));
     }
 }

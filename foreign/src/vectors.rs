@@ -14,6 +14,8 @@ pub mod tree;
 
 use std::io::{Result, Write};
 
+use crate::limits::{MOST_FAULTS, MOST_PARTIES};
+
 #[derive(Clone, Copy, Debug, PartialEq, Eq, PartialOrd, Ord)]
 #[repr(u8)]
 pub enum Kind {
@@ -44,6 +46,12 @@ pub enum Kind {
 /// The value of each byte of a lent buffer before a call.
 pub const UNTOUCHED: u8 = 0xA5;
 
+/// The greatest n, with the greatest t.
+const GREATEST: (usize, usize) = (MOST_PARTIES, MOST_FAULTS);
+
+/// The greatest number that two bytes of a case hold.
+const FAR: usize = u16::MAX as usize;
+
 #[derive(Clone, PartialEq, Eq)]
 pub struct Case {
     pub kind: Kind,
@@ -51,7 +59,7 @@ pub struct Case {
     pub expected: Part,
 }
 
-/// Bytes being laid out one behind the other.
+/// Bytes being laid out one after the other.
 #[derive(Clone, Debug, Default, PartialEq, Eq)]
 pub struct Part(pub Vec<u8>);
 

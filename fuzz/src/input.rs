@@ -1,8 +1,19 @@
 //! The fuzzer's bytes, read from the front. Where they have run out zeros are read, and a zero
 //! always stands for what a lawful host would do.
 
+use cipangohu::MAX_PARTIES;
+
 /// Numbers that no group has.
-const ODD: [usize; 8] = [0, 17, 18, 255, 256, 1 << 32, 1 << 63, usize::MAX];
+const ODD: [usize; 8] = [
+    0,
+    MAX_PARTIES + 1,
+    MAX_PARTIES + 2,
+    255,
+    256,
+    1 << 32,
+    1 << 63,
+    usize::MAX,
+];
 
 pub struct Input<'a>(&'a [u8]);
 

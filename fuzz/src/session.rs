@@ -3,12 +3,13 @@
 
 use std::mem::take;
 
-use cipangohu::{entries, lay_out, Cause, STATE};
+use cipangohu::{entries, lay_out, Cause, HASH, MAX_HASHED, MAX_MESSAGE, MAX_PARTIES, STATE};
 use foreign::liars::Sharing;
 
 use crate::call::{Call, Lent};
 use crate::input::Input;
 use crate::lend::checked;
+use crate::reference::AT_SHARE;
 
 const PARTIES: usize = 4;
 
@@ -16,17 +17,19 @@ const PARTIES: usize = 4;
 const TURNS: usize = 48;
 
 /// A little less than the longest string that is hashed.
-const LONG: usize = 65_528;
+const LONG: usize = MAX_HASHED - 7;
 
 /// Numbers at the edges of what a state may hold.
-const EDGES: [u8; 8] = [0, 1, 2, 7, 8, 16, 17, 255];
+const EDGES: [u8; 8] = [0, 1, 2, (MOST - 1) / 2, MOST / 2, MOST, MOST + 1, 255];
+
+const MOST: u8 = MAX_PARTIES as u8;
 
 #[derive(Clone, Default)]
 struct Party {
     state: Vec<u8>,
     root: Vec<u8>,
     /// The packet that bears each number, if one was written.
-    packets: [Vec<u8>; 17],
+    packets: [Vec<u8>; MAX_PARTIES + 1],
 }
 
 struct Session<'a> {
@@ -41,7 +44,7 @@ struct Session<'a> {
 /// Plays the list of calls that the bytes say.
 pub fn play(bytes: &[u8]) {
     let mut input = Input::new(bytes);
-    let n = 1 + input.below(16);
+    let n = 1 + input.below(MAX_PARTIES);
     let mut session = Session {
         group: (n, input.below(n.div_ceil(2))),
         message: input.bytes(),
@@ -72,7 +75,7 @@ fn parts(packet: &[u8]) -> (Vec<u8>, Vec<u8>) {
     (share.to_vec(), path.to_vec())
 }
 
-/// Writes bytes over others at a place, if they reach so far.
+/// Writes bytes over others at an offset, if they reach so far.
 fn put(bytes: &mut [u8], at: usize, new: &[u8]) {
     if let Some(old) = bytes.get_mut(at..at + new.len()) {
         old.copy_from_slice(new);
@@ -120,8 +123,8 @@ impl Session<'_> {
         match self.input.below(6) {
             0 => self.message.clone(),
             1 => self.input.bytes(),
-            2 => dirt(self.input.wide(1_030)),
-            3 => vec![self.input.byte(); 1_022 + self.input.below(5)],
+            2 => dirt(self.input.wide(MAX_MESSAGE + 6)),
+            3 => vec![self.input.byte(); MAX_MESSAGE - 2 + self.input.below(5)],
             4 => Vec::new(),
             _ => {
                 let mut message = self.message.clone();
@@ -158,7 +161,7 @@ impl Session<'_> {
             2 => Vec::new(),
             3 => self.input.bytes(),
             4 => {
-                let other = self.input.below(17);
+                let other = self.input.below(MAX_PARTIES + 1);
                 self.written(party, other)
             }
             5 => vec![0],
@@ -179,7 +182,7 @@ impl Session<'_> {
     fn inbox(&mut self, party: usize, exchange: usize) -> Vec<u8> {
         let state = &self.parties[party].state;
         let at = |place| state.get(place).map_or(0, |&byte: &u8| usize::from(byte));
-        let (n, own) = (at(0).min(17), at(2));
+        let (n, own) = (at(0).min(MAX_PARTIES + 1), at(2));
         let way = self.input.below(4);
         let number = |sender| [own, sender][exchange];
         let packets: Vec<Vec<u8>> = match way {
@@ -203,10 +206,10 @@ impl Session<'_> {
         let call = Call::Open((n, t, own), self.message());
         let mut lent = Lent {
             state: dirt(self.input.room(STATE)),
-            out: dirt(self.input.room(32)),
+            out: dirt(self.input.room(HASH)),
         };
         if checked(&call, &mut lent).is_ok() {
-            self.parties[party].root = lent.out[..32].to_vec();
+            self.parties[party].root = lent.out[..HASH].to_vec();
         }
         self.parties[party].state = lent.state;
     }
@@ -316,7 +319,8 @@ impl Session<'_> {
             }
             3 => {
                 let place = 4 + 2 * self.input.below(2);
-                put(&mut state, place, &[4, self.input.byte() % 5]);
+                let length = (MAX_MESSAGE + self.input.below(5)) as u16;
+                put(&mut state, place, &length.to_be_bytes());
             }
             4 => state.resize(STATE, 0),
             5 => put(&mut state, 8, &self.root()),
@@ -324,7 +328,7 @@ impl Session<'_> {
                 let number = self.input.number(party + 1);
                 let (share, _) = parts(&self.packet(number));
                 put(&mut state, 6, &(share.len() as u16).to_be_bytes());
-                put(&mut state, 1_064, &share);
+                put(&mut state, AT_SHARE, &share);
             }
             _ => state = dirt(self.input.room(STATE)),
         }

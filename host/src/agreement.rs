@@ -9,6 +9,8 @@ use std::sync::{Arc, Condvar, Mutex, PoisonError};
 use std::thread;
 use std::time::{Duration, Instant};
 
+use cipangohu::HASH;
+
 use crate::links::{connect, listen, PATIENCE};
 use crate::wire::{self, Hello, Token, ROUNDS};
 
@@ -57,10 +59,10 @@ fn accept(listener: &TcpListener, service: &Arc<Service>) {
     }
 }
 
-/// A root has 32 bytes, a bit is 0 or 1; nothing else is taken from a liar.
+/// A root is a hash, a bit is 0 or 1; nothing else is taken from a liar.
 fn lawful(round: usize, value: &[u8]) -> bool {
     match round {
-        0 => value.len() == 32,
+        0 => value.len() == HASH,
         _ => matches!(value, [0 | 1]),
     }
 }

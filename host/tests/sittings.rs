@@ -7,6 +7,8 @@ use std::process::{Command, Stdio};
 use std::thread;
 use std::time::{Duration, Instant};
 
+use cipangohu::{MAX_MESSAGE, MAX_PARTIES};
+
 /// No sitting takes so long, however busy the machine.
 const LONGEST: Duration = Duration::from_secs(60);
 
@@ -98,7 +100,8 @@ fn liars(n: usize, t: usize, lie: &str, lowest: bool) -> String {
 fn liars_of_every_kind() {
     let mut sittings: Vec<Box<dyn Fn() + Send + Sync>> = Vec::new();
     for lie in LIES {
-        for (seed, (n, t)) in [(3, 1), (4, 1), (5, 2), (8, 3), (16, 7)]
+        let greatest = (MAX_PARTIES, (MAX_PARTIES - 1) / 2);
+        for (seed, (n, t)) in [(3, 1), (4, 1), (5, 2), (8, 3), greatest]
             .into_iter()
             .enumerate()
         {
@@ -166,7 +169,7 @@ fn worked_sittings() {
 #[test]
 fn books_from_files_and_of_any_length() {
     let file = Path::new(env!("CARGO_TARGET_TMPDIR")).join("book");
-    for (length, status) in [(0, 0), (1, 0), (1024, 0), (1025, 2)] {
+    for (length, status) in [(0, 0), (1, 0), (MAX_MESSAGE, 0), (MAX_MESSAGE + 1, 2)] {
         std::fs::write(&file, vec![7; length]).expect("the book is written");
         let words = format!(
             "--parties 4 --faults 1 --own-book 4=41 --book {} {LIMIT}",
@@ -219,10 +222,11 @@ fn help_is_the_usage() {
 
 #[test]
 fn wrong_words_are_refused() {
+    let many = format!("--parties {} --faults 1 --book 41", MAX_PARTIES + 1);
     for words in [
         "",
         "--parties 3",
-        "--parties 17 --faults 1 --book 41",
+        &many,
         "--parties 4 --faults 2 --book 41",
         "--parties 3 --faults 1 --book 41 --lie 4=noise",
         "--parties 3 --faults 1 --book 41 --lie 3=truth",

@@ -1,8 +1,8 @@
 //! Inboxes, outboxes and the shares for rebuilding: for each party from 1 upward a two-byte length
 //! and as many bytes.
 
-/// Lays bytes out as entries, the first being party 1's. Bytes that a two-byte length cannot count
-/// are no packet and no share of a message; they stand as none.
+/// Lays bytes out as entries, the first being party 1's. More than [`MAX_ENTRY`](crate::MAX_ENTRY)
+/// bytes are no packet and no share of a message; they stand as none.
 pub fn lay_out<B: AsRef<[u8]>>(parts: &[B]) -> Vec<u8> {
     let mut bytes = Vec::new();
     for part in parts.iter().map(AsRef::as_ref) {

@@ -22,6 +22,7 @@
 
 mod cause;
 mod entries;
+mod limits;
 mod packet;
 mod party;
 
@@ -33,36 +34,19 @@ pub mod calls;
 
 pub use cause::Cause;
 pub use entries::{entries, lay_out};
+pub use limits::{
+    HASH, MAX_ENTRY, MAX_HASHED, MAX_MESSAGE, MAX_OUTBOX, MAX_PACKET, MAX_PARTIES, MAX_PATH,
+    MAX_SHARE, STATE,
+};
 pub use packet::{check_path, read_packet, Packet};
 pub use party::{Outcome, Party};
 
-pub const MAX_PARTIES: usize = 16;
-pub const MAX_MESSAGE: usize = 1024;
-pub const MAX_SHARE: usize = 1026;
-
-/// The longest string that is hashed.
-pub const MAX_HASHED: usize = 65_535;
-
-/// The longest packet: map, number and share length, the share, a path of four hashes.
-pub const MAX_PACKET: usize = 4 + MAX_SHARE + 4 * 32;
-
-/// Room for all shares of a message: n is less than 2·(n − t), so that they have less than twice
-/// the bytes of the longest frame with its zeros.
-const MAX_SHARES: usize = 2 * (MAX_SHARE + MAX_PARTIES);
-
-/// Room for any outbox: all shares of a message, and beside each its entry's two-byte length, map,
-/// number, share length and path.
-pub const MAX_OUTBOX: usize = MAX_SHARES + MAX_PARTIES * (6 + 4 * 32);
-
-/// The bytes of a party's state.
-pub const STATE: usize = 40 + MAX_MESSAGE + MAX_SHARE;
-
 /// A SHA-256 hash.
-pub type Hash = [u8; 32];
+pub type Hash = [u8; HASH];
 
 /// The n shares of a message.
 pub fn shares(n: usize, t: usize, message: &[u8]) -> Result<Vec<Vec<u8>>, Cause> {
-    let mut out = vec![0; MAX_SHARES];
+    let mut out = vec![0; limits::MAX_SHARES];
     let length = calls::shares((n, t), message, &mut out)? as usize;
     out.truncate(length);
     // They are equal in length, and no part of a division may be 0 even if the archive were not the
@@ -81,7 +65,7 @@ pub fn rebuild<S: AsRef<[u8]>>(n: usize, t: usize, shares: &[S]) -> Result<Vec<u
 
 /// SHA-256 of at most [`MAX_HASHED`] bytes.
 pub fn hash(message: &[u8]) -> Result<Hash, Cause> {
-    let mut digest = [0; 32];
+    let mut digest = [0; HASH];
     calls::hash(message, &mut digest)?;
     Ok(digest)
 }

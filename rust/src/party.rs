@@ -2,7 +2,8 @@
 
 use crate::calls;
 use crate::cause::Cause;
-use crate::{Hash, MAX_MESSAGE, STATE};
+use crate::limits::{HASH, MAX_MESSAGE, STATE};
+use crate::Hash;
 
 /// The value of step 5 for the result nothing.
 const NOTHING: u32 = u32::MAX;
@@ -25,7 +26,7 @@ impl Party {
     /// Step 1; with the party comes the root that goes to the short agreement.
     pub fn open(n: usize, t: usize, own: usize, message: &[u8]) -> Result<(Party, Hash), Cause> {
         let mut party = Party { state: [0; STATE] };
-        let mut root = [0; 32];
+        let mut root = [0; HASH];
         calls::open((n, t, own), message, &mut party.state, &mut root)?;
         Ok((party, root))
     }

@@ -2,8 +2,8 @@
 
 use std::collections::BTreeMap;
 
-use foreign::coder::{LONGEST_MESSAGE, MOST_PARTIES};
 use foreign::liars::Sharing;
+use foreign::limits::{LONGEST_MESSAGE, MOST_PARTIES};
 use foreign::packet::{write, HEADER};
 use foreign::sha256::Hash;
 use foreign::tree;

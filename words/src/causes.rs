@@ -1,17 +1,25 @@
 //! Why a plan is refused, in document 01's words and for the plan at hand.
 
+use foreign::limits::{LONGEST_MESSAGE, LONGEST_PLAN, LONGEST_STRING, MOST_PARTIES};
 use foreign::rehearsal::{Fault, Misfit, Part};
 
-use crate::phrases::{bytes, EXCHANGES};
+use crate::phrases::{bytes, grouped, EXCHANGES};
 
 /// The words of the table of causes, for those that a plan can have.
-pub fn words(cause: u32) -> &'static str {
+pub fn words(cause: u32) -> String {
     match cause {
-        1 => "n outside 1 to 16",
-        2 => "2·t ≥ n",
-        4 => "book over 1,024, or string to hash over 65,535 bytes",
-        13 => "plan badly laid out, or over 60,000 bytes",
-        _ => "plan with over t bad parties, or a root or bit against the rule above",
+        1 => format!("n outside 1 to {MOST_PARTIES}"),
+        2 => "2·t ≥ n".to_string(),
+        4 => format!(
+            "book over {}, or string to hash over {} bytes",
+            grouped(LONGEST_MESSAGE),
+            grouped(LONGEST_STRING)
+        ),
+        13 => format!(
+            "plan badly laid out, or over {} bytes",
+            grouped(LONGEST_PLAN)
+        ),
+        _ => "plan with over t bad parties, or a root or bit against the rule above".to_string(),
     }
 }
 
@@ -38,15 +46,15 @@ fn against(what: &str) -> String {
 /// Where the layout went wrong, or ran out.
 pub fn place(misfit: Misfit, length: usize) -> String {
     let Misfit {
-        place,
+        offset,
         part,
         missing,
     } = misfit;
     let part = named(part);
     let place = match missing {
-        0 => format!("At byte {place}: {}.", wrong(misfit.part)),
+        0 => format!("At byte {offset}: {}.", wrong(misfit.part)),
         _ => format!(
-            "At byte {place}, in {part}: the plan runs out, {} short.",
+            "At byte {offset}, in {part}: the plan runs out, {} short.",
             bytes(missing)
         ),
     };

@@ -32,7 +32,7 @@ pub fn in_words(plan: &[u8], named: &[Named]) -> Result<String, String> {
             Ok(note + &text(&layout, named))
         }
         Err(misfit) => {
-            // A lower cause tells of no place.
+            // A lower cause tells of no offset.
             let place = place(misfit, plan.len());
             match refusal.trim_end() {
                 told if told.ends_with(&place) => Err(told.to_string()),

@@ -3,6 +3,7 @@
 
 use std::fmt;
 
+use foreign::limits::{LONGEST_ENTRY, LONGEST_MESSAGE, MOST_PARTIES};
 use foreign::packet::HEADER;
 
 use crate::books::{Books, Coded};
@@ -30,22 +31,19 @@ pub enum Change {
         number: usize,
         book: String,
     },
-    /// The byte in this place with these bits turned.
+    /// The byte at this offset with these bits turned.
     ShareByte {
-        place: usize,
+        offset: usize,
         bits: u8,
     },
     PathByte {
-        place: usize,
+        offset: usize,
         bits: u8,
     },
     Followed(Vec<u8>),
     /// So many bytes are left out at the end.
     Cut(usize),
 }
-
-/// The longest packet or book whose length has room in two bytes.
-pub const LONGEST: usize = 65_535;
 
 /// A packet cut where its fields meet.
 struct Fields {
@@ -68,9 +66,9 @@ impl Packet {
                 changes,
             } => changed(books, *number, book, changes)?,
         };
-        match bytes.len() > LONGEST {
+        match bytes.len() > LONGEST_ENTRY {
             true => Err(format!(
-                "the packet has {} bytes, over {LONGEST}",
+                "the packet has {} bytes, over {LONGEST_ENTRY}",
                 bytes.len()
             )),
             false => Ok(Some(bytes)),
@@ -92,8 +90,13 @@ impl Packet {
 
 /// The book's shares, or why there are none of this number.
 fn coded<'a>(books: &'a Books, name: &str, number: usize) -> Result<&'a Coded, String> {
-    let none = "there are no shares: n is 1 to 16, 2·t < n, and a book has at most 1024 bytes";
-    let coded = books.find(name)?.coded.as_ref().ok_or(none)?;
+    let none = || {
+        format!(
+            "there are no shares: n is 1 to {MOST_PARTIES}, 2·t < n, \
+             and a book has at most {LONGEST_MESSAGE} bytes"
+        )
+    };
+    let coded = books.find(name)?.coded.as_ref().ok_or_else(none)?;
     match (1..=books.n).contains(&number) {
         true => Ok(coded),
         false => Err(format!(
@@ -132,8 +135,8 @@ impl Fields {
             Change::Path { number, book } => {
                 self.path = coded(books, book, *number)?.fields(*number).2.to_vec();
             }
-            Change::ShareByte { place, bits } => turn(&mut self.share, *place, *bits, "share")?,
-            Change::PathByte { place, bits } => turn(&mut self.path, *place, *bits, "path")?,
+            Change::ShareByte { offset, bits } => turn(&mut self.share, *offset, *bits, "share")?,
+            Change::PathByte { offset, bits } => turn(&mut self.path, *offset, *bits, "path")?,
             Change::Followed(bytes) => self.behind.extend(bytes),
             Change::Cut(count) => self.cut += count,
         }
@@ -148,9 +151,9 @@ impl Fields {
     }
 }
 
-fn turn(bytes: &mut [u8], place: usize, bits: u8, what: &str) -> Result<(), String> {
+fn turn(bytes: &mut [u8], offset: usize, bits: u8, what: &str) -> Result<(), String> {
     let length = bytes.len();
-    let byte = bytes.get_mut(place);
+    let byte = bytes.get_mut(offset);
     *byte.ok_or_else(|| format!("the {what} has {length} bytes, counted from 0"))? ^= bits;
     Ok(())
 }
@@ -180,16 +183,16 @@ impl fmt::Display for Change {
             Change::Number(number) => write!(f, "number {number}"),
             Change::Length(length) => write!(f, "length {length}"),
             Change::Path { number, book } => write!(f, "path {number} of {book}"),
-            Change::ShareByte { place, bits } => damaged(f, "share", *place, *bits),
-            Change::PathByte { place, bits } => damaged(f, "path", *place, *bits),
+            Change::ShareByte { offset, bits } => damaged(f, "share", *offset, *bits),
+            Change::PathByte { offset, bits } => damaged(f, "path", *offset, *bits),
             Change::Followed(bytes) => write!(f, "followed by {}", Hex(bytes)),
             Change::Cut(count) => write!(f, "cut by {count}"),
         }
     }
 }
 
-fn damaged(f: &mut fmt::Formatter, what: &str, place: usize, bits: u8) -> fmt::Result {
-    write!(f, "{what} byte {place} damaged")?;
+fn damaged(f: &mut fmt::Formatter, what: &str, offset: usize, bits: u8) -> fmt::Result {
+    write!(f, "{what} byte {offset} damaged")?;
     match bits {
         1 => Ok(()),
         _ => write!(f, " by {bits:02x}"),

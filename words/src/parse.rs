@@ -3,13 +3,13 @@
 
 use std::collections::{BTreeMap, BTreeSet};
 
-use foreign::coder::MOST_PARTIES;
+use foreign::limits::{LONGEST_ENTRY, MOST_NAMED, MOST_PARTIES};
 use foreign::sha256::Hash;
 
 use crate::books::Book;
 use crate::draft::Draft;
 use crate::lines::{lines, pairs, Error, Line};
-use crate::packet::{Change, Packet, LONGEST};
+use crate::packet::{Change, Packet};
 use crate::phrases::EXCHANGES;
 
 /// Words that cannot name a book.
@@ -127,7 +127,7 @@ impl Reader {
     fn cut(&mut self, line: &mut Line) -> Result<(), Error> {
         self.keyword(line, "cut")?;
         line.expect("by")?;
-        self.draft.cut = line.number("a number of bytes", 1..=LONGEST)?;
+        self.draft.cut = line.number("a number of bytes", 1..=LONGEST_ENTRY)?;
         Ok(())
     }
 
@@ -156,9 +156,9 @@ impl Reader {
         if !line.accept("has") {
             return Err(line.expected("'has' and a book, or 'is bad'"));
         }
-        if number > MOST_PARTIES {
+        if number > MOST_NAMED {
             return Err(line.error(format!(
-                "box {number} cannot be good: a plan's maps end at 16"
+                "box {number} cannot be good: a plan's maps end at {MOST_NAMED}"
             )));
         }
         let message = match written(line)? {
@@ -195,7 +195,7 @@ impl Reader {
     /// A known book's name, or `box` and a good box's number.
     fn reference(&self, line: &mut Line) -> Result<String, Error> {
         let name = if line.accept("box") {
-            format!("box {}", line.number("a box number", 1..=MOST_PARTIES)?)
+            format!("box {}", line.number("a box number", 1..=MOST_NAMED)?)
         } else {
             let name = line.take(name);
             name.ok_or_else(|| line.expected("a book's name, or 'box' and a number"))?
@@ -219,9 +219,9 @@ impl Reader {
             return Err(line.error(format!("no line above says that box {sender} is bad")));
         }
         line.expect("to")?;
-        let mut receivers = vec![line.number("a receiver", 1..=MOST_PARTIES)?];
+        let mut receivers = vec![line.number("a receiver", 1..=MOST_NAMED)?];
         while !line.accept_mark(':') {
-            let receiver = line.number("':' or a receiver", 1..=MOST_PARTIES)?;
+            let receiver = line.number("':' or a receiver", 1..=MOST_NAMED)?;
             receivers.push(receiver);
         }
         let packet = self.packet(line)?;
@@ -278,15 +278,17 @@ impl Reader {
         match keyword.ok_or_else(|| line.expected(CHANGES))? {
             "map" => Ok(Change::Map(line.number("a map", 0..=255)? as u8)),
             "number" => Ok(Change::Number(line.number("a number", 0..=255)? as u8)),
-            "length" => Ok(Change::Length(line.number("a length", 0..=LONGEST)? as u16)),
+            "length" => Ok(Change::Length(
+                line.number("a length", 0..=LONGEST_ENTRY)? as u16
+            )),
             "path" if line.word() != Some("byte") => {
                 let number = line.number("'byte' or a share number", 1..=MOST_PARTIES)?;
                 line.expect("of")?;
                 let book = self.reference(line)?;
                 Ok(Change::Path { number, book })
             }
-            "path" => damage(line).map(|(place, bits)| Change::PathByte { place, bits }),
-            "share" => damage(line).map(|(place, bits)| Change::ShareByte { place, bits }),
+            "path" => damage(line).map(|(offset, bits)| Change::PathByte { offset, bits }),
+            "share" => damage(line).map(|(offset, bits)| Change::ShareByte { offset, bits }),
             "followed" => {
                 line.expect("by")?;
                 line.expect("hex")?;
@@ -294,7 +296,9 @@ impl Reader {
             }
             _ => {
                 line.expect("by")?;
-                Ok(Change::Cut(line.number("a number of bytes", 1..=LONGEST)?))
+                Ok(Change::Cut(
+                    line.number("a number of bytes", 1..=LONGEST_ENTRY)?,
+                ))
             }
         }
     }
@@ -304,7 +308,7 @@ impl Reader {
         let error = |line, text| Err(Error { line, text });
         let named = |number: &usize| self.bad.contains(number) || self.draft.is_good(*number);
         if let Some(number) = (1..=self.draft.books.n).find(|number| !named(number)) {
-            let good = match number <= MOST_PARTIES {
+            let good = match number <= MOST_NAMED {
                 true => format!("'box {number} has' and a book, or "),
                 false => String::new(),
             };
@@ -335,22 +339,22 @@ fn written(line: &mut Line) -> Result<Option<Vec<u8>>, Error> {
         None if line.accept("hex") => line.hex()?,
         None => return Ok(None),
     };
-    match message.len() > LONGEST {
+    match message.len() > LONGEST_ENTRY {
         true => Err(line.error(format!(
-            "the book has {} bytes, over {LONGEST}",
+            "the book has {} bytes, over {LONGEST_ENTRY}",
             message.len()
         ))),
         false => Ok(Some(message)),
     }
 }
 
-/// A byte's place, and the bits that are turned in it; the lowest one if none are said.
+/// A byte's offset, and the bits that are turned in it; the lowest one if none are said.
 fn damage(line: &mut Line) -> Result<(usize, u8), Error> {
     line.expect("byte")?;
-    let place = line.number("a byte's place", 0..=LONGEST)?;
+    let offset = line.number("a byte's place", 0..=LONGEST_ENTRY)?;
     line.expect("damaged")?;
     if !line.accept("by") {
-        return Ok((place, 1));
+        return Ok((offset, 1));
     }
     // Bits 00 would leave the byte as it is.
     let bits = line.take(|word| match pairs(word)?[..] {
@@ -358,5 +362,5 @@ fn damage(line: &mut Line) -> Result<(usize, u8), Error> {
         _ => None,
     });
     let bits = bits.ok_or_else(|| line.expected("two hexadecimal digits other than 00"))?;
-    Ok((place, bits))
+    Ok((offset, bits))
 }

@@ -18,6 +18,14 @@ pub fn cut(text: &str, letters: usize) -> String {
     }
 }
 
+/// A number's digits in groups of three.
+pub fn grouped(number: usize) -> String {
+    match number {
+        0..1_000 => number.to_string(),
+        _ => format!("{},{:03}", grouped(number / 1_000), number % 1_000),
+    }
+}
+
 pub fn bytes(count: usize) -> String {
     counted(count, "byte", "bytes")
 }
@@ -33,7 +41,7 @@ fn counted(count: usize, one: &str, more: &str) -> String {
     }
 }
 
-/// Numbers one behind the other.
+/// Numbers one after the other.
 pub fn numbers(numbers: &[usize]) -> String {
     let numbers: Vec<String> = numbers.iter().map(usize::to_string).collect();
     numbers.join(" ")

@@ -29,8 +29,8 @@ fn changes(books: &Books, coded: &Coded, number: usize, bytes: &[u8]) -> Option<
     let (share, path) = behind.split_at_checked(good_share.len())?;
     let mut changes = header_changes(good_header, header);
     if share != good_share {
-        let (place, bits) = one_byte(good_share, share)?;
-        changes.push(Change::ShareByte { place, bits });
+        let (offset, bits) = one_byte(good_share, share)?;
+        changes.push(Change::ShareByte { offset, bits });
     }
     if path == good_path {
         return Some(changes);
@@ -58,8 +58,8 @@ fn header_changes(good: &[u8; HEADER], header: &[u8; HEADER]) -> Vec<Change> {
 
 /// How another path, or a damaged or longer one, stands in the place of this path.
 fn path_change(books: &Books, path: &[u8], found: &[u8]) -> Option<Change> {
-    if let Some((place, bits)) = one_byte(path, found) {
-        return Some(Change::PathByte { place, bits });
+    if let Some((offset, bits)) = one_byte(path, found) {
+        return Some(Change::PathByte { offset, bits });
     }
     if let Some(behind) = found.strip_prefix(path) {
         return Some(Change::Followed(behind.to_vec()));
@@ -78,7 +78,7 @@ fn one_byte(good: &[u8], found: &[u8]) -> Option<(usize, u8)> {
         return None;
     }
     let mut pairs = good.iter().zip(found).enumerate();
-    let (place, (good, other)) = pairs.find(|(_, (good, other))| good != other)?;
+    let (offset, (good, other)) = pairs.find(|(_, (good, other))| good != other)?;
     let more = pairs.any(|(_, (good, other))| good != other);
-    (!more).then_some((place, good ^ other))
+    (!more).then_some((offset, good ^ other))
 }

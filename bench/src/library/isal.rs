@@ -81,7 +81,7 @@ impl Isal {
         inverse
     }
 
-    /// Multiplies a matrix, given by its tables, with b blocks of s bytes, one behind the other.
+    /// Multiplies a matrix, given by its tables, with b blocks of s bytes, concatenated.
     pub fn encode(
         &self,
         by: Encoder,

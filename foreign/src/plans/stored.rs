@@ -4,10 +4,9 @@
 use std::collections::BTreeSet;
 
 use super::{plan, Block, Damage, Draft, Made, Size};
-use crate::coder::{LONGEST_MESSAGE, MOST_PARTIES};
 use crate::liars::{flip, Lie, Scene, Sharing, Way};
+use crate::limits::{LONGEST_MESSAGE, LONGEST_PLAN, MOST_PARTIES};
 use crate::random::Random;
-use crate::rehearsal::LONGEST_PLAN;
 
 /// The plans that a person can run.
 const KEPT: [&[u8]; 5] = [
@@ -151,7 +150,9 @@ fn longest() -> [Made; 5] {
     [
         brim.made(Size::Brim, vec![]),
         over(&[], |_| {}),
-        over(&[Damage::Parties], |draft| draft.head[0] = 17),
+        over(&[Damage::Parties], |draft| {
+            draft.head[0] = MOST_PARTIES as u8 + 1
+        }),
         over(&[Damage::Faults], |draft| draft.head[1] = 2),
         over(&[Damage::LongMessage, Damage::BitAbove], |draft| {
             draft.messages[0].resize(LONGEST_MESSAGE + 1, 0x42);
@@ -175,7 +176,7 @@ fn small() -> [Vec<u8>; 3] {
     [KEPT[0].to_vec(), given.bytes(), sending.bytes()]
 }
 
-/// The plan cut short at every place, with a byte more, and with every bit turned.
+/// The plan cut short at every offset, with a byte more, and with every bit turned.
 fn damaged(plan: Vec<u8>) -> Vec<Made> {
     let cut = |length| laid_out(plan[..length].to_vec(), vec![Damage::Cut]);
     let turned = |place: usize| {

@@ -8,9 +8,10 @@
 //!
 //! Messages and entries have at most 70,000 bytes, buffers 20,000.
 
-use super::{Case, Kind, Part, UNTOUCHED};
+use super::{Case, Kind, Part, FAR, GREATEST, UNTOUCHED};
 use crate::coder::{self, frame_of, share_length, shares_of, Answer, Answer::*};
 use crate::field;
+use crate::limits::{LONGEST_ENTRY, LONGEST_MESSAGE, LONGEST_SHARE, MOST_FAULTS, MOST_PARTIES};
 use crate::random::Random;
 
 const MOST_INPUT: usize = 70_000;
@@ -26,8 +27,8 @@ const CHOSEN: [(usize, usize); 10] = [
     (5, 2),
     (8, 3),
     (9, 4),
-    (16, 0),
-    (16, 7),
+    (MOST_PARTIES, 0),
+    GREATEST,
 ];
 
 type Shares = Vec<Vec<u8>>;
@@ -174,8 +175,8 @@ fn field_cases(file: &mut File) {
         510,
         511,
         765,
-        65_535,
-        65_536,
+        (1 << 16) - 1,
+        1 << 16,
         1 << 32,
         (1 << 32) - 1,
         1 << 63,
@@ -229,7 +230,7 @@ fn worked_cases(file: &mut File) {
 }
 
 fn encode_cases(file: &mut File) {
-    for (n, t) in pairs(1, 16) {
+    for (n, t) in pairs(1, MOST_PARTIES) {
         for length in [0, 1, 2, 100] {
             let needed = n * share_length(n - t, length);
             let message = file.random.bytes(length);
@@ -240,23 +241,23 @@ fn encode_cases(file: &mut File) {
                 file.encode((n, t), &message, needed - 1, Short(needed));
             }
         }
-        let needed = n * share_length(n - t, 1024);
-        let message = file.random.bytes(1024);
+        let needed = n * share_length(n - t, LONGEST_MESSAGE);
+        let message = file.random.bytes(LONGEST_MESSAGE);
         file.encode((n, t), &message, needed, Done(needed));
     }
-    for (n, t) in [(1, 0), (3, 1), (16, 7)] {
-        let needed = n * share_length(n - t, 1024);
-        file.encode((n, t), &[0xFF; 1024], needed, Done(needed));
-        file.encode((n, t), &[0xFF; 1024], needed - 1, Short(needed));
-        file.encode((n, t), &[0xFF; 1024], 0, Short(needed));
+    for (n, t) in [(1, 0), (3, 1), GREATEST] {
+        let needed = n * share_length(n - t, LONGEST_MESSAGE);
+        file.encode((n, t), &[0xFF; LONGEST_MESSAGE], needed, Done(needed));
+        file.encode((n, t), &[0xFF; LONGEST_MESSAGE], needed - 1, Short(needed));
+        file.encode((n, t), &[0xFF; LONGEST_MESSAGE], 0, Short(needed));
         file.encode((n, t), b"AB", MOST_ROOM, Done(n * share_length(n - t, 2)));
     }
 }
 
 /// Causes 1, 2 and 4 of encode.
 fn encode_refusals(file: &mut File) {
-    let long = file.random.bytes(1025);
-    for n in [0, 17, 18, 255, 256, 257, 65_535] {
+    let long = file.random.bytes(LONGEST_MESSAGE + 1);
+    for n in [0, MOST_PARTIES + 1, MOST_PARTIES + 2, 255, 256, 257, FAR] {
         file.encode((n, 0), b"AB", 100, Refused(1));
     }
     for parties in [
@@ -265,40 +266,41 @@ fn encode_refusals(file: &mut File) {
         (3, 2),
         (4, 2),
         (7, 4),
-        (15, 8),
-        (16, 8),
-        (16, 9),
+        (MOST_PARTIES - 1, MOST_FAULTS + 1),
+        (MOST_PARTIES, MOST_FAULTS + 1),
+        (MOST_PARTIES, MOST_FAULTS + 2),
     ] {
         file.encode(parties, b"AB", 100, Refused(2));
         file.encode(parties, &long, 100, Refused(2));
         file.encode(parties, b"AB", 0, Refused(2));
     }
-    for t in [127, 128, 129, 255, 256, 32_767, 32_768, 32_769, 65_535] {
+    for t in [127, 128, 129, 255, 256, 32_767, 32_768, 32_769, FAR] {
         file.encode((3, t), b"AB", 100, Refused(2));
-        file.encode((16, t), b"AB", 100, Refused(2));
+        file.encode((MOST_PARTIES, t), b"AB", 100, Refused(2));
     }
-    let huge = file.random.bytes(65_536);
+    let huge = file.random.bytes(LONGEST_ENTRY + 1);
     file.encode((3, 1), &huge, 4000, Refused(4));
 }
 
 /// Several causes of encode at once; the lowest is given.
 fn encode_several(file: &mut File) {
-    let long = file.random.bytes(1025);
+    let long = file.random.bytes(LONGEST_MESSAGE + 1);
     for parties in [
         (0, 0),
         (0, 1),
-        (17, 9),
-        (17, 65_535),
-        (18, 9),
-        (65_535, 32_768),
+        (MOST_PARTIES + 1, MOST_FAULTS + 2),
+        (MOST_PARTIES + 1, FAR),
+        (MOST_PARTIES + 2, MOST_FAULTS + 2),
+        (FAR, 32_768),
     ] {
         file.encode(parties, b"AB", 100, Refused(1));
     }
-    for parties in [(0, 0), (17, 0), (17, 8), (65_535, 65_535)] {
+    let above = MOST_PARTIES + 1;
+    for parties in [(0, 0), (above, 0), (above, above / 2), (FAR, FAR)] {
         file.encode(parties, &long, 100, Refused(1));
         file.encode(parties, b"AB", 0, Refused(1));
     }
-    for parties in [(1, 0), (2, 0), (3, 1), (16, 0), (16, 7)] {
+    for parties in [(1, 0), (2, 0), (3, 1), (MOST_PARTIES, 0), GREATEST] {
         file.encode(parties, &long, 4000, Refused(4));
         file.encode(parties, &long, 0, Refused(4));
         let needed = parties.0 * share_length(parties.0 - parties.1, 0);
@@ -317,7 +319,7 @@ fn rebuild_choices(file: &mut File) {
         let message = file.message();
         file.found((n, t), &coded((n, t), &message), message.len(), &message);
     }
-    for (n, t) in pairs(9, 16) {
+    for (n, t) in pairs(9, MOST_PARTIES) {
         for _ in 0..6 {
             let message = file.message();
             let count = n - t + file.random.below(t + 1);
@@ -326,19 +328,22 @@ fn rebuild_choices(file: &mut File) {
             file.found((n, t), &keep(&coded((n, t), &message), map), room, &message);
         }
     }
-    for (n, t) in [(1, 0), (2, 0), (3, 1), (15, 7), (16, 0), (16, 7)] {
-        let message = file.random.bytes(1024);
+    let (most, next) = (MOST_PARTIES, MOST_PARTIES - 1);
+    let next = (next, (next - 1) / 2);
+    for (n, t) in [(1, 0), (2, 0), (3, 1), next, (most, 0), GREATEST] {
+        let message = file.random.bytes(LONGEST_MESSAGE);
         let map = file.random.choice(n, n - t);
         let shares = keep(&coded((n, t), &message), map);
-        file.found((n, t), &shares, 1024, &message);
-        file.rebuild((n, t), &join(&shares), 1023, Short(1024));
+        file.found((n, t), &shares, LONGEST_MESSAGE, &message);
+        let answer = Short(LONGEST_MESSAGE);
+        file.rebuild((n, t), &join(&shares), LONGEST_MESSAGE - 1, answer);
         file.found((n, t), &shares, MOST_ROOM, &message);
     }
 }
 
 /// Shares beyond the b lowest present ones hold rubbish, and it does not matter.
 fn rebuild_ignoring(file: &mut File) {
-    for (n, t) in pairs(3, 16).into_iter().filter(|&(_, t)| t > 0) {
+    for (n, t) in pairs(3, MOST_PARTIES).into_iter().filter(|&(_, t)| t > 0) {
         let message = file.message();
         let shares = coded((n, t), &message);
         let count = n - t + 1 + file.random.below(t);
@@ -352,7 +357,7 @@ fn rebuild_ignoring(file: &mut File) {
         file.found((n, t), &kept, message.len(), &message);
     }
     let mut shares = coded((3, 1), b"AB");
-    for length in [1, 2, 3, 1026, 1027, 65_535] {
+    for length in [1, 2, 3, LONGEST_SHARE, LONGEST_SHARE + 1, LONGEST_ENTRY] {
         shares[2] = file.random.bytes(length);
         file.found((3, 1), &shares, 2, b"AB");
     }
@@ -376,34 +381,36 @@ fn rebuild_room(file: &mut File) {
 /// Causes 1 and 2, alone and together with later ones.
 fn rebuild_parties(file: &mut File) {
     let good = join(&coded((3, 1), b"AB"));
-    let seventeen = join(&shares_of(17, 17, &frame_of(17, b"AB")));
-    file.rebuild((17, 0), &seventeen, 100, Refused(1));
-    file.rebuild((17, 8), &seventeen, 0, Refused(1));
+    let above = MOST_PARTIES + 1;
+    let too_many = join(&shares_of(above, above, &frame_of(above, b"AB")));
+    file.rebuild((above, 0), &too_many, 100, Refused(1));
+    file.rebuild((above, above / 2), &too_many, 0, Refused(1));
     file.rebuild((0, 0), b"", 100, Refused(1));
     for parties in [
         (0, 0),
         (0, 5),
-        (17, 9),
-        (18, 9),
+        (above, above.div_ceil(2)),
+        (above + 1, above.div_ceil(2)),
         (256, 0),
         (259, 1),
-        (65_535, 65_535),
+        (FAR, FAR),
     ] {
         file.rebuild(parties, &good, 100, Refused(1));
         file.rebuild(parties, b"", 0, Refused(1));
     }
     for t in [
-        2, 3, 127, 128, 129, 255, 256, 257, 32_767, 32_768, 32_769, 65_535,
+        2, 3, 127, 128, 129, 255, 256, 257, 32_767, 32_768, 32_769, FAR,
     ] {
         file.rebuild((3, t), &good, 100, Refused(2));
         file.rebuild((3, t), b"", 0, Refused(2));
         file.rebuild((3, t), &[0; 6], 100, Refused(2));
         file.rebuild((3, t), &good[..good.len() - 1], 100, Refused(2));
     }
-    let sixteen = join(&coded((16, 7), b"AB"));
-    file.rebuild((16, 7), &sixteen, 2, Done(2));
-    file.rebuild((16, 8), &sixteen, 2, Refused(2));
-    file.rebuild((16, 9), &sixteen, 2, Refused(2));
+    let (most, half) = GREATEST;
+    let many = join(&coded(GREATEST, b"AB"));
+    file.rebuild((most, half), &many, 2, Done(2));
+    file.rebuild((most, half + 1), &many, 2, Refused(2));
+    file.rebuild((most, half + 2), &many, 2, Refused(2));
     file.rebuild((2, 1), &join(&coded((2, 0), b"AB")), 2, Refused(2));
     file.rebuild((1, 1), &join(&coded((1, 0), b"AB")), 2, Refused(2));
 }
@@ -437,10 +444,10 @@ fn rebuild_layout(file: &mut File) {
         lying.push(7);
         file.rebuild((n, t), &lying, 20, Refused(8));
     }
-    let long = file.random.bytes(65_535 + 2);
+    let long = file.random.bytes(LONGEST_ENTRY + 2);
     file.rebuild(
         (1, 0),
-        &[&[0xFF, 0xFF], &long[..65_534]].concat(),
+        &[&[0xFF, 0xFF], &long[..LONGEST_ENTRY - 1]].concat(),
         9,
         Refused(8),
     );
@@ -448,7 +455,7 @@ fn rebuild_layout(file: &mut File) {
 
 /// Cause 11, alone and together with 12 and 9.
 fn rebuild_too_few(file: &mut File) {
-    for (n, t) in pairs(1, 16) {
+    for (n, t) in pairs(1, MOST_PARTIES) {
         let b = n - t;
         let message = file.random.bytes(10);
         let map = file.random.choice(n, b - 1);
@@ -467,7 +474,7 @@ fn rebuild_too_few(file: &mut File) {
 
 /// Cause 12 by used shares of unequal lengths.
 fn rebuild_unequal(file: &mut File) {
-    for (n, t) in pairs(2, 16) {
+    for (n, t) in pairs(2, MOST_PARTIES) {
         let b = n - t;
         let message = file.random.bytes(3 * b);
         let map = file.random.choice(n, b);
@@ -485,7 +492,14 @@ fn rebuild_unequal(file: &mut File) {
         swapped[places[1]].push(byte);
         file.rebuild((n, t), &join(&swapped), 60, Refused(12));
     }
-    for lengths in [(1, 1027), (1027, 1), (1026, 1027), (2, 258), (257, 1)] {
+    let over = LONGEST_SHARE + 1;
+    for lengths in [
+        (1, over),
+        (over, 1),
+        (LONGEST_SHARE, over),
+        (2, 258),
+        (257, 1),
+    ] {
         let shares = vec![vec![0; lengths.0], vec![], vec![0; lengths.1]];
         file.rebuild((3, 1), &join(&shares), 10, Refused(12));
     }
@@ -521,24 +535,29 @@ fn rebuild_lengths(file: &mut File) {
 fn rebuild_over(file: &mut File) {
     for (n, t) in CHOSEN {
         let b = n - t;
-        let body = file.random.bytes(1025);
-        let right = framed(1025, &body, b * share_length(b, 1025));
+        let (longest, over) = (LONGEST_MESSAGE, LONGEST_MESSAGE + 1);
+        let body = file.random.bytes(over);
+        let right = framed(over, &body, b * share_length(b, over));
         file.wrong_frame((n, t), &right, 2000);
         file.wrong_frame((n, t), &right, 0);
-        let tight = framed(1025, &body[..1024], b * share_length(b, 1024));
+        let tight = framed(over, &body[..longest], b * share_length(b, longest));
         file.wrong_frame((n, t), &tight, 2000);
-        let large = framed(1024, &body[..1024], b * (share_length(b, 1024) + 1));
+        let large = framed(
+            longest,
+            &body[..longest],
+            b * (share_length(b, longest) + 1),
+        );
         file.wrong_frame((n, t), &large, 2000);
-        let size = b * (share_length(b, 1024) - 1);
-        file.wrong_frame((n, t), &framed(1024, &body[..size - 2], size), 2000);
-        for length in [1025, 1026, 256 * 40, 32_768, 65_534, 65_535] {
+        let size = b * (share_length(b, longest) - 1);
+        file.wrong_frame((n, t), &framed(longest, &body[..size - 2], size), 2000);
+        for length in [over, over + 1, 256 * 40, 32_768, FAR - 1, FAR] {
             file.wrong_frame((n, t), &framed(length, &body[..b * 2], b * 4), 2000);
             file.wrong_frame((n, t), &framed(length, &body[..b * 2], b * 4), 0);
         }
     }
 }
 
-/// Cause 12 by a non-zero byte at each place of the filling; room or none.
+/// Cause 12 by a non-zero byte at each offset of the filling; room or none.
 fn rebuild_filling(file: &mut File) {
     for (n, t) in CHOSEN.into_iter().filter(|&(n, t)| n - t > 1) {
         let b = n - t;
@@ -564,24 +583,29 @@ fn rebuild_filling(file: &mut File) {
 
 /// Cause 12 by used shares longer than any message gives.
 fn rebuild_long_shares(file: &mut File) {
-    for (n, t) in [(1, 0), (2, 0), (3, 1), (16, 7)] {
-        let size = 1027 * (n - t);
-        let body = file.random.bytes(1024);
-        file.wrong_frame((n, t), &framed(1024, &body, size), 2000);
+    let (longest, share) = (LONGEST_MESSAGE, LONGEST_SHARE);
+    for (n, t) in [(1, 0), (2, 0), (3, 1), GREATEST] {
+        let size = (share + 1) * (n - t);
+        let body = file.random.bytes(longest);
+        file.wrong_frame((n, t), &framed(longest, &body, size), 2000);
         file.wrong_frame((n, t), &vec![0; size], 2000);
-        file.wrong_frame((n, t), &framed(1025, &body, size), 0);
+        file.wrong_frame((n, t), &framed(longest + 1, &body, size), 0);
     }
     let body = file.random.bytes(2000);
-    file.wrong_frame((1, 0), &framed(1024, &body[..1024], 1028), 2000);
-    file.wrong_frame((2, 0), &framed(2000, &body, 2 * 1026), MOST_ROOM);
-    let body = file.random.bytes(65_535);
-    file.wrong_frame((1, 0), &framed(65_533, &body[..65_533], 65_535), MOST_ROOM);
-    file.wrong_frame((2, 0), &framed(65_535, &body, 65_538), MOST_ROOM);
+    let frame = framed(longest, &body[..longest], share + 2);
+    file.wrong_frame((1, 0), &frame, 2000);
+    file.wrong_frame((2, 0), &framed(2000, &body, 2 * share), MOST_ROOM);
+    let body = file.random.bytes(LONGEST_ENTRY);
+    let filled = LONGEST_ENTRY - 2;
+    let frame = framed(filled, &body[..filled], LONGEST_ENTRY);
+    file.wrong_frame((1, 0), &frame, MOST_ROOM);
+    let frame = framed(LONGEST_ENTRY, &body, LONGEST_ENTRY + 3);
+    file.wrong_frame((2, 0), &frame, MOST_ROOM);
 }
 
 /// Entries with one bit flipped, cut short or lengthened, whatever comes of it.
 fn rebuild_random(file: &mut File) {
-    let all = pairs(1, 16);
+    let all = pairs(1, MOST_PARTIES);
     for round in 0..330 {
         let (n, t) = all[file.random.below(all.len())];
         let message = file.message();

@@ -1,26 +1,26 @@
 //! The packets and the inboxes.
 //!
 //! - Reads: n (2 bytes), the packet. What is read of it, twice: the answer (0 silence, 1 a share),
-//!   and the share's number, place and length and the count of hashes (8 each, 0 without a share).
+//!   and the share's number, offset and length and the count of hashes (8 each, 0 without a share).
 //!   The share lies at byte 4, the path right behind it.
 //! - Judgements: n (2), j (2), the root (32), the packet. As above, with answer 0 for a silent,
 //!   1 for a valid and 2 for a faulty packet, and 0 for the number.
 //! - Inboxes: n (1), the inbox. 1 if it is laid out well, else 0 (1).
 //! - Writes: n (2), the number (2), the count of hashes (1), the length of the buffer lent (2), the
-//!   first four hashes, those that are not there of bytes 0xEE, the share. The answer, and the
-//!   buffer, in which what is not written over is untouched; then the same of the packet's entry,
-//!   for which the buffer has two bytes more.
+//!   first [`MOST_HASHES`] hashes, those that are not there of bytes 0xEE, the share. The answer,
+//!   and the buffer, in which what is not written over is untouched; then the same of the packet's
+//!   entry, for which the buffer has two bytes more.
 //!
-//! Packets handed in have at most 1,159 bytes, inboxes 2,400; a written packet has at most
-//! 1,158 bytes, its share handed in 1,027, at most 5 hashes are counted, and the buffer has at
-//! most 1,300 bytes.
+//! Packets and shares handed in have at most a byte more than may be, paths a hash more; inboxes
+//! have at most 2,400 bytes, buffers for a packet 1,300.
 
-use super::{Answer, Case, Kind, Part, UNTOUCHED};
+use super::{Answer, Case, Kind, Part, FAR, UNTOUCHED};
 use crate::inbox::{laid_out, lay_out};
-use crate::packet::{self, classify, write_into, Reading, Standing, HEADER, LONGEST_SHARE};
+use crate::limits::{LONGEST_PACKET, LONGEST_SHARE, MOST_HASHES, MOST_PARTIES};
+use crate::packet::{self, classify, write_into, Reading, Standing, HEADER};
 use crate::random::Random;
 use crate::sha256::{hash, Hash};
-use crate::tree::{self, leaf_string, node, path_length, MOST_HASHES};
+use crate::tree::{self, leaf_string, node, path_length};
 
 const SILENCE: Answer = Answer::Done(0);
 const SHARE: Answer = Answer::Done(1);
@@ -29,12 +29,11 @@ const VALID: Answer = Answer::Done(1);
 const FAULTY: Answer = Answer::Done(2);
 const UNREADABLE: Answer = Answer::Refused(10);
 const UNSTORED: Hash = [0xEE; 32];
-const LONGEST_PACKET: usize = HEADER + LONGEST_SHARE + 32 * MOST_HASHES;
 const LARGEST_INBOX: usize = 2_400;
 const MOST_ROOM: usize = 1_300;
 
 /// The party counts tried.
-const CHOSEN: [usize; 5] = [1, 2, 3, 5, 16];
+const CHOSEN: [usize; 5] = [1, 2, 3, 5, MOST_PARTIES];
 
 /// Party counts with a number whose packet is tried in many ways.
 const PAIRS: [(usize, usize); 8] = [
@@ -45,7 +44,7 @@ const PAIRS: [(usize, usize); 8] = [
     (3, 3),
     (5, 1),
     (5, 5),
-    (16, 16),
+    (MOST_PARTIES, MOST_PARTIES),
 ];
 
 /// The lowest and the highest number of n, which may be one.
@@ -106,7 +105,7 @@ struct File {
     random: Random,
 }
 
-/// What is told of a packet: the answer, and the share's number, its place and length, and the
+/// What is told of a packet: the answer, and the share's number, its offset and length, and the
 /// count of hashes.
 fn told(answer: Answer, share: [usize; 4]) -> Part {
     let number = |part: Part, number: usize| part.eight(number as u64);
@@ -306,14 +305,14 @@ fn cuts(file: &mut File) {
             file.unreadable(&good, &[&good.bytes[..], &[more]].concat());
         }
     }
-    let good = file.good(16, 9, LONGEST_SHARE);
+    let good = file.good(MOST_PARTIES, 9, LONGEST_SHARE);
     file.unreadable(&good, &good.bytes[..LONGEST_PACKET - 1]);
     file.unreadable(&good, &[&good.bytes[..], &[0]].concat());
 }
 
 /// Each bit of a packet flipped in turn, for each of the chosen numbers of parties.
 fn flips(file: &mut File) {
-    for (n, j) in [(1, 1), (2, 2), (3, 1), (5, 5), (16, 11)] {
+    for (n, j) in [(1, 1), (2, 2), (3, 1), (5, 5), (MOST_PARTIES, 11)] {
         let good = file.good(n, j, 1);
         for place in 0..good.bytes.len() {
             flip_byte(file, &good, place);
@@ -353,7 +352,7 @@ fn maps(file: &mut File) {
     }
     for map in [1, 2, 3, 4, 5, 6, 7, 8, 128, 255] {
         file.stands(1, 1, one.root, &[map], FAULTY);
-        file.read(16, &[map], UNREADABLE);
+        file.read(MOST_PARTIES, &[map], UNREADABLE);
     }
 }
 
@@ -377,7 +376,8 @@ fn silence(file: &mut File) {
 fn numbers(file: &mut File) {
     for (n, j) in PAIRS {
         let good = file.good(n, j, 2);
-        for number in (0..=n + 1).chain([17, 18, 128 + j, 239 + j, 255]) {
+        let above = MOST_PARTIES + 1;
+        for number in (0..=n + 1).chain([above, above + 1, 128 + j, 239 + j, 255]) {
             let mut bytes = good.bytes.clone();
             bytes[1] = number as u8;
             let known = (1..=n).contains(&number);
@@ -392,14 +392,16 @@ fn numbers(file: &mut File) {
 /// Stated share lengths that are not the share's, or that no share may have.
 fn stated_lengths(file: &mut File) {
     // Lengths that lead back to the packet's end if sums wrap at two to the 16.
-    file.read(16, &[7, 1, 0xFF, 0x80], UNREADABLE);
+    file.read(MOST_PARTIES, &[7, 1, 0xFF, 0x80], UNREADABLE);
     file.read(2, &[7, 1, 0xFF, 0xE1, 9], UNREADABLE);
     let long = file.good(2, 1, LONGEST_SHARE + 1);
     file.unreadable(&long, &long.bytes);
     for n in CHOSEN {
         for j in ends(n) {
             let good = file.good(n, j, 4);
-            for length in [0, 1, 3, 5, 36, 4 << 8, 260, 1026, 1027, 32_772, 65_535u16] {
+            let longest = LONGEST_SHARE as u16;
+            let near = [0, 1, 3, 5, 36, 4 << 8, 260, longest, longest + 1];
+            for length in near.into_iter().chain([32_772, u16::MAX]) {
                 let mut bytes = good.bytes.clone();
                 bytes[2..HEADER].copy_from_slice(&length.to_be_bytes());
                 file.unreadable(&good, &bytes);
@@ -452,7 +454,7 @@ fn other_sizes(file: &mut File) {
             for m in [n - 1, n + 1] {
                 let reading = file.tried(m, &good.bytes);
                 let standing = file.stood(m, j, good.root, &good.bytes);
-                let allowed = (1..=16).contains(&m);
+                let allowed = (1..=MOST_PARTIES).contains(&m);
                 let readable = allowed && j <= m && path_length(m, j) == good.path.len();
                 assert_eq!(reading == SHARE, readable);
                 assert!(readable || standing != VALID);
@@ -463,14 +465,15 @@ fn other_sizes(file: &mut File) {
 
 /// No such n, whatever the bytes and whatever is demanded.
 fn bad_sizes(file: &mut File) {
-    for (place, n) in [1, 3, 16].into_iter().enumerate() {
+    let above = MOST_PARTIES + 1;
+    for (place, n) in [1, 3, MOST_PARTIES].into_iter().enumerate() {
         let good = file.good(n, 1, 2);
-        for bad in [0, 17, 18, 255, 256, 256 + n, 65_535] {
+        for bad in [0, above, above + 1, 255, 256, 256 + n, FAR] {
             for bytes in [&b""[..], &[0], &[0, 0], &[7], &good.bytes] {
                 file.read(bad, bytes, Answer::Refused(1));
             }
             for (j, bytes) in [(1, &good.bytes[..]), (0, b""), (bad + place, &[0])] {
-                let j = j.min(65_535);
+                let j = j.min(FAR);
                 file.stands(bad, j, good.root, bytes, Answer::Refused(1));
             }
         }
@@ -480,18 +483,18 @@ fn bad_sizes(file: &mut File) {
 /// Another number demanded than the packet bears, or one that nobody bears.
 fn demands(file: &mut File) {
     for n in CHOSEN {
-        for number in if n == 16 { 12..=12 } else { 1..=n } {
+        for number in if n == MOST_PARTIES { 12..=12 } else { 1..=n } {
             let good = file.good(n, number, 1 + n % 3);
             for j in 1..=n {
                 let standing = if j == number { VALID } else { FAULTY };
                 file.stands(n, j, good.root, &good.bytes, standing);
             }
-            for j in [0, n + 1, 255, 256, 256 + number, 65_535] {
+            for j in [0, n + 1, 255, 256, 256 + number, FAR] {
                 file.stands(n, j, good.root, &good.bytes, Answer::Refused(3));
             }
         }
         let root = file.random_hash();
-        for j in [0, n + 1, 65_535] {
+        for j in [0, n + 1, FAR] {
             for bytes in [&b""[..], &[0], &[0, 0], &[7]] {
                 file.stands(n, j, root, bytes, Answer::Refused(3));
             }
@@ -540,7 +543,7 @@ fn good_inboxes(file: &mut File) {
         packets[n - 1] = file.random.bytes(7);
         let bytes = lay_out(&packets);
         file.inbox(n, &bytes, true);
-        if n < 16 {
+        if n < MOST_PARTIES {
             around(file, n, &bytes);
         }
     }
@@ -571,7 +574,7 @@ fn cut_inboxes(file: &mut File) {
             file.inbox(n, &[&bytes, more].concat(), false);
         }
         for m in [n - 1, n + 1] {
-            if (1..=16).contains(&m) {
+            if (1..=MOST_PARTIES).contains(&m) {
                 file.inbox(m, &bytes, false);
             }
         }
@@ -588,11 +591,12 @@ fn lying_inboxes(file: &mut File) {
         for packet in &packets {
             let length = packet.len() as u16;
             let swapped = length.swap_bytes();
-            let far = [32_768, 65_533, 65_534, 65_535, 65_536 - bytes.len() as u32];
-            let lies = [length + 1, length - 1, swapped].map(u32::from);
+            let back = 0u16.wrapping_sub(bytes.len() as u16);
+            let far = [1 << 15, u16::MAX - 2, u16::MAX - 1, u16::MAX, back];
+            let lies = [length + 1, length - 1, swapped];
             for lie in lies.into_iter().chain(far) {
                 let mut bytes = bytes.clone();
-                bytes[place..place + 2].copy_from_slice(&(lie as u16).to_be_bytes());
+                bytes[place..place + 2].copy_from_slice(&lie.to_be_bytes());
                 let well = file.judged(n, &bytes);
                 assert!(!well || place + 2 + packet.len() < bytes.len());
             }
@@ -608,7 +612,7 @@ fn fitting_inboxes(file: &mut File) {
     file.inbox(3, &[0, 2, 0, 1, 0, 0, 0, 1, 0], true);
     file.inbox(3, &[0, 0, 0, 1, 0, 0, 0], true);
     file.inbox(3, &[0, 1, 0, 0, 0, 0, 0], true);
-    // The second length leads back into the first entry if places wrap at two to the 16.
+    // The second length leads back into the first entry if offsets wrap at two to the 16.
     file.inbox(3, &[0, 3, 0, 3, 9, 0xFF, 0xFB], false);
     file.inbox(1, &[0], false);
     file.inbox(1, &[1], false);
@@ -636,7 +640,7 @@ fn written(file: &mut File) {
             rooms(file, &good);
         }
     }
-    for n in [1, 16] {
+    for n in [1, MOST_PARTIES] {
         let good = file.good(n, n.div_ceil(2), LONGEST_SHARE);
         let needed = good.bytes.len();
         file.write(&good.call(), Answer::Done(needed));
@@ -663,10 +667,10 @@ fn unwritten(file: &mut File) {
     for n in CHOSEN {
         for j in ends(n) {
             let good = file.good(n, j, 2).call();
-            for n in [0, 17, 255, 256, 256 + n, 65_535] {
+            for n in [0, MOST_PARTIES + 1, 255, 256, 256 + n, FAR] {
                 file.write(&good.with(|call| call.n = n), Answer::Refused(1));
             }
-            for number in [0, n + 1, 255, 256, 256 + j, 65_535] {
+            for number in [0, n + 1, 255, 256, 256 + j, FAR] {
                 file.write(&good.with(|call| call.number = number), Answer::Refused(3));
             }
             let roomy = good.with(|call| call.room = MOST_ROOM);
@@ -683,9 +687,9 @@ fn unwritten(file: &mut File) {
 
 /// Two causes at once, and all of them. A call that is no packet is not asked for room.
 fn several_causes(file: &mut File) {
-    for n in [1, 3, 16] {
+    for n in [1, 3, MOST_PARTIES] {
         let good = file.good(n, n, 2).call();
-        for bad in [0, 17, 65_535] {
+        for bad in [0, MOST_PARTIES + 1, FAR] {
             under_cause_one(file, &good.with(|call| call.n = bad));
         }
         for number in [0, n + 1] {
@@ -699,7 +703,7 @@ fn several_causes(file: &mut File) {
 
 /// No such n, along with a bad number, no share, little room, and all of these.
 fn under_cause_one(file: &mut File, call: &Call) {
-    let numbers = [0, call.n, 65_535];
+    let numbers = [0, call.n, FAR];
     for number in numbers {
         let call = call.with(|call| call.number = number);
         file.write(&call, Answer::Refused(1));

@@ -13,21 +13,23 @@
 //! - Numbers changed: where (1: 0 n, 1 t, 2 own, 3 len, 4 held), the number (8). Nothing.
 //! - Stages changed: which (1: 0 root, 1 bit, 2 first, 3 second, 4 ended with nothing, 5 with a
 //!   message), that message's length (8). Nothing.
-//! - Bytes changed: where (1: 0 message, 1 root, 2 share, 3 the inbox), from which place (2), the
+//! - Bytes changed: where (1: 0 message, 1 root, 2 share, 3 the inbox), from which offset (2), the
 //!   bytes. Nothing.
 //!
 //! The verdict: the answer, and SHA-256 (32) of the state with SHA-256 of the out buffer behind it,
 //! which is empty where none is lent. The state's bytes: n, t, own (8 each), stage as above (9),
 //! len, held (8 each), root, message, share.
 //!
-//! Messages handed in have at most 1,026 bytes, inboxes 8,000, and the buffer at most 6,000.
+//! Messages handed in have at most two bytes more than may be, inboxes 8,000 and the buffer 6,000
+//! bytes.
 
 use std::collections::BTreeMap;
 
-use super::{Answer, Answer::*, Case, Kind, Part, UNTOUCHED};
-use crate::coder::{frame_of, share_length, shares_of, LONGEST_MESSAGE, MOST_PARTIES};
+use super::{Answer, Answer::*, Case, Kind, Part, GREATEST, UNTOUCHED};
+use crate::coder::{frame_of, share_length, shares_of};
 use crate::inbox::lay_out;
-use crate::packet::{self, LONGEST_SHARE};
+use crate::limits::{LONGEST_MESSAGE, LONGEST_SHARE, MOST_PARTIES};
+use crate::packet;
 use crate::party::{Given, Outcome, Refusal, Stage, State};
 use crate::random::Random;
 use crate::sha256::{hash, Hash};
@@ -35,6 +37,11 @@ use crate::tree;
 
 const LARGEST_INBOX: usize = 8_000;
 const MOST_ROOM: usize = 6_000;
+
+/// One more than the greatest n, the longest message and the longest share.
+const ABOVE: u64 = MOST_PARTIES as u64 + 1;
+const LONG: u64 = LONGEST_MESSAGE as u64 + 1;
+const WIDE: u64 = LONGEST_SHARE as u64 + 1;
 
 /// A step and what it is handed, but for the room.
 #[derive(Clone)]
@@ -348,11 +355,11 @@ impl File {
         let State { n, t, own, len, .. } = self.state;
         let high = self.pick(&[u64::MAX, 1 << 63, 1 << 32, 1 << 16]);
         let (number, values) = match self.random.below(5) {
-            0 => (Number::N, [0, 17, own - 1, 2 * t, high | n]),
+            0 => (Number::N, [0, ABOVE, own - 1, 2 * t, high | n]),
             1 => (Number::T, [n.div_ceil(2), n, 1 << 63 | t, high, high | t]),
-            2 => (Number::Own, [0, n + 1, 17, 256 | own, high | own]),
-            3 => (Number::Len, [1025, 1025, 1026, high, high | len]),
-            _ => (Number::Held, [1027, 1027, 1028, high, high | 1]),
+            2 => (Number::Own, [0, n + 1, ABOVE, 256 | own, high | own]),
+            3 => (Number::Len, [LONG, LONG, LONG + 1, high, high | len]),
+            _ => (Number::Held, [WIDE, WIDE, WIDE + 1, high, high | 1]),
         };
         let value = self.pick(&values);
         let old = self.set(number, value);
@@ -374,7 +381,7 @@ impl File {
     /// Calls on a state that ended with too long a message, which then gets its stage back.
     fn overlong(&mut self) {
         let old = self.state.stage;
-        let length = self.pick(&[1025, 65_536, 1 << 32, u64::MAX]);
+        let length = self.pick(&[LONG, 1 << 16, 1 << 32, u64::MAX]);
         self.set_stage(Stage::Ended(Outcome::Message(length)));
         self.two_calls();
         self.set_stage(old);
@@ -707,6 +714,9 @@ fn happy(file: &mut File) {
     }
 }
 
+/// As many relays as there are others.
+const ALL: isize = MOST_PARTIES as isize;
+
 /// How many others send an unhappy party its share, and how many relay theirs, beyond what is
 /// just enough with the own share.
 const SENDERS: [(usize, isize); 8] = [
@@ -715,8 +725,8 @@ const SENDERS: [(usize, isize); 8] = [
     (2, 1),
     (0, 1),
     (1, -1),
-    (1, 16),
-    (0, 16),
+    (1, ALL),
+    (0, ALL),
     (3, 0),
 ];
 
@@ -773,24 +783,24 @@ fn no_message(file: &mut File) {
         Making::SpoiltLast,
         Making::Noise,
     ];
-    for (n, t) in [(2, 0), (3, 1), (4, 1), (7, 3), (16, 5)] {
+    for (n, t) in [(2, 0), (3, 1), (4, 1), (7, 3), (MOST_PARTIES, 5)] {
         for making in makings {
             let length = file.random.below(30);
             let agreed = file.sharing(n, n - t, length, making);
-            let relays = file.pick(&[0, 1, 16]);
+            let relays = file.pick(&[0, 1, ALL]);
             unhappy_under(file, (n, t), agreed, 1, relays, Forging::Leave);
         }
     }
     for (n, t) in [(2, 0), (3, 1)] {
         let agreed = file.sharing(n, n - t, 0, Making::Longest);
-        unhappy_under(file, (n, t), agreed, 1, 16, Forging::Leave);
+        unhappy_under(file, (n, t), agreed, 1, ALL, Forging::Leave);
     }
 }
 
 /// Packets that are good, but bear another number than is demanded: those that senders are to
 /// relay in the first inbox, and one another's in the second. None of them counts.
 fn swapped(file: &mut File) {
-    for (n, t) in [(2, 0), (3, 1), (4, 0), (5, 2), (9, 4), (16, 7)] {
+    for (n, t) in [(2, 0), (3, 1), (4, 0), (5, 2), (9, 4), GREATEST] {
         let agreed = file.sharing(n, n - t, 5, Making::Honest);
         let own = 1 + file.random.below(n);
         file.open(n as u64, t as u64, own as u64, b"other");
@@ -817,11 +827,11 @@ fn forged(file: &mut File) {
         Forging::Drop,
         Forging::Hold,
     ];
-    for (n, t) in [(1, 0), (2, 0), (3, 1), (5, 2), (8, 3), (16, 7)] {
+    for (n, t) in [(1, 0), (2, 0), (3, 1), (5, 2), (8, 3), GREATEST] {
         for forging in forgings {
             let agreed = file.sharing(n, n - t, 9, Making::Honest);
             let senders = usize::from(forging != Forging::Hold);
-            let relays = file.pick(&[0, 0, 16]);
+            let relays = file.pick(&[0, 0, ALL]);
             unhappy_under(file, (n, t), agreed, senders, relays, forging);
         }
     }
@@ -859,9 +869,10 @@ fn alone(file: &mut File) {
 /// is called.
 fn openings(file: &mut File) {
     let long = file.random.bytes(LONGEST_MESSAGE + 2);
-    let (most, over) = (&long[..LONGEST_MESSAGE], &long[..LONGEST_MESSAGE + 1]);
+    let (longest, over) = (&long[..LONGEST_MESSAGE], &long[..LONGEST_MESSAGE + 1]);
     let huge = [1 << 63, u64::MAX, (1 << 32) + 3, 1 << 16];
-    for n in [0, 17, 18, 256].into_iter().chain(huge) {
+    let (most, half) = (GREATEST.0 as u64, GREATEST.1 as u64);
+    for n in [0, ABOVE, ABOVE + 1, 256].into_iter().chain(huge) {
         for (t, own) in [(0, 1), (n, 1), (n / 2, n.wrapping_add(1)), (0, 0)] {
             opened(file, n, t, own, b"ab");
         }
@@ -870,9 +881,9 @@ fn openings(file: &mut File) {
         (1, 1),
         (2, 1),
         (3, 2),
-        (15, 8),
-        (16, 8),
-        (16, 16),
+        (most - 1, half + 1),
+        (most, half + 1),
+        (most, most),
         (4, 1 << 63),
     ] {
         for (own, message) in [(1, &b"ab"[..]), (0, b""), (n + 1, &long)] {
@@ -884,16 +895,16 @@ fn openings(file: &mut File) {
         opened(file, 3, t, 4, b"ab");
         opened(file, 3, 1, t, b"ab");
     }
-    for (n, t) in [(1, 0), (3, 1), (16, 7)] {
-        for own in [0, n + 1, 17, 256 + n] {
+    for (n, t) in [(1, 0), (3, 1), (most, half)] {
+        for own in [0, n + 1, ABOVE, 256 + n] {
             opened(file, n, t, own, b"ab");
         }
         opened(file, n, t, n + 1, over);
         opened(file, n, t, n, over);
         opened(file, n, t, n, &long);
-        opened(file, n, t, n, most);
+        opened(file, n, t, n, longest);
     }
-    opened(file, 17, 8, 1, over);
+    opened(file, ABOVE, ABOVE / 2, 1, over);
     opened(file, 0, 0, 0, over);
 }
 
@@ -910,7 +921,8 @@ const LEAST_CALLS: usize = 20_000;
 /// Lists of calls and changes in no order.
 fn wander(file: &mut File) {
     for _ in 0..LISTS {
-        let (n, t) = groups().nth(file.random.below(72)).expect("72 groups");
+        let group = file.random.below(groups().count());
+        let (n, t) = groups().nth(group).expect("so many groups");
         let length = file.random.below(12);
         let message = file.random.bytes(length);
         let own = 1 + file.random.below(n);
@@ -944,7 +956,7 @@ fn wander_once(file: &mut File, sharing: &Sharing, first: &[u8], second: &[u8]) 
             let ends = [
                 Outcome::Nothing,
                 Outcome::Message(0),
-                Outcome::Message(1024),
+                Outcome::Message(LONGEST_MESSAGE as u64),
             ];
             let stage = match file.once_in(4) {
                 true => Stage::Ended(file.pick(&ends)),

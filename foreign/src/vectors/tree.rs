@@ -2,24 +2,27 @@
 //!
 //! - Hashes: the string. The cause (1 byte: 0 or 4) and the digest (32, zero if refused).
 //! - Trees: n (1), the n shares. The cause (1), the root (32), and for each leaf 1 to n the answer
-//!   to its path's length, and the path as four hashes, those past its length zero.
-//! - Checks: n (2), j (2), the count told to the check (1), the root's length (1), the path as four
-//!   hashes, those that are not stored of bytes 0xEE, the root, the share. The answer: 0 no, 1 yes.
+//!   to its path's length, and the path as [`MOST_HASHES`] hashes, those past its length zero.
+//! - Checks: n (2), j (2), the count told to the check (1), the root's length (1), the path as
+//!   [`MOST_HASHES`] hashes, those that are not stored of bytes 0xEE, the root, the share. The
+//!   answer: 0 no, 1 yes.
 //! - Path lengths: n (1). The answer for each leaf 1 to n.
 //!
-//! Strings have at most 65,536 bytes, shares of a tree 65, shares of a check 65,534, roots 33.
+//! Strings have at most a byte more than may be hashed, and so have the leaf strings of checks;
+//! shares of a tree have at most 65 bytes, roots 33.
 
-use super::{Answer, Case, Kind, Part};
+use super::{Answer, Case, Kind, Part, FAR};
+use crate::limits::{LONGEST_SHARE, LONGEST_STRING, MOST_HASHES, MOST_PARTIES};
 use crate::random::Random;
-use crate::sha256::{hash, Hash, LONGEST_STRING};
-use crate::tree::{self, judge, MOST_HASHES};
+use crate::sha256::{hash, Hash};
+use crate::tree::{self, judge};
 
 const UNSTORED: Hash = [0xEE; 32];
 const NO: Answer = Answer::Done(0);
 const YES: Answer = Answer::Done(1);
 
 /// The party counts whose checks are tried leaf by leaf.
-const CHOSEN: [usize; 8] = [1, 2, 3, 5, 7, 8, 11, 16];
+const CHOSEN: [usize; 8] = [1, 2, 3, 5, 7, 8, 11, MOST_PARTIES];
 
 type Shares = Vec<Vec<u8>>;
 
@@ -143,7 +146,7 @@ fn hash_cases(file: &mut File) {
     file.hash(&[0xFF; 64]);
     file.hash(&[0x41; 1000]);
     file.hash(&[0x55; 1005]);
-    for length in (0..=200).chain([1000, 65_535, 65_536]) {
+    for length in (0..=200).chain([1000, LONGEST_STRING, LONGEST_STRING + 1]) {
         let string = file.random.bytes(length);
         file.hash(&string);
     }
@@ -152,7 +155,7 @@ fn hash_cases(file: &mut File) {
 
 /// Every number of leaves, with all paths and their lengths.
 fn tree_cases(file: &mut File) {
-    for n in 1..=16 {
+    for n in 1..=MOST_PARTIES {
         let lengths = (1..=n).map(|j| Answer::Done(tree::path_length(n, j)));
         file.out.push(Case {
             kind: Kind::PathLengths,
@@ -160,7 +163,7 @@ fn tree_cases(file: &mut File) {
             expected: lengths.fold(Part::new(), Part::answer),
         });
     }
-    for n in 1..=16 {
+    for n in 1..=MOST_PARTIES {
         for length in [1, 2, 31, 65] {
             let shares = file.shares(n, length);
             file.tree(&shares);
@@ -226,7 +229,7 @@ fn past_the_count(file: &mut File, good: &Call) {
 /// The right hashes in the array, and another count.
 fn wrong_counts(file: &mut File, good: &Call) {
     let length = good.path.len();
-    let near = |count: usize| count.abs_diff(length) == 1 || count == 5;
+    let near = |count: usize| count.abs_diff(length) == 1 || count == MOST_HASHES + 1;
     let wild = |count: usize| good.j == 1 && [0, 1, 2, 3, 4, 6, 32, 128, 255].contains(&count);
     for count in (0..256).filter(|&count| count != length && (near(count) || wild(count))) {
         let call = Call {
@@ -291,7 +294,7 @@ fn mixed_leaves(file: &mut File, good: &Call, shares: &Shares) {
 /// for the root says nothing of the number of leaves.
 fn other_sizes(file: &mut File, good: &Call) {
     for n in [good.n - 1, good.n + 1] {
-        if good.j <= n && n <= 16 {
+        if good.j <= n && n <= MOST_PARTIES {
             file.tried(&Call { n, ..good.clone() });
         }
     }
@@ -319,7 +322,8 @@ fn every_byte(file: &mut File) {
 
 /// Shares of other lengths, the empty one and the longest included.
 fn share_lengths(file: &mut File) {
-    for (n, j, length) in [(1, 1, 0), (3, 3, 0), (5, 2, 65), (16, 16, 1026)] {
+    let greatest = (MOST_PARTIES, MOST_PARTIES, LONGEST_SHARE);
+    for (n, j, length) in [(1, 1, 0), (3, 3, 0), (5, 2, 65), greatest] {
         let shares = file.shares(n, length);
         file.check(&right(&shares, j), YES);
     }
@@ -333,10 +337,10 @@ fn share_lengths(file: &mut File) {
 
 /// Each cause alone, the rest of the call being right.
 fn refusals(file: &mut File) {
-    for n in [1, 3, 8, 16] {
+    for n in [1, 3, 8, MOST_PARTIES] {
         let shares = file.shares(n, 3);
         let good = right(&shares, n);
-        for j in [0, n + 1, 255, 256, 256 + n, 65_535] {
+        for j in [0, n + 1, 255, 256, 256 + n, FAR] {
             file.check(&Call { j, ..good.clone() }, Answer::Refused(3));
         }
         for root in [&good.root[..0], &good.root[..31], &good.root[1..]] {
@@ -347,12 +351,12 @@ fn refusals(file: &mut File) {
         let mut call = good.clone();
         call.root.push(0);
         file.check(&call, Answer::Refused(7));
-        call.count = 5;
+        call.count = MOST_HASHES + 1;
         file.check(&call, Answer::Refused(7));
     }
     let shares = file.shares(3, 3);
     let good = right(&shares, 2);
-    for n in [17, 18, 255, 256, 256 + 3, 65_535] {
+    for n in [MOST_PARTIES + 1, MOST_PARTIES + 2, 255, 256, 256 + 3, FAR] {
         file.check(&Call { n, ..good.clone() }, Answer::Refused(1));
     }
     let shares = file.shares(1, LONGEST_STRING - 1);
@@ -370,15 +374,16 @@ fn several(file: &mut File) {
         ..good.clone()
     };
     let whole = &good.root[..];
-    for (n, j) in [(0, 0), (0, 1), (17, 0), (17, 18), (65_535, 0)] {
+    let above = MOST_PARTIES + 1;
+    for (n, j) in [(0, 0), (0, 1), (above, 0), (above, above + 1), (FAR, 0)] {
         file.check(&with(n, j, whole), Answer::Refused(1));
         file.check(&with(n, j, &whole[1..]), Answer::Refused(1));
     }
-    for n in [17, 65_535] {
+    for n in [above, FAR] {
         file.check(&with(n, 2, &whole[1..]), Answer::Refused(1));
         file.check(&with(n, 2, b""), Answer::Refused(1));
     }
-    for j in [0, 4, 65_535] {
+    for j in [0, 4, FAR] {
         file.check(&with(3, j, &whole[1..]), Answer::Refused(3));
         file.check(&with(3, j, b""), Answer::Refused(3));
     }

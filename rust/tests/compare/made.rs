@@ -1,16 +1,27 @@
 //! Random arguments: groups, messages, inboxes with good and bad packets, states with bytes
 //! changed.
 
-use cipangohu::{lay_out, MAX_MESSAGE, MAX_SHARE, STATE};
+use cipangohu::{lay_out, MAX_MESSAGE, MAX_PARTIES, MAX_SHARE, STATE};
 use foreign::liars::{Lie, Scene, Sharing, Way};
 use foreign::random::Random;
 
+use crate::reference::AT_SHARE;
+
 /// A number that no group has.
-pub const ODD: [usize; 8] = [0, 17, 18, 255, 256, 1 << 32, 1 << 63, usize::MAX];
+pub const ODD: [usize; 8] = [
+    0,
+    MAX_PARTIES + 1,
+    MAX_PARTIES + 2,
+    255,
+    256,
+    1 << 32,
+    1 << 63,
+    usize::MAX,
+];
 
 /// n and t that keep to the limits.
 pub fn group(random: &mut Random) -> (usize, usize) {
-    let n = 1 + random.below(16);
+    let n = 1 + random.below(MAX_PARTIES);
     (n, random.below(n.div_ceil(2)))
 }
 
@@ -133,7 +144,7 @@ pub fn spoil(state: &mut Vec<u8>, play: &Play, random: &mut Random) {
         }
         2 => *state = dirt(state.len(), random),
         _ if state.len() < STATE => state.resize(STATE, 0),
-        3 => state[random.below(3)] = random.pick(&[0, 1, 2, 3, 16, 17, 255]),
+        3 => state[random.below(3)] = random.pick(&[0, 1, 2, 3, MOST, MOST + 1, 255]),
         4 | 5 => {
             state[3] = random.pick(&[0, 1, 2, 3, 2, 3, 4, 5, 6, 255]);
             if random.once_in(3) {
@@ -156,6 +167,8 @@ fn put(state: &mut [u8], at: usize, bytes: &[u8]) {
     state[at..at + bytes.len()].copy_from_slice(bytes);
 }
 
+const MOST: u8 = MAX_PARTIES as u8;
+
 /// Where a length stands in a state, and its limit.
 const MESSAGE_LENGTH: (usize, u16) = (4, MAX_MESSAGE as u16);
 const SHARE_LENGTH: (usize, u16) = (6, MAX_SHARE as u16);
@@ -169,12 +182,12 @@ fn other_length(state: &mut [u8], (at, limit): (usize, u16), random: &mut Random
 fn hold(state: &mut [u8], play: &Play) {
     let share = &play.scene.agreed.shares[play.group.2 - 1];
     put(state, 6, &(share.len() as u16).to_be_bytes());
-    put(state, 1064, share);
+    put(state, AT_SHARE, share);
 }
 
 /// Dirt where a state given back has zeros.
 fn past_lengths(state: &mut [u8], random: &mut Random) {
-    for end in [1064, STATE] {
+    for end in [AT_SHARE, STATE] {
         let length = 1 + random.below(200);
         put(state, end - length, &dirt(length, random));
     }

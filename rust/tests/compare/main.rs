@@ -10,7 +10,7 @@ mod reference;
 mod safe;
 mod tally;
 
-use cipangohu::{lay_out, MAX_HASHED, MAX_MESSAGE, MAX_OUTBOX, STATE};
+use cipangohu::{lay_out, MAX_HASHED, MAX_MESSAGE, MAX_OUTBOX, MAX_PARTIES, MAX_SHARE, STATE};
 use foreign::liars::{flip, Lie, Scene, Sharing, Way};
 use foreign::random::Random;
 
@@ -119,7 +119,7 @@ fn openings() {
         };
         let own = match random.once_in(5) {
             true => random.pick(&ODD),
-            false => 1 + random.below(17),
+            false => 1 + random.below(MAX_PARTIES + 1),
         };
         let mut message = message(&mut random);
         if random.once_in(8) {
@@ -140,7 +140,7 @@ fn openings() {
 fn packets() {
     let (mut random, mut tally) = (Random::new(3), Tally::default());
     for _ in 0..times(4_000) {
-        let n = 2 + random.below(15);
+        let n = 2 + random.below(MAX_PARTIES - 1);
         let t = random.below(n.div_ceil(2));
         let scene = Scene {
             agreed: Sharing::of(n, t, &message(&mut random)),
@@ -240,7 +240,7 @@ fn entries_of(n: usize, t: usize, message: &[u8], random: &mut Random) -> Vec<u8
         0 if !shares[place].is_empty() => flip(&mut shares[place], random),
         1 => shares[place].push(0),
         2 => shares.iter_mut().for_each(|share| share.push(0)),
-        3 => shares[place] = random.bytes(1_030),
+        3 => shares[place] = random.bytes(MAX_SHARE + 4),
         _ => {}
     }
     let mut entries = lay_out(&shares);

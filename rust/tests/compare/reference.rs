@@ -1,15 +1,19 @@
 //! The foreign implementation behind the calls of the library: answers, and states as bytes.
 
-use cipangohu::{Cause, STATE};
+use cipangohu::{Cause, HASH, MAX_MESSAGE, STATE};
 use foreign::coder::{self, encode, rebuild};
+use foreign::limits::{LONGEST_STRING, MOST_HASHES};
 use foreign::packet::{self, Reading};
 use foreign::party::{Given, Outcome, Stage, State};
-use foreign::sha256::{self, LONGEST_STRING};
-use foreign::tree::{self, MOST_HASHES};
+use foreign::{sha256, tree};
 
 use crate::call::{Answer, Call, Lent};
 
 const NOTHING: u32 = u32::MAX;
+
+/// Where the message and the share stand in a state.
+const AT_MESSAGE: usize = 8 + HASH;
+pub const AT_SHARE: usize = AT_MESSAGE + MAX_MESSAGE;
 
 fn refused(number: u32, needed: usize) -> Answer {
     Err(Cause { number, needed })
@@ -62,9 +66,9 @@ pub fn decoded(bytes: &[u8]) -> Option<State> {
         stage,
         len,
         held: number(&bytes[6..]),
-        root: bytes[8..40].try_into().expect("32 bytes"),
-        message: bytes[40..1064].try_into().expect("1,024 bytes"),
-        share: bytes[1064..].try_into().expect("1,026 bytes"),
+        root: bytes[8..AT_MESSAGE].try_into().expect("a root"),
+        message: bytes[AT_MESSAGE..AT_SHARE].try_into().expect("a message"),
+        share: bytes[AT_SHARE..].try_into().expect("a share"),
     })
 }
 
@@ -103,12 +107,12 @@ fn open(
     if state.len() < STATE {
         return refused(9, STATE);
     }
-    if out.len() < 32 {
-        return refused(9, 32);
+    if out.len() < HASH {
+        return refused(9, HASH);
     }
     state[..STATE].copy_from_slice(&encoded(&opened));
-    out[..32].copy_from_slice(&root);
-    Ok(32)
+    out[..HASH].copy_from_slice(&root);
+    Ok(HASH as u32)
 }
 
 fn step<T>(
@@ -141,16 +145,16 @@ fn read(n: usize, packet: &[u8]) -> Answer {
     }
 }
 
-/// A path that is not up to four whole hashes has no right length.
+/// A path that is not whole hashes, or more than any path has, has no right length.
 fn check(place: (usize, usize), share: &[u8], path: &[u8], root: &[u8]) -> Answer {
-    let mut hashes = [[0; 32]; MOST_HASHES];
-    let whole = path.len().is_multiple_of(32) && path.len() <= 32 * MOST_HASHES;
+    let mut hashes = [[0; HASH]; MOST_HASHES];
+    let whole = path.len().is_multiple_of(HASH) && path.len() <= HASH * MOST_HASHES;
     let count = if whole {
-        path.len() / 32
+        path.len() / HASH
     } else {
         MOST_HASHES + 1
     };
-    for (hash, bytes) in hashes.iter_mut().zip(path.chunks_exact(32)) {
+    for (hash, bytes) in hashes.iter_mut().zip(path.chunks_exact(HASH)) {
         hash.copy_from_slice(bytes);
     }
     match tree::judge(place, share, &hashes, count, root) {
@@ -171,9 +175,9 @@ fn hash(message: &[u8], out: &mut [u8]) -> Answer {
     if message.len() > LONGEST_STRING {
         return refused(4, 0);
     }
-    if out.len() < 32 {
-        return refused(9, 32);
+    if out.len() < HASH {
+        return refused(9, HASH);
     }
-    out[..32].copy_from_slice(&sha256::hash(message));
-    Ok(32)
+    out[..HASH].copy_from_slice(&sha256::hash(message));
+    Ok(HASH as u32)
 }

@@ -3,9 +3,10 @@
 
 use cipangohu::{
     check_path, entries, hash, lay_out, read_packet, rebuild, shares, Cause, Outcome, Party,
-    MAX_OUTBOX, MAX_PACKET, STATE,
+    MAX_ENTRY, MAX_OUTBOX, MAX_PACKET, MAX_PARTIES, STATE,
 };
 use foreign::coder::{self, frame_of, shares_of};
+use foreign::limits::LONGEST_MESSAGE;
 use foreign::packet::Reading;
 use foreign::party::{Refusal, State};
 use foreign::random::Random;
@@ -156,7 +157,7 @@ fn shares_made_and_joined() {
         (0..n)
             .filter(|place| (missing >> place) & 1 == 1)
             .for_each(|place| made[place].clear());
-        let mut out = vec![0; coder::LONGEST_MESSAGE];
+        let mut out = vec![0; LONGEST_MESSAGE];
         let expected = match coder::rebuild(n, t, &lay_out(&made), &mut out) {
             coder::Answer::Done(length) => Ok(out[..length].to_vec()),
             coder::Answer::Refused(number) => Err(Cause { number, needed: 0 }),
@@ -168,10 +169,10 @@ fn shares_made_and_joined() {
 
 #[test]
 fn bytes_too_many_for_a_length_stand_as_none() {
-    assert_eq!(lay_out(&[vec![1; 65_536], vec![2]]), [0, 0, 0, 1, 2]);
+    assert_eq!(lay_out(&[vec![1; MAX_ENTRY + 1], vec![2]]), [0, 0, 0, 1, 2]);
     assert_eq!(entries(&[0, 1]), None);
     assert_eq!(
-        shares(17, 0, b""),
+        shares(MAX_PARTIES + 1, 0, b""),
         Err(Cause {
             number: 1,
             needed: 0

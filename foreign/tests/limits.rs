@@ -1,0 +1,114 @@
+//! The greatest numbers are the same everywhere: in the proved crate `limits`, in this crate, in the
+//! crate for hosts in Rust and in the header for those in C. A compiler for C compares them, in whose
+//! words the constants of the proved crates are written as well.
+
+use std::fs;
+use std::io;
+use std::path::{Path, PathBuf};
+use std::process::Command;
+
+use foreign::limits::*;
+
+// The file itself, since the crate cannot be linked without the proved archive.
+#[path = "../../rust/src/limits.rs"]
+mod host;
+
+/// The proved crates whose constants are compared. In the second stand those that follow from the
+/// limits alone.
+const PROVED: [&str; 2] = ["limits", "commitment"];
+
+/// A constant of the proved crates, that of the header without the name that it begins with, and the
+/// numbers in Rust.
+const LIMITS: [(&str, &str, &[usize]); 8] = [
+    ("MAX_PARTIES", "PARTIES", &[MOST_PARTIES, host::MAX_PARTIES]),
+    (
+        "MAX_MESSAGE",
+        "MESSAGE",
+        &[LONGEST_MESSAGE, host::MAX_MESSAGE],
+    ),
+    ("MAX_SHARE", "SHARE", &[LONGEST_SHARE, host::MAX_SHARE]),
+    ("MAX_PATH", "PATH", &[MOST_HASHES, host::MAX_PATH]),
+    ("MAX_HASHED", "HASHED", &[LONGEST_STRING, host::MAX_HASHED]),
+    ("MAX_ENTRY", "ENTRY", &[LONGEST_ENTRY, host::MAX_ENTRY]),
+    ("MAX_PACKET", "PACKET", &[LONGEST_PACKET, host::MAX_PACKET]),
+    ("MAX_OUTBOX", "OUTBOX", &[LONGEST_OUTBOX, host::MAX_OUTBOX]),
+];
+
+fn folder(name: &str) -> PathBuf {
+    Path::new(env!("CARGO_MANIFEST_DIR")).join("..").join(name)
+}
+
+/// The constants of a proved crate in the words of C, in which their formulas are the same.
+fn proved(name: &str) -> String {
+    let file = folder("crates").join(name).join("src/lib.rt");
+    let text = fs::read_to_string(file).expect("the crate's source");
+    let constant = |line: &str| {
+        let line = line.strip_prefix("pub ").unwrap_or(line);
+        let line = line.strip_prefix("const ")?.strip_suffix(';')?;
+        let (name, formula) = line.split_once(": usize = ")?;
+        Some(format!("#define {name} ({formula})\n"))
+    };
+    text.lines().filter_map(constant).collect()
+}
+
+/// Lines that stop the compiler where two numbers differ. A name that is not defined would be 0.
+fn equal(one: &str, other: &str) -> String {
+    format!("#if {one} == 0 || {one} != {other}\n#error {one} is not {other}\n#endif\n")
+}
+
+/// A program in C that is compiled exactly if the limits are one another's.
+fn program() -> String {
+    let mut text = String::from("#include \"cipangohu.h\"\n");
+    text.extend(PROVED.map(proved));
+    for (proved, header, here) in LIMITS {
+        text += &equal(proved, &format!("CIPANGOHU_{header}"));
+        text.extend(here.iter().map(|limit| equal(proved, &limit.to_string())));
+    }
+    text += &equal("MAX_PLAN", &LONGEST_PLAN.to_string());
+    text += &equal("CIPANGOHU_ROOT", &host::HASH.to_string());
+    text + &equal("CIPANGOHU_STATE", &host::STATE.to_string())
+}
+
+/// Whether the compiler takes the file, with what it says printed, or that there is no such compiler.
+fn taken(compiler: &str, standard: &str, source: &Path) -> io::Result<bool> {
+    let run = Command::new(compiler)
+        .arg(standard)
+        .args(["-pedantic", "-Wall", "-Wextra", "-Werror", "-fsyntax-only"])
+        .arg("-I")
+        .arg(folder("c"))
+        .arg(source)
+        .output()?;
+    println!("{}", String::from_utf8_lossy(&run.stderr));
+    Ok(run.status.success())
+}
+
+/// Proved, in Rust and in the header, which is C99 and C++.
+#[test]
+fn one_number_for_each_limit() {
+    let source = Path::new(env!("CARGO_TARGET_TMPDIR")).join("limits.c");
+    fs::write(&source, program()).expect("it is written");
+    assert!(taken("gcc", "-std=c99", &source).expect("gcc runs"));
+    // Nothing else needs a compiler for C++, so one may be absent.
+    match taken("g++", "-std=c++11", &source) {
+        Ok(verdict) => assert!(verdict),
+        Err(error) => println!("left out, since there is no g++: {error}"),
+    }
+}
+
+/// A number that differs stops the compiler.
+#[test]
+fn another_number_is_not_taken() {
+    let source = Path::new(env!("CARGO_TARGET_TMPDIR")).join("other.c");
+    let other = equal("MAX_SHARE", &(LONGEST_SHARE + 1).to_string());
+    fs::write(&source, program() + &other).expect("it is written");
+    assert!(!taken("gcc", "-std=c99", &source).expect("gcc runs"));
+}
+
+#[test]
+fn every_proved_limit_is_compared() {
+    let program = program();
+    for line in proved("limits").lines() {
+        let name = line.split(' ').nth(1).expect("a name");
+        assert!(program.contains(&format!("#if {name} ==")), "{name}");
+    }
+}

@@ -1,0 +1,37 @@
+//! The greatest numbers, each once, and what follows from them. A test of the crate `foreign` holds
+//! them to those of the proved crate `limits`, and to the header's.
+
+/// The greatest number of parties.
+pub const MAX_PARTIES: usize = 16;
+
+/// The greatest length of a message.
+pub const MAX_MESSAGE: usize = 1_024;
+
+/// The greatest number of hashes in a path.
+pub const MAX_PATH: usize = 4;
+
+/// The greatest length of a string that is hashed.
+pub const MAX_HASHED: usize = 65_535;
+
+/// The greatest length of an entry, which two bytes tell.
+pub const MAX_ENTRY: usize = u16::MAX as usize;
+
+/// The bytes of a SHA-256 hash, and so of a root.
+pub const HASH: usize = 32;
+
+/// The greatest length of a share: that of one party alone, whose share is the whole frame.
+pub const MAX_SHARE: usize = MAX_MESSAGE + 2;
+
+/// The longest packet: map, number and share length, the share, the longest path.
+pub const MAX_PACKET: usize = 4 + MAX_SHARE + MAX_PATH * HASH;
+
+/// Room for all shares of a message: n is less than 2·(n − t), so that they have less than twice
+/// the bytes of the longest frame with its zeros.
+pub(crate) const MAX_SHARES: usize = 2 * (MAX_SHARE + MAX_PARTIES);
+
+/// Room for any outbox: all shares of a message, and beside each its entry's two-byte length, map,
+/// number, share length and path.
+pub const MAX_OUTBOX: usize = MAX_SHARES + MAX_PARTIES * (6 + MAX_PATH * HASH);
+
+/// The bytes of a party's state: numbers and lengths, the root, and room for a message and a share.
+pub const STATE: usize = 8 + HASH + MAX_MESSAGE + MAX_SHARE;
