@@ -1,27 +1,35 @@
 -- Laws of the state as bytes: what each function that reads or writes it needs. Assumes nothing.
-use mathlib.Core.Path.{_≡_, refl, ap, _∙_}
+use mathlib.Core.Path.{_≡_, refl, sym, ap, ap₂, _∙_}
 use mathlib.Core.Bool.{cond}
 use mathlib.Core.List.{List, [], _∷_, _++_, append-assoc}
 use Prim.Native.Nat.{ℕ, _+_, _/_, _%_, _≤_, _<_}
+use native.Mathlib.Decide.{decLt}
 use native.Mathlib.Omega.{arith}
 use borrow.Author.Tests.{lt-ltb, le-ltb, ne-eqb}
 use lib.Dec.{eqb}
-use lib.ListN.{length, getD, take, drop, length-append, length-drop}
+use lib.ListN.{length, getD, take, drop, replicate, length-append, length-drop}
 use lib.Seq.{length-take-le}
 use Rattle.limits.specs.Limits.{maxMessage, maxShare}
 use Rattle.buffer.specs.Splice.{spliced, putOf}
+use Rattle.buffer.specs.Given.{gave, written}
+use Rattle.buffer.specs.declared.Written.the-variants as given
 use Rattle.buffer.proofs.Splice.{put-fits, length-spliced, spliced-more}
-use Rattle.party.specs.State.{blankState}
+use Rattle.buffer.proofs.Given.{written-short, written-done}
+use Rattle.party.specs.State.{seatOf, blankState}
+use Rattle.party.proofs.Kept.{put-whole}
 use Rattle.party.specs.declared.Outcome.the-variants as outcome
 use Rattle.party.specs.declared.Stage.{Stage}
 use Rattle.party.specs.declared.Stage.the-variants.{Root, Bit, First, Second, Ended}
 use Rattle.party.specs.declared.Party.{Party}
-use Rattle.capi.specs.Layout.{headLength, stateLength, stageNumber, lengthFor, headOf, bytesOf, stageOf, stageIn, lengthIn, heldIn}
-use Rattle.capi.specs.Layout.{readIn, stateOf}
+use Rattle.state_bytes.specs.Layout.{headLength, stateLength, stageNumber, lengthFor, headOf, stateBytes, stageOf, stageTold, lengthTold, heldTold}
+use Rattle.state_bytes.specs.Layout.{readIn, stateOf}
 
--- a part of a list has the length that was asked for, where the list is long enough
-pub length-part : (at k : ℕ) (s : List ℕ) → at + k ≤ length s → length (take k (drop at s)) ≡ k
+-- a part of a list has the length that was asked for, where the list is long enough; so put into an array of that length it is all there is
+length-part : (at k : ℕ) (s : List ℕ) → at + k ≤ length s → length (take k (drop at s)) ≡ k
 length-part at k s h = length-take-le k (drop at s) (omega (arith, length-drop at s))
+
+pub part-put : (at k : ℕ) (s : List ℕ) → at + k ≤ length s → putOf (replicate k 0) 0 (take k (drop at s)) ≡ take k (drop at s)
+part-put at k s h = put-whole k (take k (drop at s)) (length-part at k s h)
 
 -- the stage of each number
 module _ (k len : ℕ) where
@@ -57,30 +65,47 @@ module _ (s : List ℕ) where
   state-short h = rw (lt-ltb (length s) stateLength h)
 
   module _ (long : stateLength ≤ length s) where
-    pub state-unknown : 5 < stageIn s → stateOf s ≡ blankState
+    pub state-unknown : 5 < stageTold s → stateOf s ≡ blankState
     unfolding stateOf
-    state-unknown h = rw (le-ltb (length s) stateLength long, lt-ltb 5 (stageIn s) h)
+    state-unknown h = rw (le-ltb (length s) stateLength long, lt-ltb 5 (stageTold s) h)
 
-    pub state-read : stageIn s ≤ 5 → stateOf s ≡ readIn s
+    pub state-read : stageTold s ≤ 5 → stateOf s ≡ readIn s
     unfolding stateOf
-    state-read h = rw (le-ltb (length s) stateLength long, le-ltb 5 (stageIn s) h)
+    state-read h = rw (le-ltb (length s) stateLength long, le-ltb 5 (stageTold s) h)
+
+-- the agreed root that bytes say has 32 of them
+blank-32 : length (blankState .root) ≡ 32
+unfolding blankState
+blank-32 = refl
+
+read-32 : (s : List ℕ) → stateLength ≤ length s → length (readIn s .root) ≡ 32
+unfolding readIn
+read-32 s h = length-part 8 32 s (omega arith)
+
+pub root-32 : (s : List ℕ) → length (stateOf s .root) ≡ 32
+root-32 s = elim (decLt (length s) stateLength) [
+  | yes h ↦ ap (λ (x : Party). length (x .root)) (state-short s h) ∙ blank-32
+  | no h ↦ let long : stateLength ≤ length s = omega arith in
+      elim (decLt 5 (stageTold s)) [
+        | yes k ↦ ap (λ (x : Party). length (x .root)) (state-unknown s long k) ∙ blank-32
+        | no k ↦ ap (λ (x : Party). length (x .root)) (state-read s long (omega arith)) ∙ read-32 s long
+      ]
+]
 
 -- the numbers before the root
-pub head-is : (x : Party) (len a b c d e f g h : ℕ) → len ≡ lengthFor (x .stage) (x .len) → a ≡ x .n % 256 → b ≡ x .t % 256
-    → c ≡ x .own % 256 → d ≡ stageNumber (x .stage) → e ≡ len / 256 % 256 → f ≡ len % 256 → g ≡ x .held / 256 % 256 → h ≡ x .held % 256
+pub head-is : (x : Party) (len a b c d e f g h : ℕ) → len ≡ lengthFor (x .stage) (x .len) → a ≡ x .seat .n % 256 → b ≡ x .seat .t % 256
+    → c ≡ x .seat .own % 256 → d ≡ stageNumber (x .stage) → e ≡ len / 256 % 256 → f ≡ len % 256 → g ≡ x .held / 256 % 256 → h ≡ x .held % 256
     → a ∷ b ∷ c ∷ d ∷ e ∷ f ∷ g ∷ h ∷ [] ≡ headOf x
 unfolding headOf
 head-is x len a b c d e f g h l qa qb qc qd qe qf qg qh = rw (qa, qb, qc, qd, qe, qf, qg, qh, l)
 
 -- a state whose fields are those that the bytes say
 pub fields-are : (s : List ℕ) (number len n t own : ℕ) (stage : Stage) (message : List ℕ) (l : ℕ) (root share : List ℕ) (held : ℕ)
-    → number ≡ stageIn s → len ≡ lengthIn s → n ≡ getD s 0 0 → t ≡ getD s 1 0 → own ≡ getD s 2 0 → stage ≡ stageOf number len
+    → number ≡ stageTold s → len ≡ lengthTold s → n ≡ getD s 0 0 → t ≡ getD s 1 0 → own ≡ getD s 2 0 → stage ≡ stageOf number len
     → message ≡ take maxMessage (drop headLength s) → l ≡ cond (eqb number 5) 0 len → root ≡ take 32 (drop 8 s)
-    → share ≡ take maxShare (drop (headLength + maxMessage) s) → held ≡ heldIn s
+    → share ≡ take maxShare (drop (headLength + maxMessage) s) → held ≡ heldTold s
     → _≡_ {A = Party} (record {
-      n = n;
-      t = t;
-      own = own;
+      seat = seatOf n t own;
       stage = stage;
       message = message;
       len = l;
@@ -104,8 +129,8 @@ module _ (x : Party) (root : length (x .root) ≡ 32) (message : length (x .mess
   unfolding headOf
   head-long = refl
 
-  pub bytes-long : length (bytesOf x) ≡ stateLength
-  unfolding bytesOf
+  pub bytes-long : length (stateBytes x) ≡ stateLength
+  unfolding stateBytes
   bytes-long =
       length-append (headOf x) (x .root ++ (x .message ++ x .share))
       ∙ omega (
@@ -118,10 +143,13 @@ module _ (x : Party) (root : length (x .root) ≡ 32) (message : length (x .mess
         share,
       )
 
-  pub state-written : (s a b c d head : List ℕ) → stateLength ≤ length s → head ≡ headOf x → a ≡ putOf s 0 head → b ≡ putOf a 8 (x .root)
-      → c ≡ putOf b headLength (x .message) → d ≡ putOf c (headLength + maxMessage) (x .share) → d ≡ spliced s 0 (bytesOf x)
-  unfolding bytesOf
-  state-written s a b c d head long qh qa qb qc qd =
+  pub state-refused : (s : List ℕ) → length s < stateLength → gave (given.Short stateLength) s ≡ written (stateBytes x) s
+  state-refused s h = ap (λ (k : ℕ). gave (given.Short k) s) (sym bytes-long) ∙ sym (written-short (stateBytes x) s (omega (arith, bytes-long)))
+
+  spliced-all : (s a b c d head : List ℕ) → stateLength ≤ length s → head ≡ headOf x → a ≡ putOf s 0 head → b ≡ putOf a 8 (x .root)
+      → c ≡ putOf b headLength (x .message) → d ≡ putOf c (headLength + maxMessage) (x .share) → d ≡ spliced s 0 (stateBytes x)
+  unfolding stateBytes
+  spliced-all s a b c d head long qh qa qb qc qd =
       let h : List ℕ = headOf x in
       let r : List ℕ = x .root in
       let m : List ℕ = x .message in
@@ -136,3 +164,10 @@ module _ (x : Party) (root : length (x .root) ≡ 32) (message : length (x .mess
       qd ∙ ap (λ (l : List ℕ). putOf l (headLength + maxMessage) y) three
       ∙ behind s ((h ++ r) ++ m) y (headLength + maxMessage) (omega (arith, lm)) (omega (arith, lm, share))
       ∙ ap (spliced s 0) (append-assoc (h ++ r) m y ∙ append-assoc h r (m ++ y))
+
+  pub state-written : (s a b c d head : List ℕ) → stateLength ≤ length s → head ≡ headOf x → a ≡ putOf s 0 head → b ≡ putOf a 8 (x .root)
+      → c ≡ putOf b headLength (x .message) → d ≡ putOf c (headLength + maxMessage) (x .share)
+      → gave (given.Done stateLength) d ≡ written (stateBytes x) s
+  state-written s a b c d head long qh qa qb qc qd =
+      ap₂ (λ (k : ℕ) (l : List ℕ). gave (given.Done k) l) (sym bytes-long) (spliced-all s a b c d head long qh qa qb qc qd)
+      ∙ sym (written-done (stateBytes x) s (omega (arith, bytes-long)))

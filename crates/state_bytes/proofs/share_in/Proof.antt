@@ -1,15 +1,13 @@
--- `capi::share_in` meets its contract: the bytes behind the message are put into an array of as many. Assumes nothing.
+-- `state_bytes::share_in` meets its contract: the bytes behind the message are put into an array of as many. Assumes nothing.
 use mathlib.Core.Path.{_∙_}
 use Prim.Native.Nat.{_+_}
 use native.Mathlib.Omega.{arith}
-use lib.ListN.{take, drop}
 use Rattle.limits.specs.Limits.{maxMessage, maxShare}
-use Rattle.party.proofs.Kept.{put-whole}
-use Rattle.capi.specs.Layout.{headLength}
-use Rattle.capi.proofs.Reading.{length-part}
+use Rattle.state_bytes.specs.Layout.{headLength}
+use Rattle.state_bytes.proofs.Reading.{part-put}
 use borrow.Author.Needs.{needs}
-use Rattle.capi.proofs.share_in.Statement.{statement}
-use Rattle.capi.proofs.share_in.Tie as tie
+use Rattle.state_bytes.proofs.share_in.Statement.{statement}
+use Rattle.state_bytes.proofs.share_in.Tie as tie
 
 slice-aggregate-put : tie.Need-slice-aggregate-put
 slice-aggregate-put c = search needs
@@ -28,8 +26,7 @@ put-requires c κs = search needs
 
 returns : tie.Need-returns
 returns c = let st = c .before .before .before .before .before in
-    let s = st .args .bytes .now in
-    c .before .put .ensures .1 ∙ put-whole maxShare (take maxShare (drop (headLength + maxMessage) s)) (length-part (headLength + maxMessage) maxShare s (omega (arith, st .pre)))
+    c .before .put .ensures .1 ∙ part-put (headLength + maxMessage) maxShare (st .args .bytes .now) (omega (arith, st .pre))
 
 pub share-in-spec : {M : Type 1} → statement M
 share-in-spec =

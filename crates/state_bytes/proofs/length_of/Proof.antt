@@ -1,7 +1,7 @@
--- `capi::length_of` meets its contract: by whether the number is that of an end with a message. Assumes nothing.
+-- `state_bytes::length_of` meets its contract: by whether the number is that of an end with a message. Assumes nothing.
 use borrow.Author.Tests.{eq-eqb, ne-eqb}
-use Rattle.capi.proofs.length_of.Statement.{statement}
-use Rattle.capi.proofs.length_of.Tie as tie
+use Rattle.state_bytes.proofs.length_of.Statement.{statement}
+use Rattle.state_bytes.proofs.length_of.Tie as tie
 
 returns : tie.Need-returns
 returns c = rw (eq-eqb (c .before .args .number) 5 (c .if1 .taken))

@@ -1,8 +1,8 @@
--- `capi::read_fields` meets its contract: each field is the one that the bytes say. Assumes nothing.
-use Rattle.capi.proofs.Reading.{fields-are}
+-- `state_bytes::read_fields` meets its contract: each field is the one that the bytes say. Assumes nothing.
+use Rattle.state_bytes.proofs.Reading.{fields-are}
 use borrow.Author.Needs.{needs}
-use Rattle.capi.proofs.read_fields.Statement.{statement}
-use Rattle.capi.proofs.read_fields.Tie as tie
+use Rattle.state_bytes.proofs.read_fields.Statement.{statement}
+use Rattle.state_bytes.proofs.read_fields.Tie as tie
 
 shared-slice-read-wide : tie.Need-shared-slice-read-wide
 shared-slice-read-wide c = search needs

@@ -1,8 +1,8 @@
--- `capi::stage_of` meets its contract: one law for each number. Assumes nothing.
+-- `state_bytes::stage_of` meets its contract: one law for each number. Assumes nothing.
 use mathlib.Core.Path.{sym}
-use Rattle.capi.proofs.Reading.{stage-root, stage-bit, stage-first, stage-second, stage-nothing, stage-message}
-use Rattle.capi.proofs.stage_of.Statement.{statement}
-use Rattle.capi.proofs.stage_of.Tie as tie
+use Rattle.state_bytes.proofs.Reading.{stage-root, stage-bit, stage-first, stage-second, stage-nothing, stage-message}
+use Rattle.state_bytes.proofs.stage_of.Statement.{statement}
+use Rattle.state_bytes.proofs.stage_of.Tie as tie
 
 returns : tie.Need-returns
 returns c = sym (stage-root _ _ (c .match .keys1))

@@ -7,7 +7,7 @@ use lib.Dec.{ltb, eqb}
 use lib.ListN.{length, getD, take, drop}
 use Rattle.limits.specs.Limits.{maxMessage, maxShare}
 use Rattle.buffer.specs.Entries.{size}
-use Rattle.party.specs.State.{blankState}
+use Rattle.party.specs.State.{seatOf, blankState}
 use Rattle.party.specs.declared.Outcome.the-variants as outcome
 use Rattle.party.specs.declared.Stage.{Stage}
 use Rattle.party.specs.declared.Stage.the-variants.{Root, Bit, First, Second, Ended}
@@ -45,10 +45,11 @@ pair k = k / 256 % 256 ∷ k % 256 ∷ []
 -- a state as bytes
 unfoldable pub headOf : Party → List ℕ
 headOf x =
-    x .n % 256 ∷ x .t % 256 ∷ x .own % 256 ∷ stageNumber (x .stage) ∷ (pair (lengthFor (x .stage) (x .len)) ++ pair (x .held))
+    x .seat .n % 256 ∷ x .seat .t % 256 ∷ x .seat .own % 256 ∷ stageNumber (x .stage)
+    ∷ (pair (lengthFor (x .stage) (x .len)) ++ pair (x .held))
 
-unfoldable pub bytesOf : Party → List ℕ
-bytesOf x = headOf x ++ (x .root ++ (x .message ++ x .share))
+unfoldable pub stateBytes : Party → List ℕ
+stateBytes x = headOf x ++ (x .root ++ (x .message ++ x .share))
 
 -- the stage of a number, with the length that stands beside it; from 5 on it is an end with a message
 unfoldable pub stageOf : ℕ → ℕ → Stage
@@ -61,31 +62,29 @@ stageOf k len =
     (Ended (outcome.Message len))))))
 
 -- the numbers that bytes hold
-abbrev pub stageIn : List ℕ → ℕ
-stageIn s = getD s 3 0
+abbrev pub stageTold : List ℕ → ℕ
+stageTold s = getD s 3 0
 
-abbrev pub lengthIn : List ℕ → ℕ
-lengthIn s = size (drop 4 s)
+abbrev pub lengthTold : List ℕ → ℕ
+lengthTold s = size (drop 4 s)
 
-abbrev pub heldIn : List ℕ → ℕ
-heldIn s = size (drop 6 s)
+abbrev pub heldTold : List ℕ → ℕ
+heldTold s = size (drop 6 s)
 
 -- a state read from bytes as it is written
 unfoldable pub readIn : List ℕ → Party
 readIn s =
     record {
-      n = getD s 0 0;
-      t = getD s 1 0;
-      own = getD s 2 0;
-      stage = stageOf (stageIn s) (lengthIn s);
+      seat = seatOf (getD s 0 0) (getD s 1 0) (getD s 2 0);
+      stage = stageOf (stageTold s) (lengthTold s);
       message = take maxMessage (drop headLength s);
-      len = cond (eqb (stageIn s) 5) 0 (lengthIn s);
+      len = cond (eqb (stageTold s) 5) 0 (lengthTold s);
       root = take 32 (drop 8 s);
       share = take maxShare (drop (headLength + maxMessage) s);
-      held = heldIn s;
+      held = heldTold s;
     }
 
 -- what bytes say as a state. Too few bytes, or a number of no stage, are the blank state: n is 0 there, so that every step refuses it with
 -- cause 5, as it does all other states that are none. Bytes past a state's length are not looked at
 unfoldable pub stateOf : List ℕ → Party
-stateOf s = cond (ltb (length s) stateLength || ltb 5 (stageIn s)) blankState (readIn s)
+stateOf s = cond (ltb (length s) stateLength || ltb 5 (stageTold s)) blankState (readIn s)

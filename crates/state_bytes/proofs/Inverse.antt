@@ -12,20 +12,23 @@ use lib.Seq.{take-at, drop-at, drop-drop}
 use Rattle.limits.specs.Limits.{maxParties, maxMessage, maxShare}
 use Rattle.buffer.specs.Splice.{spliced}
 use Rattle.buffer.specs.Entries.{size}
+use Rattle.buffer.specs.Given.{Given, written}
+use Rattle.buffer.proofs.Given.{written-done}
 use Rattle.merkle.specs.Shares.{blank}
-use Rattle.party.specs.State.{Result, nothing, settled, bytesOf as resultBytes, padded, waiting, atRoot, atBit, atFirst, atSecond, atEnd}
+use Rattle.party.specs.State.{Result, nothing, settled, bytesOf, padded, atRoot, atBit, atFirst, atSecond, atEnd}
 use Rattle.party.specs.declared.Outcome.the-variants as outcome
 use Rattle.party.specs.declared.Stage.{Stage}
 use Rattle.party.specs.declared.Stage.the-variants.{Root, Bit, First, Second, Ended}
+use Rattle.party.specs.declared.Seat.{Seat}
 use Rattle.party.specs.declared.Party.{Party}
-use Rattle.capi.specs.Layout.{headLength, stateLength, stageNumber, lengthFor, headOf, bytesOf, stageOf, stageIn, lengthIn, heldIn, stateOf}
-use Rattle.capi.proofs.Reading.{fields-are, bytes-long, state-read}
+use Rattle.state_bytes.specs.Layout.{headLength, stateLength, stageNumber, lengthFor, headOf, stateBytes, stageOf, stageTold, lengthTold, heldTold, stateOf}
+use Rattle.state_bytes.proofs.Reading.{fields-are, bytes-long, state-read}
 
 -- a state whose fields fit their places; an end with a message has no other length
 pub record Storable (x : Party) : Type 0 where
-  pub parties : x .n < 256
-  pub faults : x .t < 256
-  pub number : x .own < 256
+  pub parties : x .seat .n < 256
+  pub faults : x .seat .t < 256
+  pub number : x .seat .own < 256
   pub short : lengthFor (x .stage) (x .len) < 65536
   pub few : x .held < 65536
   pub root : length (x .root) ≡ 32
@@ -56,17 +59,17 @@ pair-back k h = omega arith
 -- bytes that begin with those of a state
 module _ (x : Party) (f : Storable x) (r : List ℕ) where
   abbrev B : List ℕ
-  B = bytesOf x ++ r
+  B = stateBytes x ++ r
 
   long : stateLength ≤ length B
-  long = omega (arith, length-append (bytesOf x) r, bytes-long x (f .root) (f .message) (f .share))
+  long = omega (arith, length-append (stateBytes x) r, bytes-long x (f .root) (f .message) (f .share))
 
   -- behind the numbers lie the root, the message and the share
   abbrev M : List ℕ
   M = x .message ++ (x .share ++ r)
 
   behind-head : drop 8 B ≡ x .root ++ M
-  unfolding bytesOf headOf
+  unfolding stateBytes headOf
   behind-head =
       append-assoc (x .root) (x .message ++ x .share) r ∙ ap (λ (l : List ℕ). x .root ++ l) (append-assoc (x .message) (x .share) r)
 
@@ -77,58 +80,69 @@ module _ (x : Party) (f : Storable x) (r : List ℕ) where
   behind-message =
       sym (drop-drop maxMessage headLength B) ∙ ap (drop maxMessage) behind-root ∙ drop-at (x .message) (x .share ++ r) maxMessage (f .message)
 
-  n-back : x .n ≡ getD B 0 0
-  unfolding bytesOf headOf
+  n-back : x .seat .n ≡ getD B 0 0
+  unfolding stateBytes headOf
   n-back = sym (mod-eq-of-lt (f .parties))
 
-  t-back : x .t ≡ getD B 1 0
-  unfolding bytesOf headOf
+  t-back : x .seat .t ≡ getD B 1 0
+  unfolding stateBytes headOf
   t-back = sym (mod-eq-of-lt (f .faults))
 
-  own-back : x .own ≡ getD B 2 0
-  unfolding bytesOf headOf
+  own-back : x .seat .own ≡ getD B 2 0
+  unfolding stateBytes headOf
   own-back = sym (mod-eq-of-lt (f .number))
 
-  number-back : stageNumber (x .stage) ≡ stageIn B
-  unfolding bytesOf headOf
+  number-back : stageNumber (x .stage) ≡ stageTold B
+  unfolding stateBytes headOf
   number-back = refl
 
-  length-back : lengthFor (x .stage) (x .len) ≡ lengthIn B
-  unfolding bytesOf headOf size
+  length-back : lengthFor (x .stage) (x .len) ≡ lengthTold B
+  unfolding stateBytes headOf size
   length-back = pair-back (lengthFor (x .stage) (x .len)) (f .short)
 
-  held-back : x .held ≡ heldIn B
-  unfolding bytesOf headOf size
+  held-back : x .held ≡ heldTold B
+  unfolding stateBytes headOf size
   held-back = pair-back (x .held) (f .few)
 
   read-back : stateOf B ≡ x
   read-back =
       state-read B long (omega (arith, stage-known (x .stage), number-back))
-      ∙ sym (fields-are B (stageNumber (x .stage)) (lengthFor (x .stage) (x .len)) (x .n) (x .t) (x .own) (x .stage) (x .message) (x .len)
-      (x .root) (x .share) (x .held) number-back length-back n-back t-back own-back (stage-back (x .stage) (x .len))
+      ∙ sym (fields-are B (stageNumber (x .stage)) (lengthFor (x .stage) (x .len)) (x .seat .n) (x .seat .t) (x .seat .own) (x .stage)
+      (x .message) (x .len) (x .root) (x .share) (x .held) number-back length-back n-back t-back own-back (stage-back (x .stage) (x .len))
       (sym (ap (take maxMessage) behind-root ∙ take-at (x .message) (x .share ++ r) maxMessage (f .message))) (sym (f .only))
       (sym (ap (take 32) behind-head ∙ take-at (x .root) M 32 (f .root)))
       (sym (ap (take maxShare) behind-message ∙ take-at (x .share) r maxShare (f .share))) held-back)
 
 -- a state written over the start of a buffer is the state that the buffer then says
-pub written-read : (x : Party) → Storable x → (s : List ℕ) → stateOf (spliced s 0 (bytesOf x)) ≡ x
+pub written-read : (x : Party) → Storable x → (s : List ℕ) → stateLength ≤ length s → stateOf (written (stateBytes x) s .buffer) ≡ x
 unfolding spliced
-written-read x f s = read-back x f (drop (0 + length (bytesOf x)) s)
+written-read x f s long =
+    ap (λ (g : Given). stateOf (g .buffer))
+    (written-done (stateBytes x) s (omega (arith, bytes-long x (f .root) (f .message) (f .share))))
+    ∙ read-back x f (drop (0 + length (stateBytes x)) s)
 
 -- the five forms, within their limits
 length-padded : (k : ℕ) (l : List ℕ) → length l ≤ k → length (padded k l) ≡ k
 length-padded k l h = length-append l (replicate (k - length l) 0) ∙ omega (arith, length-replicate {A = ℕ} (k - length l) 0)
 
-module _ (n t own : ℕ) (high : n ≤ maxParties) (faults : 2 * t < n) (last : own ≤ n) where
-  waiting-storable : (k : Stage) (m z y : List ℕ) → length m ≤ maxMessage → length z ≡ 32 → length y ≤ maxShare
-      → lengthFor k (length m) ≡ length m → cond (eqb (stageNumber k) 5) 0 (lengthFor k (length m)) ≡ length m
-      → Storable (waiting n t own k m z y)
-  waiting-storable k m z y short root few plain only =
+module _ (s : Seat) (high : s .n ≤ maxParties) (faults : 2 * s .t < s .n) (last : s .own ≤ s .n) where
+  formed : (k : Stage) (m z y : List ℕ) (len : ℕ) → length m ≤ maxMessage → length z ≡ 32 → length y ≤ maxShare → lengthFor k len < 65536
+      → cond (eqb (stageNumber k) 5) 0 (lengthFor k len) ≡ len
+      → Storable (record {
+        seat = s;
+        stage = k;
+        message = padded maxMessage m;
+        len = len;
+        root = z;
+        share = padded maxShare y;
+        held = length y;
+      })
+  formed k m z y len short root few told only =
       record {
         parties = omega arith;
         faults = omega arith;
         number = omega arith;
-        short = omega (arith, plain);
+        short = told;
         few = omega arith;
         root = root;
         message = length-padded maxMessage m short;
@@ -137,46 +151,24 @@ module _ (n t own : ℕ) (high : n ≤ maxParties) (faults : 2 * t < n) (last : 
       }
 
   module _ (m : List ℕ) (short : length m ≤ maxMessage) where
-    pub root-storable : Storable (atRoot n t own m)
+    pub root-storable : Storable (atRoot s m)
     unfolding atRoot
-    root-storable = waiting-storable Root m blank [] short refl (omega arith) refl refl
+    root-storable = formed Root m blank [] (length m) short refl (omega arith) (omega arith) refl
 
     module _ (z : List ℕ) (root : length z ≡ 32) where
-      pub bit-storable : Storable (atBit n t own m z)
+      pub bit-storable : Storable (atBit s m z)
       unfolding atBit
-      bit-storable = waiting-storable Bit m z [] short root (omega arith) refl refl
+      bit-storable = formed Bit m z [] (length m) short root (omega arith) (omega arith) refl
 
-      pub first-storable : Storable (atFirst n t own m z)
+      pub first-storable : Storable (atFirst s m z)
       unfolding atFirst
-      first-storable = waiting-storable First m z [] short root (omega arith) refl refl
+      first-storable = formed First m z [] (length m) short root (omega arith) (omega arith) refl
 
-      pub second-storable : (y : List ℕ) → length y ≤ maxShare → Storable (atSecond n t own m z y)
+      pub second-storable : (y : List ℕ) → length y ≤ maxShare → Storable (atSecond s m z y)
       unfolding atSecond
-      second-storable y few = waiting-storable Second m z y short root few refl refl
+      second-storable y few = formed Second m z y (length m) short root few (omega arith) refl
 
-  pub end-storable : (r : Result) → length (resultBytes r) ≤ maxMessage → Storable (atEnd n t own r)
+  pub end-storable : (r : Result) → length (bytesOf r) ≤ maxMessage → Storable (atEnd s r)
   unfolding atEnd
-  end-storable nothing h =
-      record {
-        parties = omega arith;
-        faults = omega arith;
-        number = omega arith;
-        short = omega arith;
-        few = omega arith;
-        root = refl;
-        message = length-padded maxMessage [] (omega arith);
-        share = length-padded maxShare [] (omega arith);
-        only = refl;
-      }
-  end-storable (settled m) h =
-      record {
-        parties = omega arith;
-        faults = omega arith;
-        number = omega arith;
-        short = omega (arith, h);
-        few = omega arith;
-        root = refl;
-        message = length-padded maxMessage m h;
-        share = length-padded maxShare [] (omega arith);
-        only = refl;
-      }
+  end-storable nothing h = formed (Ended outcome.Nothing) [] blank [] 0 h refl (omega arith) (omega arith) refl
+  end-storable (settled m) h = formed (Ended (outcome.Message (length m))) m blank [] 0 h refl (omega arith) (omega (arith, h)) refl

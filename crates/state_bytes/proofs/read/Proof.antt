@@ -1,9 +1,9 @@
--- `capi::read_state` meets its contract: by how many bytes there are and by the number of the stage. Assumes nothing.
+-- `state_bytes::read` meets its contract: by how many bytes there are and by the number of the stage. Assumes nothing.
 use mathlib.Core.Path.{sym, _∙_}
-use Rattle.capi.proofs.Reading.{state-short, state-unknown, state-read}
+use Rattle.state_bytes.proofs.Reading.{state-short, state-unknown, state-read}
 use borrow.Author.Needs.{needs}
-use Rattle.capi.proofs.read_state.Statement.{statement}
-use Rattle.capi.proofs.read_state.Tie as tie
+use Rattle.state_bytes.proofs.read.Statement.{statement}
+use Rattle.state_bytes.proofs.read.Tie as tie
 
 blank-requires : tie.Need-blank-requires
 blank-requires c κs = search needs
@@ -26,8 +26,8 @@ read-fields-requires c κs = search needs
 returns-3 : tie.Need-returns-3
 returns-3 c = c .read-fields .ensures ∙ sym (state-read _ (c .before .before .before .if1 .left) (c .before .if2 .left))
 
-pub read-state-spec : {M : Type 1} → statement M
-read-state-spec =
+pub read-spec : {M : Type 1} → statement M
+read-spec =
     tie.close
     (tie.spec
     blank-requires

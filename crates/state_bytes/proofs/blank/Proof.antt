@@ -1,11 +1,11 @@
--- `capi::blank` meets its contract: an opening with n 0 is refused, and gives the blank state. Assumes nothing.
+-- `state_bytes::blank` meets its contract: an opening with n 0 is refused, and gives the blank state. Assumes nothing.
 use mathlib.Core.Path.{ap}
 use Rattle.limits.specs.Limits.{parties, groupCause}
 use Rattle.party.specs.Steps.{openCause, openOf}
 use Rattle.party.specs.declared.Opened.{Opened}
 use borrow.Author.Needs.{needs}
-use Rattle.capi.proofs.blank.Statement.{statement}
-use Rattle.capi.proofs.blank.Tie as tie
+use Rattle.state_bytes.proofs.blank.Statement.{statement}
+use Rattle.state_bytes.proofs.blank.Tie as tie
 
 slice-aggregate-open : tie.Need-slice-aggregate-open
 slice-aggregate-open c = search needs

@@ -1,12 +1,12 @@
--- `capi::root_in` meets its contract: the 32 bytes behind the numbers are put into an array of as many. Assumes nothing.
+-- `state_bytes::message_in` meets its contract: the bytes behind the head are put into an array of as many. Assumes nothing.
 use mathlib.Core.Path.{_∙_}
 use native.Mathlib.Omega.{arith}
-use lib.ListN.{take, drop}
-use Rattle.party.proofs.Kept.{put-whole}
-use Rattle.capi.proofs.Reading.{length-part}
+use Rattle.limits.specs.Limits.{maxMessage}
+use Rattle.state_bytes.specs.Layout.{headLength}
+use Rattle.state_bytes.proofs.Reading.{part-put}
 use borrow.Author.Needs.{needs}
-use Rattle.capi.proofs.root_in.Statement.{statement}
-use Rattle.capi.proofs.root_in.Tie as tie
+use Rattle.state_bytes.proofs.message_in.Statement.{statement}
+use Rattle.state_bytes.proofs.message_in.Tie as tie
 
 slice-aggregate-put : tie.Need-slice-aggregate-put
 slice-aggregate-put c = search needs
@@ -25,10 +25,9 @@ put-requires c κs = search needs
 
 returns : tie.Need-returns
 returns c = let st = c .before .before .before .before .before in
-    let s = st .args .bytes .now in
-    c .before .put .ensures .1 ∙ put-whole 32 (take 32 (drop 8 s)) (length-part 8 32 s (omega (arith, st .pre)))
+    c .before .put .ensures .1 ∙ part-put headLength maxMessage (st .args .bytes .now) (omega (arith, st .pre))
 
-pub root-in-spec : {M : Type 1} → statement M
-root-in-spec =
+pub message-in-spec : {M : Type 1} → statement M
+message-in-spec =
     tie.close
     (tie.spec slice-aggregate-put sub-put part-put-start part-put-end put-requires returns)

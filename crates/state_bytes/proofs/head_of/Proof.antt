@@ -1,8 +1,8 @@
--- `capi::head_of` meets its contract: each byte is the one that stands there. Assumes nothing.
-use Rattle.capi.proofs.Reading.{head-is}
+-- `state_bytes::head_of` meets its contract: each byte is the one that stands there. Assumes nothing.
+use Rattle.state_bytes.proofs.Reading.{head-is}
 use borrow.Author.Needs.{needs}
-use Rattle.capi.proofs.head_of.Statement.{statement}
-use Rattle.capi.proofs.head_of.Tie as tie
+use Rattle.state_bytes.proofs.head_of.Statement.{statement}
+use Rattle.state_bytes.proofs.head_of.Tie as tie
 
 length-for-requires : tie.Need-length-for-requires
 length-for-requires c κs = search needs
