@@ -1,6 +1,5 @@
-pub mod Reading
 pub mod Answers
+pub mod Sound
 pub mod Small
 pub mod Tools
-pub mod Inverse
 pub mod Kept

@@ -1,8 +1,8 @@
--- Every value fits the lower half of an answer: what a step writes, a message, the shares of one, and the fields of a packet. By the limits.
--- Assumes nothing.
-use mathlib.Core.Path.{_≡_, refl, sym, subst, _∙_}
+-- Every value fits the lower half of an answer, and no step's is that of the result nothing: what a step writes, a message, the shares of one.
+-- By the limits. Assumes nothing.
+use mathlib.Core.Path.{_≡_, refl, sym, subst}
 use mathlib.Core.Bool.{Bool, true, false, cond, not}
-use mathlib.Core.List.{List}
+use mathlib.Core.List.{List, []}
 use Prim.Native.Nat.{ℕ, _-_, _*_, _/_, _%_, _^_, _<_, _≤_}
 use native.Mathlib.Nat.{mul-le-mul-right, mul-le-mul-left}
 use native.Mathlib.Decide.{ℕ-discrete}
@@ -19,30 +19,33 @@ use Rattle.buffer.specs.declared.Written.the-variants as given
 use Rattle.erasure.specs.Coding.{shareLength, shares, encodeOf}
 use Rattle.erasure.specs.Rebuild.{Recovered, cause, message, present, recovered, answered, rebuildOf}
 use Rattle.erasure.proofs.Frame.{share-most}
-use Rattle.party.specs.State.{Result, nothing, settled, bytesOf, messageIn, atBit, atFirst, atSecond, atEnd, happy}
-use Rattle.party.specs.Steps.{stateCause, bitIn, gives, writes, bitCause, packetFor, outboxOf, agreeBitOf, inboxCause, relayOf, heldOf}
-use Rattle.party.specs.Steps.{Taken, missing, found, takenBy, packetTaken, takeSharesOf, resultOf, givesEnd, ending, takeRelaysOf}
+use Rattle.commitment.specs.Private.{Coded}
 use Rattle.commitment.specs.Rooms.{maxPacket, maxOutbox}
+use Rattle.commitment.proofs.Shared.{length-shares}
+use Rattle.party.specs.State.{Result, nothing, settled, bytesOf, messageIn, atBit, atFirst, atSecond, atEnd, happy}
+use Rattle.party.specs.Steps.{Stepped, stepped, gives, writes, rootCause, withRoot, agreeRootOf, bitCause, packetFor, outboxOf, agreeBitOf}
+use Rattle.party.specs.Steps.{inboxCause, relayOf, heldOf, Taken, missing, found, takenBy, packetTaken, takeSharesOf, resultOf, ending, takeRelaysOf}
 use Rattle.party.specs.Private.{Fit}
 use Rattle.party.specs.declared.Party.{Party}
-use Rattle.party.specs.declared.Vote.{Vote}
-use Rattle.party.specs.declared.Vote.the-variants as vote
-use Rattle.party.specs.declared.Settled.the-variants as answer
-use Rattle.party.proofs.Causes.{state-fit, state-sound, bit-state, inbox-sound}
+use Rattle.party.specs.declared.Reply.{Reply}
+use Rattle.party.specs.declared.Answer.the-variants as answer
+use Rattle.party.proofs.Causes.{state-fit, state-sound, inbox-sound}
 use Rattle.party.proofs.Kept.{take-padded}
+use Rattle.party.proofs.Outcomes.{root-refused, root-given}
 use Rattle.party.proofs.Progress.{result-short}
 use Rattle.party.proofs.Rooms.{outbox-fits, relay-fits}
-use Rattle.commitment.proofs.Shared.{length-shares}
 use Rattle.party.proofs.Taking.{Short, short-recovered}
-use Rattle.commitment.specs.Private.{Coded}
-use Rattle.capi.specs.Calls.{packed, endValue}
+use Rattle.agreement.specs.Calls.{Call, agreeRoot, agreeBit, takeShares, takeRelays, made}
+use Rattle.capi.specs.Calls.{packed, nothingValue, valueShown, numberOf}
+use Rattle.capi.proofs.Answers.{value-fits}
+use Rattle.capi.proofs.Sound.{bit-sound}
 
 -- what is written, or would be
 writes-value : (x next : Party) (bs out : List ℕ) → writes x next bs out .value ≡ length bs
 writes-value x next bs out = go (ltb (length out) (length bs))
   where
     go : (b : Bool)
-        → cond b (gives x (given.Short (length bs)) out) (gives next (given.Done (length bs)) (spliced out 0 bs)) .value ≡ length bs
+        → cond b (gives x (answer.Short (length bs)) out) (gives next (answer.Sent (length bs)) (spliced out 0 bs)) .value ≡ length bs
     go true = refl
     go false = refl
 
@@ -55,17 +58,17 @@ value-of bs out = go (ltb (length out) (length bs))
     go true = refl
     go false = refl
 
-ending-value : (x : Party) (r : Result) (out : List ℕ) → length (bytesOf r) ≤ maxMessage → endValue (ending x r out .answer) < 2 ^ 32
+ending-value : (x : Party) (r : Result) (out : List ℕ) → length (bytesOf r) ≤ maxMessage → ending x r out .value < nothingValue
 ending-value x nothing out h = omega arith
 ending-value x (settled m) out h = go (ltb (length out) (length m))
   where
-    go : (b : Bool) → endValue (cond b (givesEnd x (answer.Short (length m)) out)
-        (givesEnd (atEnd (x .n) (x .t) (x .own) (settled m)) (answer.Message (length m)) (spliced out 0 m)) .answer) < 2 ^ 32
+    go : (b : Bool) → cond b (gives x (answer.Short (length m)) out)
+        (gives (atEnd (x .seat) (settled m)) (answer.Message (length m)) (spliced out 0 m)) .value < nothingValue
     go true = omega (arith, h)
     go false = omega (arith, h)
 
 -- what a party writes hangs on its message and not on how it is kept
-coded : (x : Party) → Fit x → Coded (x .n) (x .t) (messageIn x)
+coded : (x : Party) → Fit x → Coded (x .seat .n) (x .seat .t) (messageIn x)
 coded x f =
     record {
       low = f .low;
@@ -76,10 +79,10 @@ coded x f =
 
 module _ (H : List ℕ → List ℕ) (x : Party) where
   abbrev Bit : Party
-  Bit = atBit (x .n) (x .t) (x .own) (messageIn x) (x .root)
+  Bit = atBit (x .seat) (messageIn x) (x .root)
 
   abbrev First : Party
-  First = atFirst (x .n) (x .t) (x .own) (messageIn x) (x .root)
+  First = atFirst (x .seat) (messageIn x) (x .root)
 
   bit-same : (bit : ℕ) → outboxOf H Bit bit ≡ outboxOf H x bit
   unfolding outboxOf packetFor happy atBit
@@ -95,25 +98,30 @@ module _ (H : List ℕ → List ℕ) (x : Party) where
   first-same inbox = rw (take-padded maxMessage (messageIn x), taken-same (takenBy H x inbox))
 
 module _ (H : List ℕ → List ℕ) (wide : (s : List ℕ) → length (H s) ≡ 32) (x : Party) where
+  -- step 2: a bit
+  root-small : (z : List ℕ) → agreeRootOf H x z .value < nothingValue
+  root-small z = elim (ℕ-discrete (rootCause x z) 0) [
+    | yes e ↦ rw (root-given H x z e) (one (happy H (withRoot x z)))
+    | no e ↦ rw (root-refused H x z e) (omega arith)
+  ]
+    where
+      one : (b : Bool) → cond b 1 0 < nothingValue
+      one true = omega arith
+      one false = omega arith
+
   -- step 3
   outbox-small : Fit x → (bit : ℕ) → length (outboxOf H x bit) ≤ maxOutbox
   outbox-small f bit =
       subst (λ (l : List ℕ). length l ≤ maxOutbox) (bit-same H x bit)
-      (outbox-fits H wide (x .n) (x .t) (x .own) (messageIn x) (x .root) (coded x f) bit)
+      (outbox-fits H wide (x .seat) (messageIn x) (x .root) (coded x f) bit)
 
-  bit-fit : (bit : ℕ) → bitCause x bit ≡ 0 → Fit x
-  bit-fit bit e = elim (ℕ-discrete (stateCause 3 x) 0) [
-    | yes q ↦ state-fit 3 x q
-    | no q ↦ absurd (q (sym (bit-state x bit q) ∙ e))
-  ]
-
-  pub bit-small : (bit : ℕ) (out : List ℕ) → agreeBitOf H x bit out .value < 2 ^ 32
+  bit-small : (bit : ℕ) (out : List ℕ) → agreeBitOf H x bit out .value < nothingValue
   unfolding agreeBitOf
   bit-small bit out = elim (ℕ-discrete (bitCause x bit) 0) [
-    | yes e ↦ let next : Party = cond (eqb bit 0) (atEnd (x .n) (x .t) (x .own) nothing)
-        (atFirst (x .n) (x .t) (x .own) (messageIn x) (x .root)) in
+    | yes e ↦ let next : Party = cond (eqb bit 0) (atEnd (x .seat) nothing)
+        (atFirst (x .seat) (messageIn x) (x .root)) in
         rw (eq-eqb (bitCause x bit) 0 e)
-        (omega (arith, writes-value x next (outboxOf H x bit) out, outbox-small (bit-fit bit e) bit))
+        (omega (arith, writes-value x next (outboxOf H x bit) out, outbox-small (state-fit 3 x (bit-sound x bit e)) bit))
     | no e ↦ rw (ne-eqb (bitCause x bit) 0 e) (omega arith)
   ]
 
@@ -121,12 +129,12 @@ module _ (H : List ℕ → List ℕ) (wide : (s : List ℕ) → length (H s) ≡
   relay-small : Fit x → (inbox : List ℕ) → length (relayOf H x inbox) ≤ maxPacket
   relay-small f inbox =
       subst (λ (l : List ℕ). length l ≤ maxPacket) (first-same H x inbox)
-      (relay-fits H wide (x .n) (x .t) (x .own) (messageIn x) (x .root) (coded x f) (f .first) (f .last) inbox)
+      (relay-fits H wide (x .seat) (messageIn x) (x .root) (coded x f) (f .first) (f .last) inbox)
 
-  pub shares-small : (inbox out : List ℕ) → takeSharesOf H x inbox out .value < 2 ^ 32
+  shares-small : (inbox out : List ℕ) → takeSharesOf H x inbox out .value < nothingValue
   unfolding takeSharesOf
   shares-small inbox out = elim (ℕ-discrete (inboxCause 4 x inbox) 0) [
-    | yes e ↦ let next : Party = atSecond (x .n) (x .t) (x .own) (messageIn x) (x .root) (heldOf H x inbox) in
+    | yes e ↦ let next : Party = atSecond (x .seat) (messageIn x) (x .root) (heldOf H x inbox) in
         rw (eq-eqb (inboxCause 4 x inbox) 0 e)
         (omega (
           arith,
@@ -137,7 +145,7 @@ module _ (H : List ℕ → List ℕ) (wide : (s : List ℕ) → length (H s) ≡
   ]
 
   -- step 5
-  pub relays-small : (inbox out : List ℕ) → endValue (takeRelaysOf H x inbox out .answer) < 2 ^ 32
+  relays-small : (inbox out : List ℕ) → takeRelaysOf H x inbox out .value < nothingValue
   unfolding takeRelaysOf
   relays-small inbox out = elim (ℕ-discrete (inboxCause 5 x inbox) 0) [
     | yes e ↦ rw (eq-eqb (inboxCause 5 x inbox) 0 e)
@@ -146,11 +154,25 @@ module _ (H : List ℕ → List ℕ) (wide : (s : List ℕ) → length (H s) ≡
     | no e ↦ rw (ne-eqb (inboxCause 5 x inbox) 0 e) (omega arith)
   ]
 
--- step 2: a bit
-pub vote-small : (r : Vote) → bitIn r < 2 ^ 32
-vote-small (vote.Refused k) = omega arith
-vote-small (vote.Happy true) = omega arith
-vote-small (vote.Happy false) = omega arith
+  -- any step
+  pub call-small : (c : Call) → made H x c .value < nothingValue
+  unfolding made
+  call-small (agreeRoot z) = root-small z
+  call-small (agreeBit bit out) = bit-small bit out
+  call-small (takeShares inbox out) = shares-small inbox out
+  call-small (takeRelays inbox out) = relays-small inbox out
+
+  pub step-small : (c : Call) (r : Reply) (out : List ℕ) → stepped r out ≡ made H x c → stepped r [] .value < nothingValue
+  step-small c r out e = subst (λ (g : Stepped). g .value < nothingValue) (sym e) (call-small c)
+
+  -- so both halves are there: what the header's two helpers give
+  pub call-halves : (c : Call) → let r = made H x c in
+      (numberOf r / 2 ^ 32 ≡ r .cause) × (numberOf r % 2 ^ 32 ≡ valueShown (r .result) (r .value))
+  unfolding packed
+  call-halves c =
+      let r = made H x c in
+      let h = value-fits (r .result) (r .value) (call-small c) in
+      (omega (arith, h), omega (arith, h))
 
 -- the shares of a message
 pub encode-small : (n t : ℕ) (m out : List ℕ) → encodeOf n t m out .value < 2 ^ 32
@@ -198,12 +220,3 @@ rebuild-small n t es out = elim (ℕ-discrete (groupCause n t) 0) [
 -- a digest
 pub digest-small : (d out : List ℕ) → length d ≡ 32 → written d out .value < 2 ^ 32
 digest-small d out e = omega (arith, value-of d out, e)
-
--- so both halves are there: what the header's two helpers give
-pub cause-back : (k v : ℕ) → v < 2 ^ 32 → packed k v / 2 ^ 32 ≡ k
-unfolding packed
-cause-back k v h = omega arith
-
-pub value-back : (k v : ℕ) → v < 2 ^ 32 → packed k v % 2 ^ 32 ≡ v
-unfolding packed
-value-back k v h = omega arith

@@ -3,10 +3,10 @@
 -- Assumes nothing.
 use mathlib.Core.Bool.{cond, not}
 use mathlib.Core.List.{List}
+use mathlib.Core.Option.{Option, none, some}
 use Prim.Native.Nat.{ℕ, _+_, _-_, _*_, _/_, _%_, _^_}
 use lib.Dec.{ltb, eqb}
 use lib.ListN.{length}
-use Rattle.buffer.specs.Splice.{spliced}
 use Rattle.buffer.specs.Given.{Given, written}
 use Rattle.erasure.specs.Coding.{encodeOf}
 use Rattle.erasure.specs.Rebuild.{rebuildOf}
@@ -18,56 +18,47 @@ use Rattle.packet.specs.Format.{hashes}
 use Rattle.packet.specs.Answer.{readAt}
 use Rattle.packet.specs.declared.Packet.{Packet}
 use Rattle.packet.specs.declared.Packet.the-variants as packet
-use Rattle.party.specs.Steps.{openOf, Ballot, agreeRootOf, Stepped, agreeBitOf, takeSharesOf, valueAt, Ending, takeRelaysOf}
-use Rattle.party.specs.declared.Party.{Party}
-use Rattle.party.specs.declared.Settled.{Settled}
-use Rattle.party.specs.declared.Settled.the-variants as answer
-use Rattle.capi.specs.Layout.{stateLength, bytesOf, stateOf}
+use Rattle.party.specs.State.{Result, nothing, settled}
+use Rattle.party.specs.Steps.{openOf, Stepped}
+use Rattle.state_bytes.specs.Layout.{stateLength, stateBytes, stateOf}
+use Rattle.agreement.specs.Calls.{Call, made}
 
 -- a cause (0: accepted) in the upper 32 bits, a value in the lower
 unfoldable pub packed : ℕ → ℕ → ℕ
 packed cause value = cause * 2 ^ 32 + value
 
 -- a number, with one lent buffer or with two
-pub record Reply : Type 0 where
-  pub answer : ℕ
+pub record Returned : Type 0 where
+  pub number : ℕ
   pub buffer : List ℕ
 
-abbrev pub reply : ℕ → List ℕ → Reply
-reply r o = record { answer = r; buffer = o }
+abbrev pub returned : ℕ → List ℕ → Returned
+returned r o = record { number = r; buffer = o }
 
 pub record Replies : Type 0 where
-  pub answer : ℕ
+  pub number : ℕ
   pub state : List ℕ
   pub out : List ℕ
 
 abbrev pub replies : ℕ → List ℕ → List ℕ → Replies
-replies r s o = record { answer = r; state = s; out = o }
+replies r s o = record { number = r; state = s; out = o }
 
--- the buffer that holds a state: an accepted call writes the new state over the old one, a refused call leaves every byte
-abbrev pub kept : ℕ → Party → List ℕ → List ℕ
-kept cause x s = cond (eqb cause 0) (spliced s 0 (bytesOf x)) s
-
--- what step 2 gives back: the value is the party's bit
-abbrev pub ballotReply : Ballot → List ℕ → Reply
-ballotReply r s = reply (packed (r .cause) (r .bit)) (kept (r .cause) (r .state) s)
-
--- what a step that writes gives back
-abbrev pub stepReplies : Stepped → List ℕ → Replies
-stepReplies r s = replies (packed (r .cause) (r .value)) (kept (r .cause) (r .state) s) (r .buffer)
-
--- the value for the end of a session: the length of the message, needed or written, or all bits for the result nothing
+-- the value for the result nothing: all bits, which no other value has
 abbrev pub nothingValue : ℕ
 nothingValue = 2 ^ 32 - 1
 
-abbrev pub endValue : Settled → ℕ
-endValue (answer.Refused k) = valueAt (answer.Refused k)
-endValue (answer.Short l) = valueAt (answer.Short l)
-endValue answer.Nothing = nothingValue
-endValue (answer.Message l) = valueAt (answer.Message l)
+abbrev pub valueShown : Option Result → ℕ → ℕ
+valueShown none value = value
+valueShown (some nothing) value = nothingValue
+valueShown (some (settled m)) value = value
 
-abbrev pub endReplies : Ending → List ℕ → Replies
-endReplies r s = replies (packed (r .cause) (endValue (r .answer))) (kept (r .cause) (r .state) s) (r .buffer)
+-- what a step gave back, as one number
+abbrev pub numberOf : Stepped → ℕ
+numberOf r = packed (r .cause) (valueShown (r .result) (r .value))
+
+-- and with the buffer that holds the state: an accepted call writes the new state over the old one, a refused call leaves every byte
+abbrev pub over : List ℕ → Stepped → Replies
+over s r = replies (numberOf r) (cond (eqb (r .cause) 0) (written (stateBytes (r .state)) s .buffer) s) (r .buffer)
 
 module _ (H : List ℕ → List ℕ) where
   -- step 1: causes 1 to 4, then 9 for the state's buffer, then 9 for the root's
@@ -77,22 +68,11 @@ module _ (H : List ℕ → List ℕ) where
       cond (not (eqb (r .cause) 0)) (replies (packed (r .cause) 0) s z)
       (cond (ltb (length s) stateLength) (replies (packed 9 stateLength) s z)
       (cond (ltb (length z) 32) (replies (packed 9 32) s z)
-      (replies (packed 0 32) (spliced s 0 (bytesOf (r .state))) (spliced z 0 (r .root)))))
+      (replies (packed 0 32) (written (stateBytes (r .state)) s .buffer) (written (r .root) z .buffer))))
 
-  -- step 2
-  unfoldable pub agreeRootCall : List ℕ → List ℕ → Reply
-  agreeRootCall s z = ballotReply (agreeRootOf H (stateOf s) z) s
-
-  -- steps 3 and 4
-  unfoldable pub agreeBitCall : List ℕ → ℕ → List ℕ → Replies
-  agreeBitCall s bit out = stepReplies (agreeBitOf H (stateOf s) bit out) s
-
-  unfoldable pub takeSharesCall : List ℕ → List ℕ → List ℕ → Replies
-  takeSharesCall s inbox out = stepReplies (takeSharesOf H (stateOf s) inbox out) s
-
-  -- step 5
-  unfoldable pub takeRelaysCall : List ℕ → List ℕ → List ℕ → Replies
-  takeRelaysCall s inbox out = endReplies (takeRelaysOf H (stateOf s) inbox out) s
+  -- steps 2 to 5: the party's call, on the state that the bytes say. Step 2 has no out buffer
+  unfoldable pub called : List ℕ → Call → Replies
+  called s c = over s (made H (stateOf s) c)
 
 -- a packet read: 0 for silence; else how many hashes follow the share, its number and its length
 abbrev pub readAnswer : Packet → ℕ
@@ -121,17 +101,17 @@ module _ (H : List ℕ → List ℕ) where
       checkAnswer (cond (eqb (length path % 32) 0) r (denied r))
 
 -- what a function that writes into a lent buffer gives back, as one number
-abbrev pub givenReply : Given → Reply
-givenReply g = reply (packed (g .cause) (g .value)) (g .buffer)
+abbrev pub filled : Given → Returned
+filled g = returned (packed (g .cause) (g .value)) (g .buffer)
 
-unfoldable pub sharesCall : ℕ → ℕ → List ℕ → List ℕ → Reply
-sharesCall n t m out = givenReply (encodeOf n t m out)
+unfoldable pub sharesCall : ℕ → ℕ → List ℕ → List ℕ → Returned
+sharesCall n t m out = filled (encodeOf n t m out)
 
-unfoldable pub rebuildCall : ℕ → ℕ → List ℕ → List ℕ → Reply
-rebuildCall n t es out = givenReply (rebuildOf n t es out)
+unfoldable pub rebuildCall : ℕ → ℕ → List ℕ → List ℕ → Returned
+rebuildCall n t es out = filled (rebuildOf n t es out)
 
 -- SHA-256 of a message: causes 4 and 9
-unfoldable pub hashCall : List ℕ → List ℕ → Reply
+unfoldable pub hashCall : List ℕ → List ℕ → Returned
 hashCall m out =
     let h = hashOf m in
-    cond (not (eqb (h .cause) 0)) (reply (packed (h .cause) 0) out) (givenReply (written (h .digest) out))
+    cond (not (eqb (h .cause) 0)) (returned (packed (h .cause) 0) out) (filled (written (h .digest) out))

@@ -1,12 +1,11 @@
 -- `capi::cipangohu_hash` meets its contract: cause 4, or the digest given. Assumes nothing.
-use mathlib.Core.Path.{_≡_, sym, ap, _∙_}
-use Prim.Native.Nat.{ℕ}
+use mathlib.Core.Path.{_≡_, sym, ap, subst, _∙_}
+use Prim.Native.Nat.{ℕ, _<_, _^_}
 use lib.ListN.{length}
 use Rattle.buffer.specs.Given.{Given, written}
-use Rattle.sha256.specs.Sha256.{hashOf}
 use Rattle.sha256.specs.declared.Hashed.{Hashed}
-use Rattle.capi.specs.Calls.{packed, reply}
-use Rattle.capi.proofs.Answers.{hash-refused, hash-given, given-told}
+use Rattle.capi.specs.Calls.{packed, returned, filled}
+use Rattle.capi.proofs.Answers.{hash-refused, hash-given}
 use Rattle.capi.proofs.Small.{digest-small}
 use borrow.Author.Needs.{needs}
 use Rattle.capi.proofs.cipangohu_hash.Statement.{statement}
@@ -33,7 +32,7 @@ returns c = let i = c .before in
     let d = i .before in
     let a = Entry d .args in
     let e = d .hash .ensures in
-    ap (λ (p : ℕ). reply p (a .out .now)) (c .pack .ensures ∙ ap (λ (h : Hashed). packed (h .cause) 0) e)
+    ap (λ (p : ℕ). returned p (a .out .now)) (c .pack .ensures ∙ ap (λ (h : Hashed). packed (h .cause) 0) e)
     ∙ sym (hash-refused (a .message .now) (a .out .now) (λ q. i .if1 .taken (ap (λ (h : Hashed). h .cause) e ∙ q)))
 
 slice-aggregate-give : tie.Need-slice-aggregate-give
@@ -42,31 +41,21 @@ slice-aggregate-give c = search needs
 give-requires : tie.Need-give-requires
 give-requires c κs = search needs
 
-written-cause-requires : tie.Need-written-cause-requires
-written-cause-requires c κs = search needs
-
-value-of-requires : tie.Need-value-of-requires
-value-of-requires c κs = search needs
-
-pack-requires-2 : tie.Need-pack-requires-2
-pack-requires-2 c κs = let g = c .before .before .before .before in
-    rw (c .value-of .ensures ∙ ap (λ (y : Given). y .value) (g .give .ensures))
+number-of-requires : tie.Need-number-of-requires
+number-of-requires c κs = let g = c .before .before in
+    subst (λ (y : Given). y .value < 2 ^ 32) (sym (g .give .ensures))
     (digest-small (D g .hash .result .digest) (Entry (D g) .args .out .now) (long (D g)))
 
 same-length : tie.Need-same-length
 same-length c = search needs
 
 returns-2 : tie.Need-returns-2
-returns-2 c = let v = c .before in
-    let k = v .before in
-    let g = k .before .before .before in
+returns-2 c = let g = c .before .before .before in
     let e = g .before .before .before in
     let d = D g in
     let a = Entry d .args in
-    given-told (g .give .last .1 .0) (k .written-cause .result) (v .value-of .result) _ (g .give .result)
-    (written (hashOf (a .message .now) .digest) (a .out .now)) (c .pack2 .ensures)
-    (g .give .ensures ∙ ap (λ (h : Hashed). written (h .digest) (a .out .now)) (d .hash .ensures)) (k .written-cause .ensures)
-    (v .value-of .ensures)
+    c .number-of .ensures (g .give .last .1 .0)
+    ∙ ap filled (g .give .ensures ∙ ap (λ (h : Hashed). written (h .digest) (a .out .now)) (d .hash .ensures))
     ∙ sym (hash-given (a .message .now) (a .out .now) (sym (ap (λ (h : Hashed). h .cause) (d .hash .ensures)) ∙ e .before .if1 .left))
 
 pub cipangohu-hash-spec : {M : Type 1} → statement M
@@ -78,8 +67,6 @@ cipangohu-hash-spec =
     returns
     slice-aggregate-give
     give-requires
-    written-cause-requires
-    value-of-requires
-    pack-requires-2
+    number-of-requires
     same-length
     returns-2)

@@ -1,14 +1,11 @@
 -- `capi::cipangohu_open` meets its contract: by the opening's cause, by the room for the state, and by that for the root. Assumes nothing.
 use mathlib.Core.Path.{_≡_, sym, ap, _∙_}
 use Prim.Native.Nat.{ℕ}
-use native.Mathlib.Omega.{arith}
-use lib.ListN.{length}
-use Rattle.buffer.specs.Splice.{spliced}
-use Rattle.buffer.proofs.Splice.{put-fits}
+use Rattle.buffer.specs.Given.{Given, written}
 use Rattle.sha256.specs.Sha256.{sha256}
 use Rattle.party.specs.Steps.{openOf}
 use Rattle.party.specs.declared.Opened.{Opened}
-use Rattle.capi.specs.Layout.{bytesOf}
+use Rattle.state_bytes.specs.Layout.{stateBytes}
 use Rattle.capi.specs.Calls.{packed, replies}
 use Rattle.capi.proofs.Answers.{open-refused, open-state, open-root, open-done, replies-are}
 use borrow.Author.Needs.{needs}
@@ -21,9 +18,6 @@ Entry d = d .before .before .before .before
 
 opened : (d : tie.After-open) → let a = Entry d .args in d .«open» .result ≡ openOf sha256 (a .n) (a .t) (a .own) (a .message .now)
 opened d = d .«open» .ensures
-
-long : (d : tie.After-open) → length (d .«open» .result .root) ≡ 32
-long d = search needs
 
 fine : (e : tie.Else1) → let a = Entry (e .before .before .before) .args in openOf sha256 (a .n) (a .t) (a .own) (a .message .now) .cause ≡ 0
 fine e = sym (ap (λ (r : Opened). r .cause) (opened (e .before .before .before))) ∙ e .if1 .left
@@ -70,14 +64,14 @@ returns-3 c = let i = c .before in
     ap (λ (p : ℕ). replies p s z) (c .pack3 .ensures)
     ∙ sym (open-root sha256 (a .n) (a .t) (a .own) (a .message .now) s z (fine e) (j .if2 .left) (i .if3 .taken))
 
-write-state-requires : tie.Need-write-state-requires
-write-state-requires c κs = search needs
+write-requires : tie.Need-write-requires
+write-requires c κs = search needs
 
-slice-aggregate-put : tie.Need-slice-aggregate-put
-slice-aggregate-put c = search needs
+slice-aggregate-give : tie.Need-slice-aggregate-give
+slice-aggregate-give c = search needs
 
-put-requires : tie.Need-put-requires
-put-requires c κs = search needs
+give-requires : tie.Need-give-requires
+give-requires c κs = search needs
 
 pack-requires-4 : tie.Need-pack-requires-4
 pack-requires-4 c κs = search needs
@@ -99,10 +93,9 @@ returns-4 c = let p = c .before .before .before in
     let s = a .state .now in
     let z = a .root .now in
     let r = openOf sha256 (a .n) (a .t) (a .own) (a .message .now) in
-    replies-are _ (packed 0 32) _ (spliced s 0 (bytesOf (r .state))) _ (spliced z 0 (r .root)) (c .pack4 .ensures)
-    (w .write-state .ensures ∙ ap (λ (y : Opened). spliced s 0 (bytesOf (y .state))) (opened d))
-    (p .put .ensures .1 ∙ put-fits z 0 (d .«open» .result .root) (omega (arith, long d, i .if3 .left))
-    ∙ ap (λ (y : Opened). spliced z 0 (y .root)) (opened d))
+    replies-are _ (packed 0 32) _ (written (stateBytes (r .state)) s .buffer) _ (written (r .root) z .buffer) (c .pack4 .ensures)
+    (ap (λ (g : Given). g .buffer) (w .write .ensures) ∙ ap (λ (y : Opened). written (stateBytes (y .state)) s .buffer) (opened d))
+    (ap (λ (g : Given). g .buffer) (p .give .ensures) ∙ ap (λ (y : Opened). written (y .root) z .buffer) (opened d))
     ∙ sym (open-done sha256 (a .n) (a .t) (a .own) (a .message .now) s z (fine e) (j .if2 .left) (i .if3 .left))
 
 pub cipangohu-open-spec : {M : Type 1} → statement M
@@ -116,9 +109,9 @@ cipangohu-open-spec =
     returns-2
     pack-requires-3
     returns-3
-    write-state-requires
-    slice-aggregate-put
-    put-requires
+    write-requires
+    slice-aggregate-give
+    give-requires
     pack-requires-4
     same-length
     same-length-2

@@ -1,9 +1,8 @@
 -- `capi::cipangohu_shares` meets its contract: the answer of the coder as one number. Assumes nothing.
-use mathlib.Core.Path.{ap, _∙_}
+use mathlib.Core.Path.{sym, ap, subst, _∙_}
+use Prim.Native.Nat.{_<_, _^_}
 use Rattle.buffer.specs.Given.{Given}
-use Rattle.erasure.specs.Coding.{encodeOf}
-use Rattle.capi.specs.Calls.{sharesCall}
-use Rattle.capi.proofs.Answers.{given-told}
+use Rattle.capi.specs.Calls.{filled, sharesCall}
 use Rattle.capi.proofs.Small.{encode-small}
 use borrow.Author.Needs.{needs}
 use Rattle.capi.proofs.cipangohu_shares.Statement.{statement}
@@ -12,37 +11,23 @@ use Rattle.capi.proofs.cipangohu_shares.Tie as tie
 encode-requires : tie.Need-encode-requires
 encode-requires c κs = search needs
 
-written-cause-requires : tie.Need-written-cause-requires
-written-cause-requires c κs = search needs
-
-value-of-requires : tie.Need-value-of-requires
-value-of-requires c κs = search needs
-
-pack-requires : tie.Need-pack-requires
-pack-requires c κs = let d = c .before .before .before .before in
-    let a = d .before .before .before .before .args in
-    rw (c .value-of .ensures ∙ ap (λ (g : Given). g .value) (d .encode .ensures)) (encode-small (a .n) (a .t) (a .message .now) (a .out .now))
+-- by what was answered, whatever was handed in
+number-of-requires : tie.Need-number-of-requires
+number-of-requires c κs = subst (λ (g : Given). g .value < 2 ^ 32) (sym (c .before .before .encode .ensures)) (encode-small _ _ _ _)
 
 same-length : tie.Need-same-length
 same-length c = search needs
 
 returns : tie.Need-returns
 unfolding sharesCall
-returns c = let v = c .before in
-    let k = v .before in
-    let d = k .before .before .before in
-    let a = d .before .before .before .before .args in
-    given-told (d .encode .last .1 .1 .1 .0) (k .written-cause .result) (v .value-of .result) _ (d .encode .result)
-    (encodeOf (a .n) (a .t) (a .message .now) (a .out .now)) (c .pack .ensures) (d .encode .ensures) (k .written-cause .ensures)
-    (v .value-of .ensures)
+returns c = let d = c .before .before .before in
+    c .number-of .ensures (d .encode .last .1 .1 .1 .0) ∙ ap filled (d .encode .ensures)
 
 pub cipangohu-shares-spec : {M : Type 1} → statement M
 cipangohu-shares-spec =
     tie.close
     (tie.spec
     encode-requires
-    written-cause-requires
-    value-of-requires
-    pack-requires
+    number-of-requires
     same-length
     returns)
