@@ -12,14 +12,18 @@ pub fn lay_out<P: AsRef<[u8]>>(packets: &[P]) -> Vec<u8> {
     inbox
 }
 
+/// The packet of the first entry, and what is behind it; nothing if the entry runs short.
+pub fn first(bytes: &[u8]) -> Option<(&[u8], &[u8])> {
+    let (length, behind) = bytes.split_first_chunk::<2>()?;
+    behind.split_at_checked(usize::from(u16::from_be_bytes(*length)))
+}
+
 /// The packets of n senders; cause 8 if they run short or leave bytes over.
 pub fn entries(n: usize, bytes: &[u8]) -> Result<Vec<&[u8]>, u32> {
     let mut packets = Vec::new();
     let mut rest = bytes;
     for _ in 0..n {
-        let (length, behind) = rest.split_first_chunk::<2>().ok_or(8u32)?;
-        let length = usize::from(u16::from_be_bytes(*length));
-        let (packet, behind) = behind.split_at_checked(length).ok_or(8u32)?;
+        let (packet, behind) = first(rest).ok_or(8u32)?;
         packets.push(packet);
         rest = behind;
     }

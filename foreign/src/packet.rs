@@ -1,6 +1,7 @@
 //! Packets as the boxes send them: how one is written, read, and held against the number
 //! demanded of it and the agreed root.
 
+use crate::inbox;
 use crate::limits::{LONGEST_SHARE, MOST_PARTIES};
 use crate::sha256::Hash;
 use crate::tree::{check, path_length};
@@ -21,6 +22,16 @@ pub enum Reading {
         share: Vec<u8>,
         path: Vec<Hash>,
     },
+}
+
+/// A share by its place among the bytes that it was read from: its number, where it lies and how
+/// long it is, and how many hashes follow it.
+#[derive(Clone, Copy, Debug, PartialEq)]
+pub struct Place {
+    pub number: usize,
+    pub from: usize,
+    pub length: usize,
+    pub hashes: usize,
 }
 
 /// What a packet is worth to a box that demands a number under a root.
@@ -83,6 +94,18 @@ pub fn read(n: usize, bytes: &[u8]) -> Reading {
     }
 }
 
+/// What is read of the entry at a place of an inbox, and the place of the next one. Where n is out
+/// of its range or the entry runs short, the place stays.
+pub fn read_entry(n: usize, bytes: &[u8], at: usize) -> (Reading, usize) {
+    if !(1..=MOST_PARTIES).contains(&n) {
+        return (Reading::Refused(1), at);
+    }
+    match bytes.get(at..).and_then(inbox::first) {
+        Some((packet, _)) => (read(n, packet), at + 2 + packet.len()),
+        None => (Reading::Refused(8), at),
+    }
+}
+
 /// Number, share and the path's bytes of a packet that has them all and nothing besides.
 fn fields(n: usize, bytes: &[u8]) -> Option<(usize, &[u8], &[u8])> {
     let (&[map, number, high, low], rest) = bytes.split_first_chunk::<HEADER>()?;
@@ -120,6 +143,37 @@ pub fn classify(n: usize, j: usize, root: Hash, bytes: &[u8]) -> Result<Standing
         } if number == j && check(n, j, &share, &path, root) => Standing::Valid(share),
         _ => Standing::Faulty,
     })
+}
+
+/// The standing of a share that is said to lie at a place of the bytes. It is faulty if it is longer
+/// than a share may be, or if it or its path runs past the end.
+pub fn classify_at(
+    (n, j): (usize, usize),
+    root: Hash,
+    bytes: &[u8],
+    place: Place,
+) -> Result<Standing, u32> {
+    if !(1..=MOST_PARTIES).contains(&n) {
+        return Err(1);
+    }
+    if !(1..=n).contains(&j) {
+        return Err(3);
+    }
+    Ok(match lying(bytes, place) {
+        Some((share, path)) if place.number == j && check(n, j, share, &path, root) => {
+            Standing::Valid(share.to_vec())
+        }
+        _ => Standing::Faulty,
+    })
+}
+
+fn lying(bytes: &[u8], place: Place) -> Option<(&[u8], Vec<Hash>)> {
+    if place.length > LONGEST_SHARE {
+        return None;
+    }
+    let (share, behind) = bytes.get(place.from..)?.split_at_checked(place.length)?;
+    let path = behind.get(..place.hashes.checked_mul(32)?)?;
+    Some((share, hashes(path)))
 }
 
 #[cfg(test)]
@@ -227,6 +281,48 @@ mod tests {
         assert_eq!(classify(1, 1, [0; 32], &packet), Ok(Standing::Faulty));
         assert_eq!(classify(1, 1, root, &packet[1..]), Ok(Standing::Faulty));
         assert_eq!(classify(2, 1, root, &packet), Ok(Standing::Faulty));
+    }
+
+    #[test]
+    fn entry_after_entry() {
+        let share = Reading::Share {
+            number: 1,
+            share: vec![9],
+            path: vec![],
+        };
+        let bytes = [0, 5, 7, 1, 0, 1, 9, 0, 0, 0, 1, 7, 0, 2, 0];
+        assert_eq!(read_entry(1, &bytes, 0), (share, 7));
+        assert_eq!(read_entry(1, &bytes, 7), (Reading::Silence, 9));
+        assert_eq!(read_entry(1, &bytes, 9), (Reading::Refused(10), 12));
+        for at in [12, 14, 15, 16, usize::MAX] {
+            assert_eq!(read_entry(1, &bytes, at), (Reading::Refused(8), at));
+            assert_eq!(read_entry(17, &bytes, at), (Reading::Refused(1), at));
+        }
+    }
+
+    #[test]
+    fn shares_by_their_place() {
+        let root = hash(&[0, 1, 9]);
+        let place = Place {
+            number: 1,
+            from: 2,
+            length: 1,
+            hashes: 0,
+        };
+        let stands = |bytes: &[u8], place| classify_at((1, 1), root, bytes, place);
+        assert_eq!(stands(&[5, 5, 9], place), Ok(Standing::Valid(vec![9])));
+        assert_eq!(stands(&[5, 5], place), Ok(Standing::Faulty));
+        assert_eq!(stands(&[5, 5, 8], place), Ok(Standing::Faulty));
+        for hashes in [1, 1 << 59, usize::MAX] {
+            assert_eq!(
+                stands(&[5, 5, 9], Place { hashes, ..place }),
+                Ok(Standing::Faulty)
+            );
+        }
+        let other = Place { number: 2, ..place };
+        assert_eq!(stands(&[5, 5, 9], other), Ok(Standing::Faulty));
+        assert_eq!(classify_at((1, 2), root, &[5, 5, 9], place), Err(3));
+        assert_eq!(classify_at((0, 1), root, &[5, 5, 9], place), Err(1));
     }
 
     #[test]

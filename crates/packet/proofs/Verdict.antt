@@ -63,6 +63,19 @@ last-fails true false c d h = refl
 last-fails true true false d h = refl
 last-fails true true true d h = rw h
 
+-- the tests of a share that lies within s
+two-left : (a b c p : Bool) (x : List ℕ) (q : List (List ℕ)) → b ≡ true → c ≡ true
+    → cond (a && b && c && p) Valid Faulty ≡ verdictFor (cond (a && p) (valid x q) faulty)
+two-left false b c p x q f g = refl
+two-left true b c true x q f g = rw (f, g)
+two-left true b c false x q f g = rw (f, g)
+
+-- a class by its judgement
+over : (c : Class) → OneOf (0 ∷ 1 ∷ 2 ∷ []) (tagOf judged-type (verdictFor c)) → PassedOver c
+over silent h = tt
+over faulty h = tt
+over (valid share path) h = absurd (miss (0 ∷ 1 ∷ 2 ∷ []) 3 tt h)
+
 module _ (H : List ℕ → List ℕ) (n j : ℕ) (root s : List ℕ) where
   module _ (x : Packet) where
     pub judge-parties : parties n ≡ false → judgeOf H n j root s x ≡ Refused 1
@@ -83,15 +96,12 @@ module _ (H : List ℕ → List ℕ) (n j : ℕ) (root s : List ℕ) where
         unfolding judgeOf
         judge-on h = rw (parties-some n low high, numbered-within n j first last, eq-eqb (length root) 32 h)
 
-    -- neither silence nor a share
-    pub on-refused : OneOf (0 ∷ 2 ∷ []) (tagOf packet-type x) → OneOf (0 ∷ 1 ∷ []) (tagOf packet-type x) → verdictOn H n j root s x ≡ Faulty
-    on-refused a b = go x a b
-      where
-        go : (y : Packet) → OneOf (0 ∷ 2 ∷ []) (tagOf packet-type y) → OneOf (0 ∷ 1 ∷ []) (tagOf packet-type y)
-            → verdictOn H n j root s y ≡ Faulty
-        go (packet.Refused k) a b = refl
-        go packet.Silence a b = absurd (miss (0 ∷ 2 ∷ []) 1 tt a)
-        go (packet.Share number from len count) a b = absurd (miss (0 ∷ 1 ∷ []) 2 tt b)
+  -- neither silence nor a share
+  pub on-refused : (x : Packet) → OneOf (0 ∷ 2 ∷ []) (tagOf packet-type x) → OneOf (0 ∷ 1 ∷ []) (tagOf packet-type x)
+      → verdictOn H n j root s x ≡ Faulty
+  on-refused (packet.Refused k) a b = refl
+  on-refused packet.Silence a b = absurd (miss (0 ∷ 2 ∷ []) 1 tt a)
+  on-refused (packet.Share number from len count) a b = absurd (miss (0 ∷ 1 ∷ []) 2 tt b)
 
   module _ (from len count : ℕ) where
     pub on-other : (number : ℕ) → (number ≡ j → ⊥) → verdictOn H n j root s (packet.Share number from len count) ≡ Faulty
@@ -146,13 +156,6 @@ module _ (H : List ℕ → List ℕ) (n j : ℕ) (root s : List ℕ) (at k : ℕ
         ∙ hashes-part (4 + length share) (length path) k at s (omega (arith, fields .whole, length-part s at k room))
         ∙ ap (λ (i : ℕ). hashes (length path) (drop i s)) e
 
-  -- the tests of a share that lies within s
-  two-left : (a b c p : Bool) (x : List ℕ) (q : List (List ℕ)) → b ≡ true → c ≡ true
-      → cond (a && b && c && p) Valid Faulty ≡ verdictFor (cond (a && p) (valid x q) faulty)
-  two-left false b c p x q f g = refl
-  two-left true b c true x q f g = rw (f, g)
-  two-left true b c false x q f g = rw (f, g)
-
   on-reading : (r : Reading) → readOf n P ≡ r → verdictOn H n j root s (placed at r) ≡ verdictFor (judged H n j root r)
   on-reading silence e = refl
   on-reading unreadable e = refl
@@ -170,12 +173,6 @@ module _ (H : List ℕ → List ℕ) (n j : ℕ) (root s : List ℕ) (at k : ℕ
   unread silence h = tt
   unread unreadable h = tt
   unread (shared number share path) h = absurd (miss (0 ∷ 1 ∷ []) 2 tt h)
-
-  -- a class by its judgement
-  over : (c : Class) → OneOf (0 ∷ 1 ∷ 2 ∷ []) (tagOf judged-type (verdictFor c)) → PassedOver c
-  over silent h = tt
-  over faulty h = tt
-  over (valid share path) h = absurd (miss (0 ∷ 1 ∷ 2 ∷ []) 3 tt h)
 
   abbrev TakenIn : Class → Packet → Type 0
   TakenIn c (packet.Refused cause) = Unit {0}

@@ -1,8 +1,10 @@
 // The packets and the inbox layout.
 //
-// 1, reads: n (2 bytes), the packet. What is read of the packet, and of the packet at place 0 of the bytes: each the answer (done with 1
-// for a share and 0 for silence), and the share's number, place and length and the count of hashes (8 each, 0 where there is no share).
-// 2, judgements: n (2), j (2), the root (32), the packet. The same, with answer 2 for a faulty packet and no number.
+// 1, reads: n (2 bytes), a place (8), the bytes. What is read of the packet from the place to the end, and of that of the entry at the place:
+// each the answer (done with 1 for a share and 0 for silence), and the share's number, place and length and the count of hashes (8 each, 0
+// where there is no share). Then the place of the next entry (8).
+// 2, judgements: n (2), j (2), the root (32), what was read (1: 0 for silence, 1 for a share, 2 for no packet) with the share's number, place
+// and length and the count of hashes (8 each), the bytes. The answer (done with 0 for a silent, 1 for a valid and 2 for a faulty packet).
 // 3, inboxes: n (1), the inbox. 1 if it is well laid out, else 0 (1).
 // 4, writes: n (2), the number (2), the count of hashes (1), the length of the buffer lent (2), the path's four hashes, the share. The
 // answer, and the buffer; then the same of the packet's entry, for which the buffer has two bytes more.
@@ -14,6 +16,7 @@ use crate::answer::MALFORMED;
 use crate::answer::number_at;
 use crate::answer::spelled;
 use limits::MAX_PATH;
+use packet::Entry;
 use packet::Judged;
 use packet::Packet;
 use stream::Tally;
@@ -21,8 +24,13 @@ use stream::Tally;
 // The length of what is told of a packet that is read.
 const TOLD: usize = ANSWER + 32;
 
-// The bytes of a judgement in front of its packet.
-const JUDGED: usize = 36;
+// The bytes of a reading in front of those that are read.
+const READ: usize = 10;
+
+// The bytes of a judgement in front of what was read, and of the bytes that it was read from.
+const DEMAND: usize = 36;
+
+const JUDGED: usize = DEMAND + 33;
 
 // The bytes of a writing in front of its path and of its share.
 const AT_PATH: usize = 7;
@@ -46,13 +54,16 @@ pub(crate) fn run(kind: usize, input: &[u8], out: &mut [u8]) -> usize {
 }
 
 fn reading(input: &[u8], out: &mut [u8]) -> usize {
-    if input.len() < 2 {
+    if input.len() < READ {
         return MALFORMED;
     }
     let n = number_at(input, 0, 2);
-    put_told(read(packet::read(&input[2..], n)), 0, out);
-    put_told(read(packet::read_at(n, &input[2..], 0)), TOLD, out);
-    2 * TOLD
+    let at = number_at(input, 2, 8);
+    let Entry { packet, next } = packet::read_entry(n, &input[READ..], at);
+    put_told(packet::read_at(n, &input[READ..], at), 0, out);
+    put_told(packet, TOLD, out);
+    buffer::put(out, 2 * TOLD, &spelled(next));
+    2 * TOLD + 8
 }
 
 // What is told of a packet.
@@ -75,7 +86,7 @@ fn shareless(answer: Answer) -> Told {
     }
 }
 
-fn read(got: Packet) -> Told {
+fn told_of(got: Packet) -> Told {
     match got {
         Packet::Refused(cause) => shareless(answer::refused(cause)),
         Packet::Silence => shareless(answer::done(0)),
@@ -94,7 +105,8 @@ fn read(got: Packet) -> Told {
     }
 }
 
-fn put_told(told: Told, at: usize, out: &mut [u8]) {
+fn put_told(got: Packet, at: usize, out: &mut [u8]) {
+    let told = told_of(got);
     let mut bytes = [0u8; TOLD];
     answer::put(&mut bytes, 0, told.answer);
     buffer::put(&mut bytes, 9, &spelled(told.number));
@@ -110,23 +122,35 @@ fn judgement(input: &[u8], out: &mut [u8]) -> usize {
     }
     let n = number_at(input, 0, 2);
     let j = number_at(input, 2, 2);
-    let got = packet::judge(n, j, &input[4..JUDGED], &input[JUDGED..]);
-    put_told(judged(got), 0, out);
-    TOLD
+    let found = found_in(&input[DEMAND..JUDGED]);
+    let got = packet::judge(n, j, &input[4..DEMAND], &input[JUDGED..], found);
+    answer::put(out, 0, judged(got));
+    ANSWER
 }
 
-fn judged(got: Judged) -> Told {
+// What a case says was read.
+fn found_in(bytes: &[u8]) -> Packet {
+    let kind = number_at(bytes, 0, 1);
+    if kind == 0 {
+        return Packet::Silence;
+    }
+    if kind == 2 {
+        return Packet::Refused(10);
+    }
+    Packet::Share {
+        number: number_at(bytes, 1, 8),
+        from: number_at(bytes, 9, 8),
+        len: number_at(bytes, 17, 8),
+        count: number_at(bytes, 25, 8),
+    }
+}
+
+fn judged(got: Judged) -> Answer {
     match got {
-        Judged::Refused(cause) => shareless(answer::refused(cause)),
-        Judged::Silent => shareless(answer::done(0)),
-        Judged::Faulty => shareless(answer::done(2)),
-        Judged::Valid { from, len, count } => Told {
-            answer: answer::done(1),
-            number: 0,
-            from,
-            len,
-            count,
-        },
+        Judged::Refused(cause) => answer::refused(cause),
+        Judged::Silent => answer::done(0),
+        Judged::Faulty => answer::done(2),
+        Judged::Valid => answer::done(1),
     }
 }
 

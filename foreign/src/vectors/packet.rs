@@ -1,23 +1,28 @@
 //! The packets and the inboxes.
 //!
-//! - Reads: n (2 bytes), the packet. What is read of it, twice: the answer (0 silence, 1 a share),
-//!   and the share's number, offset and length and the count of hashes (8 each, 0 without a share).
-//!   The share lies at byte 4, the path right behind it.
-//! - Judgements: n (2), j (2), the root (32), the packet. As above, with answer 0 for a silent,
-//!   1 for a valid and 2 for a faulty packet, and 0 for the number.
+//! - Reads: n (2 bytes), an offset (8), the bytes. What is read of the packet from the offset to the
+//!   end, and of that of the entry at the offset: each the answer (0 silence, 1 a share), and the
+//!   share's number, offset and length and the count of hashes (8 each, 0 without a share). Then the
+//!   next entry's offset (8).
+//! - Judgements: n (2), j (2), the root (32), what was read (1: 0 silence, 1 a share, 2 no packet)
+//!   with the share's number, offset and length and the count of hashes (8 each), the bytes. The
+//!   answer: 0 for a silent, 1 for a valid and 2 for a faulty packet.
 //! - Inboxes: n (1), the inbox. 1 if it is laid out well, else 0 (1).
 //! - Writes: n (2), the number (2), the count of hashes (1), the length of the buffer lent (2), the
 //!   first [`MOST_HASHES`] hashes, those that are not there of bytes 0xEE, the share. The answer,
 //!   and the buffer, in which what is not written over is untouched; then the same of the packet's
 //!   entry, for which the buffer has two bytes more.
 //!
-//! Packets and shares handed in have at most a byte more than may be, paths a hash more; inboxes
-//! have at most 2,400 bytes, buffers for a packet 1,300.
+//! Bytes handed in are at most 2,400; packets and shares have at most a byte more than may be,
+//! paths a hash more, buffers for a packet 1,300.
+
+use std::cmp::Ordering;
 
 use super::{Answer, Case, Kind, Part, FAR, UNTOUCHED};
 use crate::inbox::{laid_out, lay_out};
 use crate::limits::{LONGEST_PACKET, LONGEST_SHARE, MOST_HASHES, MOST_PARTIES};
-use crate::packet::{self, classify, write_into, Reading, Standing, HEADER};
+use crate::packet::{self, classify, classify_at, read_entry, write_into};
+use crate::packet::{Place, Reading, Standing, HEADER};
 use crate::random::Random;
 use crate::sha256::{hash, Hash};
 use crate::tree::{self, leaf_string, node, path_length};
@@ -27,6 +32,7 @@ const SHARE: Answer = Answer::Done(1);
 const SILENT: Answer = Answer::Done(0);
 const VALID: Answer = Answer::Done(1);
 const FAULTY: Answer = Answer::Done(2);
+const SHORT: Answer = Answer::Refused(8);
 const UNREADABLE: Answer = Answer::Refused(10);
 const UNSTORED: Hash = [0xEE; 32];
 const LARGEST_INBOX: usize = 2_400;
@@ -34,6 +40,9 @@ const MOST_ROOM: usize = 1_300;
 
 /// The party counts tried.
 const CHOSEN: [usize; 5] = [1, 2, 3, 5, MOST_PARTIES];
+
+/// Numbers far past any bytes; with 32 for each of so many hashes some sums wrap.
+const PAST_ALL: [usize; 5] = [FAR, FAR + 1, 1 << 59, 1 << 63, usize::MAX];
 
 /// Party counts with a number whose packet is tried in many ways.
 const PAIRS: [(usize, usize); 8] = [
@@ -78,6 +87,16 @@ struct Call {
 }
 
 impl Good {
+    /// Where the share lies, if the packet begins at a place.
+    fn place(&self, at: usize) -> Place {
+        Place {
+            number: self.j,
+            from: at + HEADER,
+            length: self.share.len(),
+            hashes: self.path.len(),
+        }
+    }
+
     /// The call that writes this packet into a buffer of its length.
     fn call(&self) -> Call {
         Call {
@@ -105,11 +124,39 @@ struct File {
     random: Random,
 }
 
-/// What is told of a packet: the answer, and the share's number, its offset and length, and the
-/// count of hashes.
-fn told(answer: Answer, share: [usize; 4]) -> Part {
-    let number = |part: Part, number: usize| part.eight(number as u64);
-    share.into_iter().fold(Part::new().answer(answer), number)
+/// A share's number, its place and length, and the count of hashes.
+fn numbers_of(part: Part, share: [usize; 4]) -> Part {
+    share
+        .into_iter()
+        .fold(part, |part, number| part.eight(number as u64))
+}
+
+/// The answer for what was read of a packet that begins at a place, and its share by its place.
+fn placed(reading: Reading, bytes: &[u8], at: usize) -> (Answer, [usize; 4]) {
+    match reading {
+        Reading::Refused(cause) => (Answer::Refused(cause), [0; 4]),
+        Reading::Silence => (SILENCE, [0; 4]),
+        Reading::Share {
+            number,
+            share,
+            path,
+        } => {
+            let from = at + HEADER;
+            let lies = bytes[from..].starts_with(&[&share[..], &path.concat()].concat());
+            assert!(lies);
+            (SHARE, [number, from, share.len(), path.len()])
+        }
+    }
+}
+
+/// The answer for a packet's standing.
+fn answered(standing: Result<Standing, u32>) -> Answer {
+    match standing {
+        Ok(Standing::Silent) => SILENT,
+        Ok(Standing::Valid(_)) => VALID,
+        Ok(Standing::Faulty) => FAULTY,
+        Err(cause) => Answer::Refused(cause),
+    }
 }
 
 impl File {
@@ -131,57 +178,77 @@ impl File {
         hash(&self.random.bytes(8))
     }
 
-    /// Reads the bytes and writes that as a case; gives the answer.
-    fn tried(&mut self, n: usize, bytes: &[u8]) -> Answer {
-        assert!(bytes.len() <= LONGEST_PACKET + 1);
-        let (answer, share) = match packet::read(n, bytes) {
-            Reading::Refused(cause) => (Answer::Refused(cause), [0; 4]),
-            Reading::Silence => (SILENCE, [0; 4]),
-            Reading::Share {
-                number,
-                share,
-                path,
-            } => {
-                let behind = HEADER + share.len();
-                assert_eq!(bytes[HEADER..behind], share);
-                assert_eq!(bytes[behind..], path.concat());
-                (SHARE, [number, HEADER, share.len(), path.len()])
-            }
-        };
-        let Part(once) = told(answer, share);
+    /// Reads the bytes at a place, to the end and as an entry, and writes that as a case; gives
+    /// both answers and the next entry's place.
+    fn tried_at(&mut self, n: usize, bytes: &[u8], at: usize) -> (Answer, Answer, usize) {
+        assert!(bytes.len() <= LARGEST_INBOX);
+        let rest = bytes.get(at..).unwrap_or(b"");
+        let (to_end, share) = placed(packet::read(n, rest), bytes, at);
+        let (reading, next) = read_entry(n, bytes, at);
+        let (entry, behind) = placed(reading, bytes, at.saturating_add(2));
+        let told = numbers_of(Part::new().answer(to_end), share);
         self.out.push(Case {
             kind: Kind::Reads,
-            given: Part::new().two(n).bytes(bytes),
-            expected: Part([&once[..], &once].concat()),
+            given: Part::new().two(n).eight(at as u64).bytes(bytes),
+            expected: numbers_of(told.answer(entry), behind).eight(next as u64),
         });
-        answer
+        (to_end, entry, next)
     }
 
-    /// A reading whose answer is known beforehand.
+    /// A reading from the start to the end whose answer is known beforehand.
     fn read(&mut self, n: usize, bytes: &[u8], answer: Answer) {
-        assert_eq!(self.tried(n, bytes), answer, "n {n}, bytes {bytes:?}");
+        let (found, ..) = self.tried_at(n, bytes, 0);
+        assert_eq!(found, answer, "n {n}, bytes {bytes:?}");
+    }
+
+    /// An entry whose answer and next place are known beforehand.
+    fn entry(&mut self, n: usize, bytes: &[u8], at: usize, answer: Answer, next: usize) {
+        let (_, found, behind) = self.tried_at(n, bytes, at);
+        assert_eq!((found, behind), (answer, next), "n {n}, at {at}");
+    }
+
+    /// Writes the judgement of what was read of the bytes as a case.
+    fn judgement(
+        &mut self,
+        (n, j): (usize, usize),
+        root: Hash,
+        (read, share): (usize, [usize; 4]),
+        bytes: &[u8],
+        answer: Answer,
+    ) {
+        let demand = Part::new().two(n).two(j).bytes(&root).one(read);
+        self.out.push(Case {
+            kind: Kind::Judgements,
+            given: numbers_of(demand, share).bytes(bytes),
+            expected: Part::new().answer(answer),
+        });
     }
 
     /// Finds the standing of the bytes and writes it as a case; gives the answer.
     fn stood(&mut self, n: usize, j: usize, root: Hash, bytes: &[u8]) -> Answer {
-        assert!(bytes.len() <= LONGEST_PACKET + 1);
-        let (answer, share) = match classify(n, j, root, bytes) {
-            Ok(Standing::Silent) => (SILENT, [0; 4]),
-            Ok(Standing::Valid(share)) => {
-                let behind = HEADER + share.len();
-                assert_eq!(bytes[HEADER..behind], share);
-                let hashes = (bytes.len() - behind) / 32;
-                (VALID, [0, HEADER, share.len(), hashes])
-            }
-            Ok(Standing::Faulty) => (FAULTY, [0; 4]),
-            Err(cause) => (Answer::Refused(cause), [0; 4]),
+        let answer = answered(classify(n, j, root, bytes));
+        let read = match placed(packet::read(n, bytes), bytes, 0) {
+            (SILENCE, share) => (0, share),
+            (SHARE, share) => (1, share),
+            (_, share) => (2, share),
         };
-        self.out.push(Case {
-            kind: Kind::Judgements,
-            given: Part::new().two(n).two(j).bytes(&root).bytes(bytes),
-            expected: told(answer, share),
-        });
+        self.judgement((n, j), root, read, bytes, answer);
         answer
+    }
+
+    /// The standing of a share that is said to lie at a place, which is known beforehand.
+    fn stands_at(
+        &mut self,
+        (n, j): (usize, usize),
+        root: Hash,
+        bytes: &[u8],
+        place: Place,
+        answer: Answer,
+    ) {
+        let found = answered(classify_at((n, j), root, bytes, place));
+        assert_eq!(found, answer, "n {n}, j {j}, {place:?}");
+        let share = [place.number, place.from, place.length, place.hashes];
+        self.judgement((n, j), root, (1, share), bytes, answer);
     }
 
     /// A standing that is known beforehand.
@@ -452,7 +519,7 @@ fn other_sizes(file: &mut File) {
         for j in 1..=n {
             let good = file.good(n, j, 1);
             for m in [n - 1, n + 1] {
-                let reading = file.tried(m, &good.bytes);
+                let (reading, ..) = file.tried_at(m, &good.bytes, 0);
                 let standing = file.stood(m, j, good.root, &good.bytes);
                 let allowed = (1..=MOST_PARTIES).contains(&m);
                 let readable = allowed && j <= m && path_length(m, j) == good.path.len();
@@ -519,6 +586,163 @@ fn other_roots(file: &mut File) {
                 file.stands(n, j, root, &good.bytes, standing);
             }
             file.stands(n, j, good.root, &good.bytes, VALID);
+        }
+    }
+}
+
+/// Inboxes walked from entry to entry, good packets, silence and rubbish; each good packet is judged
+/// where it lies.
+fn walks(file: &mut File) {
+    for n in CHOSEN {
+        let goods: Vec<Good> = (1..=n).map(|j| file.good(n, j, 1 + j % 3)).collect();
+        let mut packets: Vec<Vec<u8>> = goods.iter().map(|good| good.bytes.clone()).collect();
+        let mut answers = vec![SHARE; n];
+        packets.extend([vec![], vec![0], vec![7; 6], packets[0].clone()]);
+        answers.extend([SILENCE, SILENCE, UNREADABLE, SHARE]);
+        let bytes = lay_out(&packets);
+        let mut at = 0;
+        for (place, (packet, answer)) in packets.iter().zip(answers).enumerate() {
+            let next = at + 2 + packet.len();
+            file.entry(n, &bytes, at, answer, next);
+            if let Some(good) = goods.get(place) {
+                judged_there(file, good, &bytes, at + 2);
+            }
+            at = next;
+        }
+        file.entry(n, &bytes, at, SHORT, at);
+    }
+}
+
+/// A good packet judged at a place, and there under another root and another number.
+fn judged_there(file: &mut File, good: &Good, bytes: &[u8], at: usize) {
+    let Good { n, j, root, .. } = *good;
+    let place = good.place(at);
+    file.stands_at((n, j), root, bytes, place, VALID);
+    let other = file.random_hash();
+    file.stands_at((n, j), other, bytes, place, FAULTY);
+    if n > 1 {
+        file.stands_at((n, j % n + 1), root, bytes, place, FAULTY);
+    }
+}
+
+/// Two entries cut at every byte, and with a last length that lies: an entry that runs short stays
+/// where it is.
+fn short_entries(file: &mut File) {
+    for n in CHOSEN {
+        let packets = [file.good(n, n, 2).bytes, file.good(n, 1, 1).bytes];
+        let bytes = lay_out(&packets);
+        let last = 2 + packets[0].len();
+        for length in 0..bytes.len() {
+            let cut = &bytes[..length];
+            if length < last {
+                file.entry(n, cut, 0, SHORT, 0);
+            } else {
+                file.entry(n, cut, 0, SHARE, last);
+                file.entry(n, cut, last, SHORT, last);
+            }
+        }
+        let right = packets[1].len();
+        for length in [right - 1, right, right + 1, 65_535] {
+            let mut bytes = bytes.clone();
+            bytes[last..last + 2].copy_from_slice(&(length as u16).to_be_bytes());
+            let (answer, next) = match length.cmp(&right) {
+                Ordering::Less => (UNREADABLE, last + 2 + length),
+                Ordering::Equal => (SHARE, last + 2 + length),
+                Ordering::Greater => (SHORT, last),
+            };
+            file.entry(n, &bytes, last, answer, next);
+        }
+    }
+}
+
+/// Places at the end and past it; numbers of parties out of their range are told first.
+fn far_places(file: &mut File) {
+    let good = file.good(3, 2, 2);
+    let bytes = lay_out(&[&good.bytes]);
+    let end = bytes.len();
+    let near = [end - 1, end, end + 1, usize::MAX - 2, usize::MAX - 1];
+    for at in near.into_iter().chain(PAST_ALL) {
+        for bytes in [&bytes[..], b"", &[0]] {
+            file.entry(3, bytes, at, SHORT, at);
+        }
+        for n in [0, 17, 65_535] {
+            file.entry(n, &bytes, at, Answer::Refused(1), at);
+        }
+    }
+    for n in [0, 17] {
+        file.entry(n, &bytes, 0, Answer::Refused(1), 0);
+    }
+}
+
+/// Packets behind other bytes, from their place to the end.
+fn packets_behind(file: &mut File) {
+    for n in CHOSEN {
+        let good = file.good(n, n, 3);
+        for front in [1, 2, 7, 300] {
+            let bytes = [&file.random.bytes(front)[..], &good.bytes].concat();
+            let cut = &bytes[..bytes.len() - 1];
+            for (bytes, at, answer) in [
+                (&bytes[..], front, SHARE),
+                (cut, front, UNREADABLE),
+                (&bytes, bytes.len(), SILENCE),
+            ] {
+                let (found, ..) = file.tried_at(n, bytes, at);
+                assert_eq!(found, answer, "n {n}, at {at}");
+            }
+        }
+    }
+}
+
+/// Shares that are said to lie where they do not, and bytes that end before them.
+fn false_places(file: &mut File) {
+    for (n, j) in PAIRS {
+        let good = file.good(n, j, 4);
+        let bytes = [&[9; 5][..], &good.bytes, &[9]].concat();
+        let (place, end) = (good.place(5), bytes.len() - 1);
+        for length in [end + 1, end] {
+            file.stands_at((n, j), good.root, &bytes[..length], place, VALID);
+        }
+        for length in [end - 1, end - 4, 9, 5, 0] {
+            file.stands_at((n, j), good.root, &bytes[..length], place, FAULTY);
+        }
+        let near = [1, 2, 32, 256, usize::MAX - 8, usize::MAX - 3];
+        for change in near.into_iter().chain(PAST_ALL) {
+            for place in changed(place, change) {
+                file.stands_at((n, j), good.root, &bytes, place, FAULTY);
+            }
+        }
+    }
+}
+
+/// A place with so much added to each of its numbers in turn; sums wrap.
+fn changed(place: Place, change: usize) -> [Place; 4] {
+    let number = place.number.wrapping_add(change);
+    let from = place.from.wrapping_add(change);
+    let length = place.length.wrapping_add(change);
+    let hashes = place.hashes.wrapping_add(change);
+    [
+        Place { number, ..place },
+        Place { from, ..place },
+        Place { length, ..place },
+        Place { hashes, ..place },
+    ]
+}
+
+/// Shares that lead to the root, of lengths that no reader tells too: none, and one too many.
+fn false_lengths(file: &mut File) {
+    let lengths = [0, 1, LONGEST_SHARE, LONGEST_SHARE + 1];
+    for (length, answer) in lengths.into_iter().zip([VALID, VALID, VALID, FAULTY]) {
+        let bytes = file.random.bytes(2 + length);
+        let root = hash(&leaf_string(1, &bytes[2..]));
+        let place = Place {
+            number: 1,
+            from: 2,
+            length,
+            hashes: 0,
+        };
+        file.stands_at((1, 1), root, &bytes, place, answer);
+        for (n, j, cause) in [(0, 1, 1), (17, 0, 1), (1, 0, 3), (1, 2, 3), (1, 65_535, 3)] {
+            file.stands_at((n, j), root, &bytes, place, Answer::Refused(cause));
         }
     }
 }
@@ -757,6 +981,16 @@ fn packet_cases(file: &mut File) {
     other_roots(file);
 }
 
+/// All cases of entries one behind the other, and of places.
+fn place_cases(file: &mut File) {
+    walks(file);
+    short_entries(file);
+    far_places(file);
+    packets_behind(file);
+    false_places(file);
+    false_lengths(file);
+}
+
 pub fn cases() -> Vec<Case> {
     let mut file = File {
         out: Vec::new(),
@@ -770,5 +1004,6 @@ pub fn cases() -> Vec<Case> {
     written(&mut file);
     unwritten(&mut file);
     several_causes(&mut file);
+    place_cases(&mut file);
     file.out
 }
