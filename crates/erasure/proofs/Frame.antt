@@ -221,10 +221,17 @@ third-fails true q r t m h = refl
 third-fails false true r t m h = refl
 third-fails false false r t m h = let e = h refl in rw e
 
--- no message has a frame longer than the greatest message's filled up
-pub unframed-great : (b s : ℕ) (f : List ℕ) → 1 ≤ b → b ≤ maxParties → maxShare + maxParties < b * s → unframed b s f ≡ cause 12
+-- cause 12, where no length within the limit gives s
+unstated : (b s : ℕ) (f : List ℕ) → (size f ≤ maxMessage → s ≡ shareLength b (size f) → ⊥) → unframed b s f ≡ cause 12
 unfolding unframed
-unframed-great b s f low few h =
+unstated b s f h =
     third-fails (ltb (length f) 2) (ltb maxMessage (size f)) (eqb s (shareLength b (size f))) (other 0 (rest f)) (body f)
-    (λ q. ne-eqb s (shareLength b (size f))
-    (λ e. omega (arith, ltb-false maxMessage (size f) q, ap (λ (n : ℕ). b * n) e, share-high b (size f) low)))
+    (λ q. ne-eqb s (shareLength b (size f)) (h (ltb-false maxMessage (size f) q)))
+
+-- no message has a share longer than the limit
+pub long-share : (b s : ℕ) (f : List ℕ) → 1 ≤ b → maxShare < s → unframed b s f ≡ cause 12
+long-share b s f low h = unstated b s f (λ k e. omega (arith, share-most b (size f) low))
+
+-- nor a frame longer than the greatest message and its filling
+pub long-frame : (b s : ℕ) (f : List ℕ) → 1 ≤ b → b ≤ maxParties → maxShare + maxParties < b * s → unframed b s f ≡ cause 12
+long-frame b s f low few h = unstated b s f (λ k e. omega (arith, ap (λ (n : ℕ). b * n) e, share-high b (size f) low))

@@ -10,7 +10,7 @@ use Rattle.erasure.specs.Coding.{shareLength}
 use Rattle.erasure.specs.Rebuild.{Recovered, answered}
 use Rattle.erasure.specs.Arrays.{combined, judged}
 use Rattle.erasure.proofs.Arrays.{blocks-small, length-combined}
-use Rattle.erasure.proofs.Frame.{share-low, unframed-great}
+use Rattle.erasure.proofs.Frame.{share-low, long-frame}
 use Rattle.erasure.proofs.Outcomes.{unframed-tiny, unframed-over, unframed-stated, unframed-judged}
 use borrow.Author.Needs.{needs}
 use native.Mathlib.Omega.{arith}
@@ -87,7 +87,7 @@ returns c =
 returns-2 : tie.Need-returns-2
 returns-2 c =
     let st = c .before .before .before .before .before in
-    sym (ap (λ (r : Recovered). answered r (st .args .out .now)) (unframed-great (st .args .b) (st .args .s) (F st) (st .pre .0) (st .pre .1) (c .if2 .taken)))
+    sym (ap (λ (r : Recovered). answered r (st .args .out .now)) (long-frame (st .args .b) (st .args .s) (F st) (st .pre .0) (st .pre .1) (c .if2 .taken)))
 
 whole-frame-requires : tie.Need-whole-frame-requires
 whole-frame-requires c κs = let st = c .before .before .before .before .before in (st .pre .1, c .if2 .left, st .pre .3)
