@@ -38,6 +38,7 @@ use Rattle.packet.specs.Class.{Class, silent, faulty, valid, classOf}
 use Rattle.packet.proofs.Inbox.{inbox-bodies}
 use Rattle.packet.proofs.Inverse.{written-read}
 use Rattle.packet.proofs.Reading.{fields-of, read-wide}
+use Rattle.packet.proofs.Class.{Passing, passing, passes-valid}
 use Rattle.party.specs.State.{Result, nothing, settled, atBit, atFirst, atSecond, messageRoot, happy}
 use Rattle.party.specs.Steps.{packetFor, outboxOf, found, firstValid, relayOf, heldOf}
 use Rattle.party.specs.Steps.{shareFrom, gathered, rebuilt, resultOf}
@@ -50,7 +51,7 @@ use Rattle.commitment.specs.Private.{Coded}
 use Rattle.commitment.proofs.Messages.{share-some, pathTo}
 use Rattle.party.proofs.Packets.{packet-bit, packet-first}
 use Rattle.party.proofs.Ways.{Way, on, off, way, clash}
-use Rattle.party.proofs.Checks.{Passing, passing, passes-valid, Took, took, finds, in-relays, gathered-at, gathered-length}
+use Rattle.party.proofs.Checks.{Took, took, finds, in-relays, gathered-at, gathered-length}
 use Rattle.agreement.specs.Calls.{agreeBit, bitGiven, resultAfter}
 use Rattle.agreement.specs.Calls.{entry, lengths, checkedIn, opening, hashed, sentBy}
 use Rattle.agreement.specs.Agreement.{Good, among, absent, Each, owns, step, Premises, sent, Conclusions, Agreement}

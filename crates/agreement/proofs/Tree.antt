@@ -25,11 +25,11 @@ use Rattle.packet.specs.Format.{shared, readOf}
 use Rattle.packet.specs.Class.{valid, classOf}
 use Rattle.packet.proofs.Inverse.{written-read}
 use Rattle.packet.proofs.Parts.{packet-length}
+use Rattle.packet.proofs.Class.{passes-valid}
 use Rattle.party.specs.State.{messageRoot}
 use Rattle.commitment.specs.Commitment.{packetWith}
 use Rattle.commitment.specs.Private.{Coded}
 use Rattle.commitment.proofs.Messages.{share-some, share-fits, fine, cut, pathTo, path-count, path-each}
-use Rattle.party.proofs.Checks.{passes-valid}
 
 module _ (H : List ℕ → List ℕ) (wide : (s : List ℕ) → length (H s) ≡ 32) (n t : ℕ) (m : List ℕ) (c : Coded n t m) where
   abbrev all : List ℕ

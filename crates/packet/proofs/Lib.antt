@@ -7,5 +7,6 @@ pub mod Reading
 pub mod Verdict
 pub mod Writing
 pub mod Inverse
+pub mod Class
 pub mod Inbox
 pub mod Instances

@@ -32,13 +32,14 @@ use Rattle.packet.specs.Inbox.{inboxOf}
 use Rattle.packet.specs.Answer.{writeOf}
 use Rattle.packet.proofs.Inbox.{inbox-fills, inbox-bodies}
 use Rattle.packet.proofs.Writing.{cause-fine, write-written}
+use Rattle.packet.proofs.Class.{passing}
 use Rattle.party.specs.State.{nothing, settled}
 use Rattle.party.specs.Steps.{Taken, missing, found, firstValid, gathered, rebuilt}
 use Rattle.party.specs.Private.{Fit, TakenIs}
 use Rattle.party.specs.declared.Party.{Party}
 use Rattle.party.specs.declared.Placed.the-variants.{Nowhere, At}
 use Rattle.commitment.proofs.Answers.{not-done}
-use Rattle.party.proofs.Checks.{took, passing, gathered-length}
+use Rattle.party.proofs.Checks.{took, gathered-length}
 
 -- nothing was taken
 pub taken-none : (t : Taken) (s : List ℕ) → TakenIs Nowhere t s → t ≡ missing
