@@ -24,6 +24,7 @@ use Rattle.party.proofs.Causes.{state-sound}
 use Rattle.party.proofs.Outcomes.{root-refused, root-given}
 use Rattle.agreement.specs.Calls.{Call, agreeRoot, agreeBit, takeShares, takeRelays, stepOf, Reply, Event, accepted, first, sentOver}
 use Rattle.agreement.specs.Calls.{made, events, final}
+use Rattle.agreement.proofs.Lists.{same-some}
 
 -- either of two, with the first changed
 first-of : {A B C : Type 0} → (A → B) → A ⊎ C → B ⊎ C
@@ -32,9 +33,6 @@ first-of f (inr c) = inr c
 
 none-some : {A : Type 0} {x : A} → _≡_ {A = Option A} none (some x) → ⊥
 none-some p = let z : _≡_ {A = ℕ} 0 1 = cc in omega arith
-
-same-some : {x y : Event} → _≡_ {A = Option Event} (some x) (some y) → x ≡ y
-same-some p = cc
 
 -- the replies of step 2
 abbrev voted-reply : Ballot → Reply
