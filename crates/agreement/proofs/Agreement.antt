@@ -21,7 +21,6 @@ use Rattle.buffer.specs.Entries.{bodies}
 use Rattle.buffer.proofs.Tabulate.{length-tabulate, getD-tabulate}
 use Rattle.erasure.specs.Coding.{shareLength, share}
 use Rattle.erasure.specs.Rebuild.{present}
-use Rattle.erasure.proofs.Frame.{length-share}
 use Rattle.merkle.specs.Height.{height}
 use Rattle.merkle.specs.Shares.{same}
 use Rattle.merkle.proofs.Judged.{same-true, same-refl}
@@ -29,7 +28,7 @@ use Rattle.packet.specs.Class.{Class, silent, faulty, valid, classOf}
 use Rattle.commitment.specs.Commitment.{messageRoot, packetWith, relayWith}
 use Rattle.commitment.specs.Private.{Coded}
 use Rattle.commitment.proofs.Opening.{open-bounds}
-use Rattle.commitment.proofs.Messages.{share-some, pathTo, rebuilds}
+use Rattle.commitment.proofs.Messages.{share-there, pathTo, rebuilds}
 use Rattle.commitment.proofs.Packets.{packet-valid, valid-length}
 use Rattle.commitment.proofs.Binding.{valid-share, one-root, CollisionFree, no-collision}
 use Rattle.party.specs.State.{Result, nothing, settled}
@@ -39,7 +38,7 @@ use Rattle.party.proofs.Ways.{Way, on, off, way, clash}
 use Rattle.agreement.specs.Calls.{heard, wrote, entry, bitGiven, lengths, opening, sentBy}
 use Rattle.agreement.specs.Agreement.{Good, among, absent, Each, owns, step, OpenedAll, CalledAll, Ruled, DeliveredAll, sent, Conclusions, Agreement}
 use Rattle.agreement.proofs.Ran.{opened-is}
-use Rattle.agreement.proofs.Lists.{lengths-none, lengths-others, sum-below, sum-none, find, among-out, one-each, present-or}
+use Rattle.agreement.proofs.Lists.{lengths-none, lengths-others, sum-below, sum-none, find, among-out, one-each, present-borne}
 use Rattle.agreement.proofs.Needed.{glad, relayFrom, coding, check, Needed}
 use Rattle.agreement.proofs.Conduct.{Conduct, sharesIn, vote-given, bit-low, ended, conducts, needed-hashed}
 
@@ -198,9 +197,6 @@ module _ (H : List ℕ → List ℕ) (wide : (s : List ℕ) → length (H s) ≡
                     (valid-M C hC u (C .own) (r .0) (r .1) (ap (classOf H n (C .own) z) own ∙ r .2)),
               )
 
-      share-there : (j : ℕ) → 1 ≤ length (share (n - t) j M)
-      share-there j = omega (arith, length-share (n - t) j M, share-some n t M codedM)
-
       -- an unhappy party has M's shares, of every good party, and no others
       module _ (B : Good) (hB : In B) (uB : isGlad B ≡ false) where
         abbrev gs : List (List ℕ)
@@ -239,21 +235,16 @@ module _ (H : List ℕ → List ℕ) (wide : (s : List ℕ) → length (H s) ≡
             at k l ∙ ap shareFrom (subst (λ (j : ℕ). classOf H n j z (has B j) ≡ valid (share (n - t) j M) (r .0)) (sym e)
             (ap (classOf H n (C .own) z) (relay-came C hC) ∙ r .1))
 
-        there : (k : ℕ) → k < length gs → (1 ≤ length (getD gs k [])) ⊎ (among (1 + k) (owns H n t good) ≡ false)
-        there k l = go (way (among (1 + k) (owns H n t good)))
-          where
-            go : Way (among (1 + k) (owns H n t good)) → (1 ≤ length (getD gs k [])) ⊎ (among (1 + k) (owns H n t good) ≡ false)
-            go (on q) =
-                let c = among-out (λ (C : Good). C .own) (1 + k) good q in
-                let e : getD gs k [] ≡ share (n - t) (1 + k) M = good-entry k (omega (arith, l, gs-length)) (c .0) (c .1) (c .2) in
-                inl (omega (arith, ap length e, share-there (1 + k)))
-            go (off q) = inr q
-
         enough : n - t ≤ length (present 1 gs)
         enough =
             let a : absent (length gs) 1 (owns H n t good) ≤ t =
             subst (λ (k : ℕ). absent k 1 (owns H n t good) ≤ t) (sym gs-length) (opened .bad) in
-            omega (arith, present-or gs 1 (owns H n t good) there, gs-length)
+            omega (arith, present-borne gs 1 (owns H n t good) there, gs-length)
+          where
+            there : (k : ℕ) → k < length gs → among (1 + k) (owns H n t good) ≡ true → 1 ≤ length (getD gs k [])
+            there k l q =
+                let c = among-out (λ (C : Good). C .own) (1 + k) good q in
+                omega (arith, ap length (good-entry k (omega (arith, gs-length)) (c .0) (c .1) (c .2)), share-there n t M codedM (1 + k))
 
         unhappy-result : does B hB .result ≡ settled M
         unhappy-result =

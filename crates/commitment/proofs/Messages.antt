@@ -10,7 +10,7 @@ use Rattle.limits.specs.Limits.{maxShare}
 use Rattle.buffer.specs.Bounds.{Bytes}
 use Rattle.erasure.specs.Coding.{shareLength, share, shares}
 use Rattle.erasure.specs.Rebuild.{present, point, recovered, message}
-use Rattle.erasure.proofs.Frame.{share-positive, share-most}
+use Rattle.erasure.proofs.Frame.{share-positive, share-most, length-share}
 use Rattle.erasure.proofs.Present.{taken}
 use Rattle.erasure.proofs.Complete.{complete}
 use Rattle.merkle.specs.Shares.{sharesCause, leavesOf, sidesOf, pathOf}
@@ -23,6 +23,10 @@ module _ (n t : ℕ) (m : List ℕ) (c : Coded n t m) where
   -- the length of its shares
   pub share-some : 1 ≤ shareLength (n - t) (length m)
   share-some = share-positive (n - t) (length m) (omega (arith, c))
+
+  -- each has bytes
+  pub share-there : (j : ℕ) → 1 ≤ length (share (n - t) j m)
+  share-there j = omega (arith, length-share (n - t) j m, share-some)
 
   pub share-fits : shareLength (n - t) (length m) ≤ maxShare
   share-fits = omega (arith, c, share-most (n - t) (length m) (omega (arith, c)))

@@ -20,7 +20,7 @@ use Rattle.packet.proofs.Reading.{fields-of}
 use Rattle.packet.proofs.Class.{passing, passes-valid}
 use Rattle.commitment.specs.Commitment.{messageRoot, packetWith}
 use Rattle.commitment.specs.Private.{Coded}
-use Rattle.commitment.proofs.Messages.{share-some, share-fits, fine, cut, pathTo, path-count, path-each}
+use Rattle.commitment.proofs.Messages.{share-there, share-fits, fine, cut, pathTo, path-count, path-each}
 
 module _ (H : List ℕ → List ℕ) (wide : (s : List ℕ) → length (H s) ≡ 32) (n t : ℕ) (m : List ℕ) (c : Coded n t m) (j : ℕ) (first : 1 ≤ j)
     (last : j ≤ n) where
@@ -32,9 +32,8 @@ module _ (H : List ℕ → List ℕ) (wide : (s : List ℕ) → length (H s) ≡
 
   reads : readOf n (packetWith H n t m j) ≡ shared j (share (n - t) j m) up
   reads =
-      let s : length (share (n - t) j m) ≡ shareLength (n - t) (length m) = length-share (n - t) j m in
-      written-read n j (share (n - t) j m) up first last (omega (arith, s, share-some n t m c)) (omega (arith, s, share-fits n t m c))
-      counted (path-each H wide n t m c j first last)
+      written-read n j (share (n - t) j m) up first last (share-there n t m c j)
+      (omega (arith, length-share (n - t) j m, share-fits n t m c)) counted (path-each H wide n t m c j first last)
 
   leads : passes H n j (share (n - t) j m) up (length up) (messageRoot H n t m) ≡ true
   unfolding messageRoot passes
