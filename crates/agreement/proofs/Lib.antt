@@ -1,7 +1,8 @@
+pub mod Lists
 pub mod Run
 pub mod Ran
+pub mod Needed
+pub mod Conduct
 pub mod Depends
-pub mod Tree
-pub mod Lists
 pub mod Agreement
 pub mod Instances

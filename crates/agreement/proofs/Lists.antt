@@ -132,25 +132,26 @@ one-each {A} f {a} {b} (c ∷ l) d h k e =
     go (inr u) (inl q) r = never u (ap f (sym q) ∙ sym e)
     go (inr u) (inr v) r = r u v
 
--- each number's share is present, or the number is absent
-pub present-or : (gs : List (List ℕ)) (j : ℕ) (js : List ℕ)
-    → ((k : ℕ) → k < length gs → (1 ≤ length (getD gs k [])) ⊎ (among (j + k) js ≡ false))
+-- where each number that is borne has its share, as many shares are present as numbers are not absent
+pub present-borne : (gs : List (List ℕ)) (j : ℕ) (js : List ℕ)
+    → ((k : ℕ) → k < length gs → among (j + k) js ≡ true → 1 ≤ length (getD gs k []))
     → length gs ≤ length (present j gs) + absent (length gs) j js
 unfolding present absent
-present-or [] j js h = omega arith
-present-or (g ∷ gs) j js h =
-    go (way (eqb (length g) 0)) (way (among j js)) (h 0 (omega arith))
-    (present-or gs (j + 1) js (λ k l. let e : j + suc k ≡ j + 1 + k = omega arith in
-    subst (λ (u : ℕ). (1 ≤ length (getD gs k [])) ⊎ (among u js ≡ false)) e (h (suc k) (omega arith))))
+present-borne [] j js h = omega arith
+present-borne (g ∷ gs) j js h =
+    go (way (eqb (length g) 0)) (way (among j js))
+    (present-borne gs (j + 1) js (λ k l q. let e : j + suc k ≡ j + 1 + k = omega arith in
+    h (suc k) (omega arith) (ap (λ (u : ℕ). among u js) e ∙ q)))
   where
-    go : Way (eqb (length g) 0) → Way (among j js) → (1 ≤ length g) ⊎ (among (j + 0) js ≡ false)
+    go : Way (eqb (length g) 0) → Way (among j js)
         → length gs ≤ length (present (j + 1) gs) + absent (length gs) (j + 1) js
         → length (g ∷ gs) ≤ length (present j (g ∷ gs)) + absent (length (g ∷ gs)) j js
-    go (off e) (on a) s r = rw (e, a) (omega arith)
-    go (off e) (off a) s r = rw (e, a) (omega arith)
-    go (on e) (off a) s r = rw (e, a) (omega arith)
-    go (on e) (on a) (inl l) r = let z : length g ≡ 0 = eqb-true (length g) 0 e in absurd (omega arith)
-    go (on e) (on a) (inr b) r = clash a (ap (λ (u : ℕ). among u js) (sym (add-zero j)) ∙ b)
+    go (off e) (on a) r = rw (e, a) (omega arith)
+    go (off e) (off a) r = rw (e, a) (omega arith)
+    go (on e) (off a) r = rw (e, a) (omega arith)
+    go (on e) (on a) r =
+        let z : length g ≡ 0 = eqb-true (length g) 0 e in
+        absurd (omega (arith, h 0 (omega arith) (ap (λ (u : ℕ). among u js) (add-zero j) ∙ a)))
 
 pub same-some : {A : Type 0} {x y : A} → _≡_ {A = Option A} (some x) (some y) → x ≡ y
 same-some p = cc

@@ -25,12 +25,10 @@ use Rattle.party.proofs.Causes.{state-sound}
 use Rattle.party.proofs.Outcomes.{root-refused, root-given}
 use Rattle.agreement.specs.Calls.{Call, agreeRoot, agreeBit, takeShares, takeRelays, stepOf, Event, accepted, first, sentOver}
 use Rattle.agreement.specs.Calls.{made, events, final}
+use Rattle.agreement.proofs.Lists.{same-some}
 
 none-some : {A : Type 0} {x : A} → _≡_ {A = Option A} none (some x) → ⊥
 none-some p = let z : _≡_ {A = ℕ} 0 1 = cc in omega arith
-
-same-some : {x y : Event} → _≡_ {A = Option Event} (some x) (some y) → x ≡ y
-same-some p = cc
 
 -- a call is taken, or turned away with the state kept
 abbrev Turned : Party → Stepped → Type 0

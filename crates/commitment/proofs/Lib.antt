@@ -2,6 +2,8 @@ pub mod Answers
 pub mod Opening
 pub mod Shared
 pub mod Messages
+pub mod Packets
+pub mod Binding
 pub mod Outbox
 pub mod Sending
 pub mod Outcomes

@@ -9,5 +9,6 @@ pub mod Verdict
 pub mod Cursor
 pub mod Writing
 pub mod Inverse
+pub mod Class
 pub mod Inbox
 pub mod Instances

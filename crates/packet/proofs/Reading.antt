@@ -282,10 +282,6 @@ module _ (n : ℕ) (p : List ℕ) where
     pub fields-of : Fields n p number share path
     fields-of = let t = read-readable n p number share path e in subst (FieldsIn n p) (t .1) (lies (t .0))
 
-    pub read-bounds : (1 ≤ number) × (number ≤ n) × (1 ≤ length share) × (length share ≤ maxShare)
-        × (length path ≡ length (sidesOf n number))
-    read-bounds = let f = fields-of in (f .low, f .high, f .some, f .most, f .counted)
-
     -- each hash of the path has 32 bytes
     pub read-wide : Wide 32 path
     read-wide =

@@ -1,18 +1,16 @@
--- Packets that pass: what was read of them, that the strings of their check are among those hashed, that step 4 finds one where there is
--- one, and what step 5 gathers. By cases of a packet's class, and by induction along an inbox. Assumes nothing.
+-- Packets that pass in an inbox: the strings of their check are among those hashed, step 4 finds one where there is one, and what step 5
+-- gathers. By cases of a packet's class, and by induction along an inbox. Assumes nothing.
 use mathlib.Core.Path.{_≡_, refl, sym, ap, ap₂, _∙_, subst}
 use mathlib.Core.Logic.{_≢_}
-use mathlib.Core.Bool.{true, cond}
+use mathlib.Core.Bool.{cond}
 use mathlib.Core.List.{List, [], _∷_, List·Memᴰ, Memᴰ·append-left, Memᴰ·append-right}
 use Prim.Native.Nat.{ℕ, zero, suc, _+_, _<_}
 use native.Mathlib.Nat.{add-zero}
 use native.Mathlib.Omega.{arith}
-use borrow.Author.Tests.{eqb-true, eq-eqb, ne-eqb}
+use borrow.Author.Tests.{ne-eqb}
 use lib.Dec.{eqb}
 use lib.ListN.{length, getD}
-use Rattle.merkle.specs.Shares.{passes, stringsOf}
-use Rattle.packet.specs.Format.{Reading, silence, unreadable, shared, readOf}
-use Rattle.packet.specs.Class.{Class, silent, faulty, valid, judged, classOf, checkedStrings, classStrings}
+use Rattle.packet.specs.Class.{Class, silent, faulty, valid, classOf, classStrings}
 use Rattle.party.specs.State.{shareHeld}
 use Rattle.party.specs.Steps.{missing, found, firstValid, shareFrom, gathered}
 use Rattle.party.specs.Strings.{unlessValid, shareStrings, relayStrings}
@@ -20,53 +18,6 @@ use Rattle.party.specs.declared.Party.{Party}
 use Rattle.party.proofs.Ways.{Way, on, off, way}
 
 module _ (H : List ℕ → List ℕ) (n : ℕ) where
-  -- a packet under number k that passes, with the strings of its check
-  pub record Passing (k : ℕ) (z w x : List ℕ) (p : List (List ℕ)) : Type 0 where
-    pub reads : readOf n w ≡ shared k x p
-    pub leads : passes H n k x p (length p) z ≡ true
-    pub strings : classStrings H n k w ≡ stringsOf H n k x p (length p)
-
-  -- a class is one thing only
-  not-silent : {x : List ℕ} {p : List (List ℕ)} → silent ≡ valid x p → ⊥
-  not-silent e = let q : _≡_ {A = ℕ} 0 1 = cc in omega arith
-
-  not-faulty : {x : List ℕ} {p : List (List ℕ)} → faulty ≡ valid x p → ⊥
-  not-faulty e = let q : _≡_ {A = ℕ} 0 1 = cc in omega arith
-
-  same-share : {x y : List ℕ} {p q : List (List ℕ)} → valid x p ≡ valid y q → (x ≡ y) × (p ≡ q)
-  same-share e = (cc, cc)
-
-  judged-valid : (k : ℕ) (z x : List ℕ) (p : List (List ℕ)) (r : Reading) → judged H n k z r ≡ valid x p
-      → (r ≡ shared k x p) × (passes H n k x p (length p) z ≡ true)
-  judged-valid k z x p silence e = absurd (not-silent e)
-  judged-valid k z x p unreadable e = absurd (not-faulty e)
-  judged-valid k z x p (shared j y q) e = go (way (eqb j k)) (way (passes H n k y q (length q) z))
-    where
-      go : Way (eqb j k) → Way (passes H n k y q (length q) z)
-          → (shared j y q ≡ shared k x p) × (passes H n k x p (length p) z ≡ true)
-      go (on a) (on c) =
-          let s = same-share (rw (a, c) at e) in (
-            rw (eqb-true j k a, s .0, s .1),
-            subst (λ (u : List ℕ). passes H n k u p (length p) z ≡ true) (s .0)
-                (subst (λ (v : List (List ℕ)). passes H n k y v (length v) z ≡ true) (s .1) c),
-          )
-      go (on a) (off c) = absurd (not-faulty (rw (a, c) at e))
-      go (off a) c = absurd (not-faulty (rw a at e))
-
-  strings-shared : (k : ℕ) (x : List ℕ) (p : List (List ℕ)) → checkedStrings H n k (shared k x p) ≡ stringsOf H n k x p (length p)
-  strings-shared k x p = rw (eq-eqb k k refl)
-
-  pub passing : (k : ℕ) (z w x : List ℕ) (p : List (List ℕ)) → classOf H n k z w ≡ valid x p → Passing k z w x p
-  unfolding classOf classStrings
-  passing k z w x p e =
-      let j = judged-valid k z x p (readOf n w) e in
-      record { reads = j .0; leads = j .1; strings = ap (checkedStrings H n k) (j .0) ∙ strings-shared k x p }
-
-  pub passes-valid : (k : ℕ) (z w x : List ℕ) (p : List (List ℕ)) → readOf n w ≡ shared k x p → passes H n k x p (length p) z ≡ true
-      → classOf H n k z w ≡ valid x p
-  unfolding classOf
-  passes-valid k z w x p e c = rw (e, eq-eqb k k refl, c)
-
   -- the packet that step 4 takes from senders numbered from j on
   pub record Took (i : ℕ) (z : List ℕ) (j : ℕ) (ps : List (List ℕ)) (x : List ℕ) (p : List (List ℕ)) : Type 0 where
     pub packet : List ℕ

@@ -15,6 +15,7 @@ use Rattle.buffer.specs.Entries.{fills, bodies}
 use Rattle.erasure.specs.Rebuild.{Recovered, present, recovered}
 use Rattle.erasure.specs.Rebuild as rebuild
 use Rattle.packet.proofs.Reading.{fields-of}
+use Rattle.packet.proofs.Class.{passing}
 use Rattle.party.specs.State.{Result, nothing, settled, bytesOf, messageIn, atRoot, atBit, atFirst, atSecond, atEnd, broken, happy}
 use Rattle.party.specs.Steps.{turnOf, openOf, bitCause, inboxCause, agreeRootOf, outboxOf, agreeBitOf, Taken, missing, found, takenBy}
 use Rattle.party.specs.Steps.{shareTaken, relayOf, heldOf, takeSharesOf, gathered, rebuilt, resultOf, ending, takeRelaysOf, writes, Stepped}
@@ -25,7 +26,7 @@ use Rattle.commitment.proofs.Opening.{open-fine}
 use Rattle.party.proofs.Causes.{fit-of, broken-stage, state-fine, root-fine, bit-fine, inbox-fine}
 use Rattle.party.proofs.Outcomes.{open-given, root-given}
 use Rattle.party.proofs.Taking.{Short, short-recovered}
-use Rattle.party.proofs.Checks.{took, passing}
+use Rattle.party.proofs.Checks.{took}
 
 -- a buffer that is long enough is written to
 room-for : (x next : Party) (bs out : List ℕ) → length bs ≤ length out → writes x next bs out .cause ≡ 0

@@ -19,6 +19,7 @@ use Rattle.packet.specs.Format.{packetOf, entryOf}
 use Rattle.packet.specs.Inbox.{inboxOf}
 use Rattle.packet.proofs.Parts.{entry-length, packet-length}
 use Rattle.packet.proofs.Reading.{fields-of, read-wide}
+use Rattle.packet.proofs.Class.{passing}
 use Rattle.commitment.specs.Rooms.{maxPacket, maxOutbox}
 use Rattle.commitment.specs.Private.{Coded}
 use Rattle.commitment.proofs.Shared.{shares-bound}
@@ -27,7 +28,7 @@ use Rattle.party.specs.State.{atBit, atFirst, happy}
 use Rattle.party.specs.Steps.{packetFor, outboxOf, Taken, missing, found, takenBy, packetTaken, ownRelay, relayOf}
 use Rattle.party.specs.declared.Seat.{Seat}
 use Rattle.party.proofs.Packets.{packet-bit, packet-first}
-use Rattle.party.proofs.Checks.{took, passing}
+use Rattle.party.proofs.Checks.{took}
 
 -- entries of at most K bytes each
 inbox-below : (K : ℕ) (ps : List (List ℕ)) → ((k : ℕ) → k < length ps → length (getD ps k []) ≤ K) → length (inboxOf ps) ≤ length ps * (2 + K)

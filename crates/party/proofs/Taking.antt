@@ -31,13 +31,14 @@ use Rattle.merkle.proofs.Judged.{passes-true}
 use Rattle.packet.specs.Format.{hashes, packetOf}
 use Rattle.packet.specs.Answer.{writeOf}
 use Rattle.packet.proofs.Writing.{cause-fine, write-written}
+use Rattle.packet.proofs.Class.{passing}
 use Rattle.party.specs.State.{nothing, settled, shareHeld}
 use Rattle.party.specs.Steps.{Taken, missing, found, firstValid, gathered, rebuilt}
 use Rattle.party.specs.Private.{Fit, TakenIs, Gathered}
 use Rattle.party.specs.declared.Party.{Party}
 use Rattle.party.specs.declared.Placed.the-variants.{Nowhere, At}
 use Rattle.commitment.proofs.Answers.{not-done}
-use Rattle.party.proofs.Checks.{took, passing}
+use Rattle.party.proofs.Checks.{took}
 
 -- nothing was taken
 pub taken-none : (t : Taken) (s : List ℕ) → TakenIs Nowhere t s → t ≡ missing

@@ -1,0 +1,305 @@
+-- What a good party does on bit 1, told by what it heard and wrote, with no state left. A happy one sends its message's packets, relays its own share
+-- and ends with its message; another relays a packet that passes if it heard one, and rebuilds from the relays that pass. By the laws of the party's
+-- steps. Assumes nothing.
+use mathlib.Core.Path.{_≡_, refl, sym, ap, _∙_, subst}
+use mathlib.Core.Logic.{_≢_}
+use mathlib.Core.Bool.{Bool, true, false, cond}
+use mathlib.Core.List.{List, [], List·Memᴰ, List·Memᴰ·not-nil}
+use mathlib.Core.Option.{Option, some}
+use Prim.Native.Nat.{ℕ, _+_, _-_, _*_, _≤_, _<_}
+use native.Mathlib.Omega.{arith}
+use borrow.Author.Tests.{eqb-true, eqb-false}
+use lib.Dec.{eqb}
+use lib.ListN.{length, getD, replicate, length-replicate}
+use Rattle.buffer.specs.Splice.{tabulate}
+use Rattle.buffer.specs.Entries.{bodies}
+use Rattle.buffer.proofs.Entries.{length-bodies}
+use Rattle.buffer.proofs.Tabulate.{length-tabulate, tabulate-cong, tabulate-getD}
+use Rattle.erasure.specs.Rebuild.{present, recovered}
+use Rattle.merkle.specs.Shares.{same}
+use Rattle.packet.specs.Format.{packetOf}
+use Rattle.packet.specs.Inbox.{inboxOf}
+use Rattle.packet.specs.Class.{silent, valid, judged, classOf, checkedStrings, classStrings}
+use Rattle.packet.proofs.Inbox.{inbox-bodies}
+use Rattle.packet.proofs.Reading.{fields-of, read-empty}
+use Rattle.packet.proofs.Class.{passing, rewritten}
+use Rattle.commitment.specs.Commitment.{messageRoot, packetsWith, relayWith}
+use Rattle.party.specs.State.{seatOf, Result, nothing, settled, shareHeld, atBit, atFirst, atSecond, happy}
+use Rattle.party.specs.Steps.{packetFor, outboxOf, Taken, missing, found, shareTaken, packetTaken, firstValid, relayOf, heldOf}
+use Rattle.party.specs.Steps.{shareFrom, gathered, rebuilt, resultOf}
+use Rattle.party.specs.Strings.{shareStrings}
+use Rattle.party.specs.declared.Party.{Party}
+use Rattle.party.proofs.Kept.{message-bit, message-first, message-second, share-second}
+use Rattle.party.proofs.Ways.{Way, on, off, way}
+use Rattle.party.proofs.Checks.{took, finds, in-relays, gathered-at, gathered-length}
+use Rattle.agreement.specs.Calls.{Call, agreeBit, takeShares, takeRelays, Event, entry, heard, wrote, bitGiven, resultShown, lengths, checkedIn}
+use Rattle.agreement.specs.Calls.{firstOf, resultAfter, hashed, sentBy}
+use Rattle.agreement.specs.Agreement.{Good, step, OpenedAll, CalledAll, allHashed}
+use Rattle.agreement.proofs.Ran.{Ran, ran-none, ran-through, bit-given, bit-small}
+use Rattle.agreement.proofs.Lists.{lengths-none, in-join}
+use Rattle.agreement.proofs.Needed.{glad, relayFrom, Needs, coding, check, Needed}
+
+module _ (H : List ℕ → List ℕ) (n t i : ℕ) (m : List ℕ) (calls : List Call) (z : List ℕ) where
+  abbrev done : ℕ → Option Event
+  done k = firstOf H n t i m calls k
+
+  -- the shares in the relays that pass, by number
+  abbrev pub sharesIn : List (List ℕ)
+  sharesIn = tabulate n (λ k. shareFrom (classOf H n (1 + k) z (relayFrom H n t i m calls (1 + k))))
+
+  pub record Conduct : Type 0 where
+    pub result : Result
+    pub ends : resultAfter H n t i m calls ≡ some result
+    pub shows : resultShown (done 5) ≡ some result
+    pub sends : sentBy H n t i m calls ≡ lengths (bodies n (wrote (done 3))) + (n - 1) * length (wrote (done 4))
+    pub hashes : (s : List ℕ) → Needs H n t i m calls z s → List·Memᴰ s (hashed H n t i m calls)
+    -- happy
+    pub outbox : glad H n t m z ≡ true → bodies n (wrote (done 3)) ≡ packetsWith H n t i m
+    pub relay : glad H n t m z ≡ true → wrote (done 4) ≡ relayWith H n t i m
+    pub keeps : glad H n t m z ≡ true → result ≡ settled m
+    -- unhappy
+    pub quiet : glad H n t m z ≡ false → bodies n (wrote (done 3)) ≡ replicate n []
+    pub relays : glad H n t m z ≡ false → (j : ℕ) → 1 ≤ j → j ≤ n → j ≢ i → (x : List ℕ) (p : List (List ℕ))
+        → classOf H n i z (heard n j (done 4)) ≡ valid x p
+        → (y : List ℕ) × (q : List (List ℕ)) × (classOf H n i z (wrote (done 4)) ≡ valid y q)
+    pub rebuilds : glad H n t m z ≡ false → result ≡ rebuilt (recovered (n - t) (present 1 sharesIn))
+
+module _ (H : List ℕ → List ℕ) (n t i : ℕ) (m z : List ℕ) where
+  abbrev X1 : Party
+  X1 = atBit (seatOf n t i) m z
+
+  abbrev X2 : Party
+  X2 = atFirst (seatOf n t i) m z
+
+  -- whether it is happy
+  happy-bit : happy H X1 ≡ glad H n t m z
+  unfolding happy atBit
+  happy-bit = ap (λ (b : List ℕ). same (messageRoot H n t b) z) (message-bit (seatOf n t i) m z)
+
+  happy-first : happy H X2 ≡ glad H n t m z
+  unfolding happy atFirst
+  happy-first = ap (λ (b : List ℕ). same (messageRoot H n t b) z) (message-first (seatOf n t i) m z)
+
+  happy-second : (x : List ℕ) → happy H (atSecond (seatOf n t i) m z x) ≡ glad H n t m z
+  unfolding happy atSecond
+  happy-second x = ap (λ (b : List ℕ). same (messageRoot H n t b) z) (message-second (seatOf n t i) m z x)
+
+  -- what lies in its outbox
+  bodies-of : (ps : List (List ℕ)) → length ps ≡ n → bodies n (inboxOf ps) ≡ ps
+  bodies-of ps e = ap (λ (k : ℕ). bodies k (inboxOf ps)) (sym e) ∙ inbox-bodies ps
+
+  out-none : bodies n (inboxOf (replicate n [])) ≡ replicate n []
+  out-none = bodies-of (replicate n []) (length-replicate {A = List ℕ} n [])
+
+  out-happy : glad H n t m z ≡ true → bodies n (outboxOf H X1 1) ≡ packetsWith H n t i m
+  unfolding outboxOf packetFor atBit
+  out-happy e =
+      rw (happy-bit ∙ e)
+      (ap (λ (b : List ℕ). bodies n (inboxOf (packetsWith H n t i b))) (message-bit (seatOf n t i) m z)
+      ∙ bodies-of (packetsWith H n t i m) (length-tabulate n _))
+
+  out-unhappy : glad H n t m z ≡ false → bodies n (outboxOf H X1 1) ≡ replicate n []
+  unfolding outboxOf atBit
+  out-unhappy e = rw (happy-bit ∙ e) out-none
+
+  out-zero : bodies n (outboxOf H X1 0) ≡ replicate n []
+  unfolding outboxOf atBit
+  out-zero = out-none
+
+  relay-happy : glad H n t m z ≡ true → (inbox : List ℕ) → relayOf H X2 inbox ≡ relayWith H n t i m
+  unfolding relayOf packetFor atFirst
+  relay-happy e inbox = rw (happy-first ∙ e) (ap (λ (b : List ℕ). relayWith H n t i b) (message-first (seatOf n t i) m z))
+
+  result-happy : glad H n t m z ≡ true → (x inbox : List ℕ) → resultOf H (atSecond (seatOf n t i) m z x) inbox ≡ settled m
+  unfolding resultOf
+  result-happy e x inbox = rw (happy-second x ∙ e) (ap settled (message-second (seatOf n t i) m z x))
+
+  -- an unhappy party: what it takes from the first inbox, relays and keeps
+  module _ (u : glad H n t m z ≡ false) (in4 : List ℕ) where
+    abbrev it : Taken
+    it = firstValid H n i z 1 (bodies n in4)
+
+    abbrev X3 : Party
+    X3 = atSecond (seatOf n t i) m z (heldOf H X2 in4)
+
+    relay-is : relayOf H X2 in4 ≡ packetTaken X2 it
+    unfolding relayOf atFirst
+    relay-is = rw (happy-first ∙ u)
+
+    held-is : heldOf H X2 in4 ≡ shareTaken it
+    unfolding heldOf atFirst
+    held-is = rw (happy-first ∙ u)
+
+    taken-valid : (x : List ℕ) (p : List (List ℕ)) → it ≡ found x p → classOf H n i z (packetOf i x p) ≡ valid x p
+    taken-valid x p e = let k = took H n i z 1 (bodies n in4) x p e in rewritten H n i z (k .packet) x p (k .good)
+
+    none-silent : classOf H n i z [] ≡ silent
+    unfolding classOf
+    none-silent = ap (judged H n i z) (read-empty n [] refl)
+
+    relay-found : (x : List ℕ) (p : List (List ℕ)) → it ≡ found x p → classOf H n i z (relayOf H X2 in4) ≡ valid x p
+    unfolding atFirst
+    relay-found x p e = rw relay-is (rw e (taken-valid x p e))
+
+    -- it keeps the share that it relays
+    relay-held : heldOf H X2 in4 ≡ shareFrom (classOf H n i z (relayOf H X2 in4))
+    unfolding atFirst
+    relay-held = go it refl
+      where
+        go : (k : Taken) → it ≡ k → heldOf H X2 in4 ≡ shareFrom (classOf H n i z (relayOf H X2 in4))
+        go missing e = held-is ∙ rw (relay-is, e, none-silent)
+        go (found x p) e = held-is ∙ rw (e, relay-found x p e)
+
+    -- the strings of the check of what it relays are hashed
+    none-strings : classStrings H n i [] ≡ []
+    unfolding classStrings
+    none-strings = ap (checkedStrings H n i) (read-empty n [] refl)
+
+    relay-strings : (s : List ℕ) → List·Memᴰ s (classStrings H n i (relayOf H X2 in4)) → List·Memᴰ s (checkedIn H X2 (takeShares in4 []))
+    unfolding checkedIn atFirst
+    relay-strings s h = rw (happy-first ∙ u) (go it refl)
+      where
+        go : (k : Taken) → it ≡ k → List·Memᴰ s (shareStrings H n i z 1 (bodies n in4))
+        go missing e = absurd (List·Memᴰ·not-nil (rw (relay-is, e, none-strings) at h))
+        go (found x p) e =
+            let k = took H n i z 1 (bodies n in4) x p e in
+            k .hashed s
+            (rw (passing H n i z (k .packet) x p (k .good) .strings)
+            (rw (relay-is, e, passing H n i z (packetOf i x p) x p (taken-valid x p e) .strings) at h))
+
+    -- it finds a packet that passes where there is one
+    relays-one : (j : ℕ) → 1 ≤ j → j ≤ n → j ≢ i → (x : List ℕ) (p : List (List ℕ)) → classOf H n i z (entry n j in4) ≡ valid x p
+        → (y : List ℕ) × (q : List (List ℕ)) × (classOf H n i z (relayOf H X2 in4) ≡ valid y q)
+    unfolding entry
+    relays-one j first last d x p v =
+        let e : 1 + (j - 1) ≡ j = omega arith in
+        let f = finds H n i z 1 (bodies n in4) (j - 1) x p (omega (arith, length-bodies n in4)) (λ q. d (sym e ∙ q)) v in
+        (f .0, f .1, relay-found (f .0) (f .1) (f .2))
+
+    -- what it rebuilds from
+    module _ (in5 : List ℕ) where
+      abbrev has : ℕ → List ℕ
+      has j = cond (eqb j i) (relayOf H X2 in4) (entry n j in5)
+
+      abbrev gs : List (List ℕ)
+      gs = gathered H X3 1 (bodies n in5)
+
+      gs-length : length gs ≡ n
+      gs-length = gathered-length H X3 1 (bodies n in5) ∙ length-bodies n in5
+
+      entry-at : (k : ℕ) → entry n (1 + k) in5 ≡ getD (bodies n in5) k []
+      unfolding entry
+      entry-at k = let e : 1 + k - 1 ≡ k = omega arith in ap (λ (j : ℕ). getD (bodies n in5) j []) e
+
+      at : (k : ℕ) → k < n → getD gs k [] ≡ shareFrom (classOf H n (1 + k) z (has (1 + k)))
+      unfolding atSecond
+      at k l =
+          gathered-at H X3 1 (bodies n in5) k (omega (arith, length-bodies n in5)) ∙ go (way (eqb (1 + k) i))
+        where
+          go : Way (eqb (1 + k) i)
+              → cond (eqb (1 + k) i) (shareHeld X3) (shareFrom (classOf H n (1 + k) z (getD (bodies n in5) k [])))
+              ≡ shareFrom (classOf H n (1 + k) z (has (1 + k)))
+          go (on e) =
+              rw e (share-second (seatOf n t i) m z (heldOf H X2 in4) ∙ relay-held
+              ∙ ap (λ (j : ℕ). shareFrom (classOf H n j z (relayOf H X2 in4))) (sym (eqb-true (1 + k) i e)))
+          go (off e) = rw (e, entry-at k)
+
+      gathered-is : gs ≡ tabulate n (λ k. shareFrom (classOf H n (1 + k) z (has (1 + k))))
+      gathered-is =
+          sym (tabulate-getD gs []) ∙ ap (λ (k : ℕ). tabulate k (λ j. getD gs j [])) gs-length
+          ∙ tabulate-cong n (λ j. getD gs j []) (λ k. shareFrom (classOf H n (1 + k) z (has (1 + k)))) at
+
+      result-unhappy : resultOf H X3 in5
+          ≡ rebuilt (recovered (n - t) (present 1 (tabulate n (λ k. shareFrom (classOf H n (1 + k) z (has (1 + k)))))))
+      unfolding resultOf atSecond
+      result-unhappy =
+          rw (happy-second (heldOf H X2 in4) ∙ u) (ap (λ (l : List (List ℕ)). rebuilt (recovered (n - t) (present 1 l))) gathered-is)
+
+      heard-strings : (j : ℕ) → j ≢ i → (x : List ℕ) (p : List (List ℕ)) → classOf H n j z (entry n j in5) ≡ valid x p → (s : List ℕ)
+          → List·Memᴰ s (classStrings H n j (entry n j in5)) → List·Memᴰ s (checkedIn H X3 (takeRelays in5 []))
+      unfolding checkedIn atSecond entry
+      heard-strings j d x p v s h =
+          let w : List ℕ = getD (bodies n in5) (j - 1) [] in
+          let f = fields-of n w j x p (passing H n j z w x p v .reads) in
+          let e : 1 + (j - 1) ≡ j = omega (arith, f .low) in
+          rw (happy-second (heldOf H X2 in4) ∙ u)
+          (in-relays H n i 1 (bodies n in5) (j - 1) (omega (arith, f .low, f .high, length-bodies n in5)) (λ q. d (sym e ∙ q)) s
+          (subst (λ (k : ℕ). List·Memᴰ s (classStrings H n k w)) (sym e) h))
+
+  -- the session's calls, with no event left
+  module _ (calls : List Call) (r : Ran H n t i m calls z) where
+    has-is : (j : ℕ) → relayFrom H n t i m calls j ≡ cond (eqb j i) (relayOf H X2 (r .in4)) (entry n j (r .in5))
+    has-is j = rw (r .relayed, r .heard5 j)
+
+    hashes : (s : List ℕ) → Needs H n t i m calls z s → List·Memᴰ s (hashed H n t i m calls)
+    hashes s (coding e h) = r .in-tree s h
+    hashes s (check u j x p v h) = go (way (eqb j i))
+      where
+        go : Way (eqb j i) → List·Memᴰ s (hashed H n t i m calls)
+        go (on e) = r .in-first s (relay-strings u (r .in4) s (rw (e, eqb-true j i e, r .relayed) at h))
+        go (off e) =
+            r .in-second s
+            (heard-strings u (r .in4) (r .in5) j (eqb-false j i e) x p (rw (e, r .heard5 j) at v) s (rw (e, r .heard5 j) at h))
+
+    conduct : Conduct H n t i m calls z
+    conduct =
+        record {
+          result = resultOf H (atSecond (seatOf n t i) m z (heldOf H X2 (r .in4))) (r .in5);
+          ends = r .ends;
+          shows = r .shows;
+          sends = rw (r .packets, r .relayed) (r .sends);
+          hashes = hashes;
+          outbox = λ e. ap (bodies n) (r .packets) ∙ out-happy e;
+          relay = λ e. r .relayed ∙ relay-happy e (r .in4);
+          keeps = λ e. result-happy e (heldOf H X2 (r .in4)) (r .in5);
+          quiet = λ u. ap (bodies n) (r .packets) ∙ out-unhappy u;
+          relays = λ u j first last d x p v. rw (r .relayed) (relays-one u (r .in4) j first last d x p (rw (r .heard4 j) at v));
+          rebuilds = λ u. result-unhappy u (r .in4) (r .in5)
+              ∙ ap (λ (l : List (List ℕ)). rebuilt (recovered (n - t) (present 1 l)))
+              (tabulate-cong n _ _ (λ k l. ap (λ (w : List ℕ). shareFrom (classOf H n (1 + k) z w)) (sym (has-is (1 + k)))));
+        }
+
+-- every good party, by its number, message and calls
+module _ (H : List ℕ → List ℕ) (n t : ℕ) (good : List Good) (z : List ℕ) (bit : ℕ) (opened : OpenedAll H n t good)
+    (called : CalledAll H n t good z bit) (A : Good) (h : List·Memᴰ A good) where
+  -- the bit that it put in
+  pub vote-given : bitGiven (step H n t good 2 A) ≡ some (cond (glad H n t (A .message) z) 1 0)
+  vote-given =
+      let r = called .step2 A h in
+      let b = called .step3 A h in
+      bit-given H n t (A .own) (A .message) (A .calls) z (opened .accepted A h) (r .0) (b .0) bit (b .1) (r .1) (r .2) (b .2) (b .3)
+      ∙ ap {B = Option ℕ} (λ (g : Bool). some (cond g 1 0)) (happy-bit H n t (A .own) (A .message) z)
+
+  pub bit-low : bit ≤ 1
+  bit-low =
+      let r = called .step2 A h in
+      let b = called .step3 A h in
+      bit-small H n t (A .own) (A .message) (A .calls) z (opened .accepted A h) (r .0) (b .0) bit (b .1) (r .1) (r .2) (b .2) (b .3)
+
+  -- on bit 0
+  pub ended : bit ≡ 0
+      → (resultAfter H n t (A .own) (A .message) (A .calls) ≡ some nothing) × (sentBy H n t (A .own) (A .message) (A .calls) ≡ 0)
+  ended b0 =
+      let r = called .step2 A h in
+      let b = called .step3 A h in
+      let e = ran-none H n t (A .own) (A .message) (A .calls) z (opened .accepted A h) (r .0) (b .0) (b .1) (r .1) (r .2) (b .2)
+      (b .3 ∙ ap (λ (k : ℕ). agreeBit k (b .1)) b0) in
+      (e .0, e .1 ∙ ap lengths (out-zero H n t (A .own) (A .message) z) ∙ lengths-none n)
+
+  -- on bit 1
+  pub conducts : bit ≡ 1 → Conduct H n t (A .own) (A .message) (A .calls) z
+  conducts b1 =
+      let r = called .step2 A h in
+      let b = called .step3 A h in
+      let f = called .step4 b1 A h in
+      let g = called .step5 b1 A h in
+      conduct H n t (A .own) (A .message) z (A .calls)
+      (ran-through H n t (A .own) (A .message) (A .calls) z (opened .accepted A h) (r .0) (b .0) (f .0) (g .0) (b .1) (r .1) (r .2) (b .2)
+      (b .3 ∙ ap (λ (k : ℕ). agreeBit k (b .1)) b1) (f .1) (g .1))
+
+-- what is needed was hashed
+pub needed-hashed : (H : List ℕ → List ℕ) (n t : ℕ) (good : List Good) (z : List ℕ) (bit : ℕ) → OpenedAll H n t good
+    → CalledAll H n t good z bit → bit ≡ 1 → (s : List ℕ) → Needed H n t good z s → List·Memᴰ s (allHashed H n t good)
+needed-hashed H n t good z bit opened called b1 s k =
+    in-join (λ (A : Good). hashed H n t (A .own) (A .message) (A .calls)) (k .1)
+    (conducts H n t good z bit opened called (k .0) (k .1) b1 .hashes s (k .2))
