@@ -16,7 +16,7 @@ use Rattle.buffer.specs.Entries.{bodies}
 use Rattle.buffer.proofs.Splice.{take-spliced}
 use Rattle.erasure.specs.Coding.{shares}
 use Rattle.merkle.specs.Shares.{codingStrings}
-use Rattle.party.specs.State.{seatOf, Result, nothing, settled, bytesOf, atRoot, atBit, atFirst, atSecond, atEnd}
+use Rattle.party.specs.State.{seatOf, Result, nothing, settled, resultBytes, atRoot, atBit, atFirst, atSecond, atEnd}
 use Rattle.party.specs.State.{resultIn, messageRoot, happy}
 use Rattle.party.specs.Steps.{turnOf, openCause, Stepped, gives, outboxOf, relayOf, heldOf, resultOf}
 use Rattle.party.specs.declared.Party.{Party}

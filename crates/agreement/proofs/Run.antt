@@ -13,7 +13,7 @@ use lib.Dec.{eqb, ltb}
 use lib.ListN.{length}
 use Rattle.buffer.specs.Splice.{spliced}
 use Rattle.buffer.proofs.Splice.{take-spliced}
-use Rattle.party.specs.State.{Result, nothing, settled, bytesOf, messageIn, atFirst, atSecond, atEnd, resultIn, happy}
+use Rattle.party.specs.State.{Result, nothing, settled, resultBytes, messageIn, atFirst, atSecond, atEnd, resultIn, happy}
 use Rattle.party.specs.Steps.{turnOf, stateCause, rootCause, withRoot, Stepped, gives, refused, writes, bitCause, outboxOf}
 use Rattle.party.specs.Steps.{agreeBitOf, inboxCause, relayOf, heldOf, takeSharesOf, resultOf, ending, takeRelaysOf}
 use Rattle.party.specs.declared.Party.{Party}
@@ -66,7 +66,7 @@ endedWith s r out =
       state = atEnd s r;
       answer = endOf r;
       cause = 0;
-      value = length (bytesOf r);
+      value = length (resultBytes r);
       result = some r;
       buffer = left r out;
     }

@@ -22,7 +22,7 @@ use Rattle.erasure.proofs.Frame.{share-most}
 use Rattle.commitment.specs.Private.{Coded}
 use Rattle.commitment.specs.Rooms.{maxPacket, maxOutbox}
 use Rattle.commitment.proofs.Shared.{length-shares}
-use Rattle.party.specs.State.{Result, nothing, settled, bytesOf, messageIn, atBit, atFirst, atSecond, atEnd, happy}
+use Rattle.party.specs.State.{Result, nothing, settled, resultBytes, messageIn, atBit, atFirst, atSecond, atEnd, happy}
 use Rattle.party.specs.Steps.{Stepped, stepped, gives, writes, rootCause, withRoot, agreeRootOf, bitCause, packetFor, outboxOf, agreeBitOf}
 use Rattle.party.specs.Steps.{inboxCause, relayOf, heldOf, Taken, missing, found, takenBy, packetTaken, takeSharesOf, resultOf, ending, takeRelaysOf}
 use Rattle.party.specs.Private.{Fit}
@@ -58,7 +58,7 @@ value-of bs out = go (ltb (length out) (length bs))
     go true = refl
     go false = refl
 
-ending-value : (x : Party) (r : Result) (out : List ℕ) → length (bytesOf r) ≤ maxMessage → ending x r out .value < nothingValue
+ending-value : (x : Party) (r : Result) (out : List ℕ) → length (resultBytes r) ≤ maxMessage → ending x r out .value < nothingValue
 ending-value x nothing out h = omega arith
 ending-value x (settled m) out h = go (ltb (length out) (length m))
   where

@@ -15,7 +15,7 @@ use lib.ListN.{length, drop, replicate}
 use Rattle.limits.specs.Limits.{maxParties, maxPath, maxShare, maxHashed, parties, numbered}
 use Rattle.limits.proofs.Ranges.{parties-range, numbered-range}
 use Rattle.sha256.specs.Sha256.{sha256}
-use Rattle.merkle.specs.Shares.{blank, sidesOf, told, passes, checkOf}
+use Rattle.merkle.specs.Shares.{blank, sidesOf, answerOf, passes, checkOf}
 use Rattle.merkle.specs.declared.Checked.{Checked}
 use Rattle.merkle.specs.declared.Checked.the-variants as checked
 use Rattle.merkle.proofs.Descend.{sides-fit}
@@ -85,7 +85,7 @@ module _ (n j : ℕ) (share path root : List ℕ) where
   path-checked = go (parties n) refl (numbered n j) refl
     where
       after : Bool → Checked
-      after t = cond (ltb maxHashed (2 + length share)) (checked.Refused 4) (cond (not (eqb (length root) 32)) (checked.Refused 7) (told t))
+      after t = cond (ltb maxHashed (2 + length share)) (checked.Refused 4) (cond (not (eqb (length root) 32)) (checked.Refused 7) (answerOf t))
 
       go : (a : Bool) → parties n ≡ a → (b : Bool) → numbered n j ≡ b
           → cond (not a) (checked.Refused 1) (cond (not b) (checked.Refused 3) (after (passes sha256 n j share (pathAt path 0 Count) Count root)))

@@ -8,7 +8,6 @@ use lib.ListN.{length, take}
 use Rattle.limits.specs.Limits.{maxMessage, numbered, groupCause}
 use Rattle.buffer.specs.Splice.{tabulate}
 use Rattle.buffer.specs.Given.{Given, gave, written}
-use Rattle.buffer.specs.declared.Written.{Written}
 use Rattle.buffer.specs.declared.Written.the-variants.{Refused, Done}
 use Rattle.erasure.specs.Coding.{share, shares}
 use Rattle.merkle.specs.Shares.{blank, sidesOf, leavesOf, rootOf, pathOf, same}
@@ -47,14 +46,14 @@ module _ (H : List ℕ → List ℕ) where
   abbrev pub relayWith : ℕ → ℕ → ℕ → List ℕ → List ℕ
   relayWith n t own m = cond (eqb n 1) [] (packetWith n t m own)
 
--- what comes of sending: that no cause applies and the message has the agreed root, the answer with the bytes written, and the lent buffer
+-- what comes of sending: that none of causes 1 to 4 applies and the message has the agreed root, and the answer with its number and value and the
+-- lent buffer
 pub record Sending : Type 0 where
   pub happy : Bool
-  pub answer : Written
-  pub buffer : List ℕ
+  pub given : Given
 
 abbrev pub sending : Bool → Given → Sending
-sending happy g = record { happy = happy; answer = g .answer; buffer = g .buffer }
+sending happy g = record { happy = happy; given = g }
 
 abbrev pub sent : Sent → List ℕ → Sending
 sent r out = sending (r .happy) (gave (r .answer) out)

@@ -12,7 +12,7 @@ use Rattle.buffer.specs.Given.{Given, gave, written}
 use Rattle.erasure.specs.Coding.{shareLength, shares, encodeOf}
 use Rattle.erasure.specs.Rebuild.{Point, point, present, framed, other, unframed, joined, recovered, answered, rebuildOf}
 use Rattle.erasure.specs.Rebuild.{cause, message, partsAt, allLie, rebuildAtOf}
-use Rattle.erasure.specs.Arrays.{judged}
+use Rattle.erasure.specs.Arrays.{judgedFrame}
 use Rattle.erasure.specs.declared.Places.{Places}
 use Rattle.buffer.specs.declared.Written.the-variants.{Refused}
 
@@ -45,17 +45,17 @@ module _ (b s : ℕ) (f : List ℕ) where
       unfolding unframed
       unframed-stated h = rw (le-ltb (length f) 2 whole, le-ltb maxMessage (size f) within, ne-eqb s (shareLength b (size f)) h)
 
-      pub unframed-judged : s ≡ shareLength b (size f) → unframed b s f ≡ judged f
-      unfolding unframed judged
+      pub unframed-judged : s ≡ shareLength b (size f) → unframed b s f ≡ judgedFrame f
+      unfolding unframed judgedFrame
       unframed-judged stated = rw (le-ltb (length f) 2 whole, le-ltb maxMessage (size f) within, eq-eqb s (shareLength b (size f)) stated)
 
 module _ (f : List ℕ) where
-  pub judged-spoilt : other 0 (rest f) ≡ true → judged f ≡ cause 12
-  unfolding judged
-  judged-spoilt h = rw h
+  pub judged-nonzero : other 0 (rest f) ≡ true → judgedFrame f ≡ cause 12
+  unfolding judgedFrame
+  judged-nonzero h = rw h
 
-  pub judged-found : other 0 (rest f) ≡ false → judged f ≡ message (body f)
-  unfolding judged
+  pub judged-found : other 0 (rest f) ≡ false → judgedFrame f ≡ message (body f)
+  unfolding judgedFrame
   judged-found h = rw h
 
 module _ (b : ℕ) (ps : List Point) where

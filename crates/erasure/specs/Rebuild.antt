@@ -77,10 +77,10 @@ partAt s places i = take (getD (places .len) i 0) (drop (getD (places .from) i 0
 unfoldable pub partsAt : ℕ → List ℕ → Places → List (List ℕ)
 partsAt n s places = tabulate n (partAt s places)
 
--- len bytes from a place on are none; or they are as many as an entry may have, and lie whole in the first f bytes or in the g behind these
+-- len bytes from an offset on are none; or they are no more than an entry may have, and lie whole in the first f bytes or in the g behind these
 unfoldable pub lies : ℕ → ℕ → ℕ → ℕ → Bool
 lies f g from len =
-    eqb len 0 || leb len maxEntry && (leb (from + len) f || leb f from && leb (from + len) (f + g))
+    eqb len 0 || (leb len maxEntry && (leb (from + len) f || (leb f from && leb (from + len) (f + g))))
 
 -- shares 1 to n lie so
 unfoldable pub allLie : ℕ → ℕ → ℕ → Places → Bool

@@ -15,7 +15,7 @@ ghost use Rattle.buffer.specs.Bounds.{Bytes};
 ghost use Rattle.buffer.specs.Given.{gave};
 ghost use Rattle.erasure.specs.Coding.{shareLength, headed, shareOf, encodeOf};
 ghost use Rattle.erasure.specs.Rebuild.{present, recovered, unframed, answered, other, rebuildOf, partsAt, lies, allLie, rebuildAtOf};
-ghost use Rattle.erasure.specs.Arrays.{sharesOf, Lie, Picked, Reach, Table, cell, combined, judged};
+ghost use Rattle.erasure.specs.Arrays.{sharesOf, Lie, Picked, Reach, Table, cell, combined, judgedFrame};
 use buffer::Written;
 use limits::MAX_ENTRY;
 use limits::MAX_MESSAGE;
@@ -483,9 +483,9 @@ fn whole_frame(
 // Writes the message of a frame that states its length, unless the filling is not all zero.
 fn give_message(frame: &[u8], len: usize, out: &mut [u8]) -> Written
     requires { ⌜ (len ≡ size (now frame)) × (len + 2 ≤ length (now frame)) ⌝ }
-    ensures { λ r. ⌜ gave r (now (out .exit)) ≡ answered (judged (now (frame .entry))) (now (out .entry)) ⌝ }
+    ensures { λ r. ⌜ gave r (now (out .exit)) ≡ answered (judgedFrame (now (frame .entry))) (now (out .entry)) ⌝ }
 {
-    if spoilt(frame, len + 2) {
+    if nonzero_from(frame, len + 2) {
         return Written::Refused(12);
     }
     if out.len() < len {
@@ -497,7 +497,7 @@ fn give_message(frame: &[u8], len: usize, out: &mut [u8]) -> Written
 }
 
 // Whether a byte other than 0 stands in a frame from place `from` on.
-fn spoilt(frame: &[u8], from: usize) -> bool
+fn nonzero_from(frame: &[u8], from: usize) -> bool
     ensures { λ r. ⌜ r ≡ other 0 (drop from (now (frame .entry))) ⌝ }
 {
     let mut i = from;

@@ -15,7 +15,7 @@ use Rattle.limits.specs.Limits.{maxParties, maxHashed, parties, numbered}
 use Rattle.limits.proofs.Ranges.{parties-some, parties-range, numbered-within}
 use Rattle.limits.proofs.Booleans.{both}
 use Rattle.merkle.specs.Tree.{folded}
-use Rattle.merkle.specs.Shares.{leafString, leafStrings, blank, sharesCause, leavesOf, sidesOf, same, passes, told, checkOf}
+use Rattle.merkle.specs.Shares.{leafString, leafStrings, blank, sharesCause, leavesOf, sidesOf, same, passes, answerOf, checkOf}
 use Rattle.merkle.specs.declared.Checked.the-variants.{Refused, No, Yes}
 
 -- n equal shares of len bytes together, within the limits
@@ -99,7 +99,7 @@ module _ (H : List ℕ → List ℕ) (n j : ℕ) (share : List ℕ) (path : List
               ne-eqb (length root) 32 h,
             )
 
-        pub check-judged : length root ≡ 32 → checkOf H n j share path count root ≡ told (passes H n j share path count root)
+        pub check-judged : length root ≡ 32 → checkOf H n j share path count root ≡ answerOf (passes H n j share path count root)
         unfolding checkOf
         check-judged h =
             rw (
@@ -174,7 +174,7 @@ no-yes : No ≡ Yes → ⊥
 no-yes q = let z : _≡_ {A = ℕ} 0 1 = cc in omega arith
 
 yes-only : (a b c d p : Bool)
-    → cond a (Refused 1) (cond b (Refused 3) (cond c (Refused 4) (cond d (Refused 7) (told p)))) ≡ Yes → p ≡ true
+    → cond a (Refused 1) (cond b (Refused 3) (cond c (Refused 4) (cond d (Refused 7) (answerOf p)))) ≡ Yes → p ≡ true
 yes-only true b c d p e = absurd (refused-yes 1 e)
 yes-only false true c d p e = absurd (refused-yes 3 e)
 yes-only false false true d p e = absurd (refused-yes 4 e)

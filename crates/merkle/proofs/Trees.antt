@@ -17,7 +17,7 @@ use Rattle.buffer.proofs.Rows.{row-inside}
 use Rattle.merkle.specs.Tree.{Shape, leaf, node, shape, size, sides, root, path, folded}
 use Rattle.merkle.specs.Strings.{treeStrings, checkStrings, Collision}
 use Rattle.merkle.specs.Shares.{leafString, leafStrings, blank, sharesCause, leavesOf, rootOf, sidesOf, pathOf, same, passes}
-use Rattle.merkle.specs.Shares.{codingStrings, stringsOf, told, checkOf}
+use Rattle.merkle.specs.Shares.{codingStrings, stringsOf, answerOf, checkOf}
 use Rattle.merkle.specs.declared.Checked.the-variants.{Yes}
 use Rattle.merkle.proofs.Way.{Way, left, right, way, length-path}
 use Rattle.merkle.proofs.Shape.{size-shape}
@@ -82,7 +82,7 @@ module _ (H : List ℕ → List ℕ) (wide : (s : List ℕ) → length (H s) ≡
   abbrev even : Even n (length shares)
   even = even-of n (length shares) fine
 
-  -- the shares are told by their leaf strings
+  -- the shares are answerOf by their leaf strings
   shares-same : (others : List ℕ) → length others ≡ length shares → leafStrings n others ≡ leafStrings n shares → others ≡ shares
   shares-same others e f =
       let s : ℕ = length shares / n in
@@ -184,7 +184,7 @@ module _ (H : List ℕ → List ℕ) (wide : (s : List ℕ) → length (H s) ≡
         let short : 2 + length (shareAt (length shares / n) shares (j - 1)) ≤ maxHashed = omega (arith, own-length, even .short) in
         check-judged H n j (shareAt (length shares / n) shares (j - 1)) (pathOf H n j (leavesOf H n shares)) (length (sidesOf n j))
         (rootOf H n (leavesOf H n shares)) (even .low) (even .high) one last short length-root
-        ∙ ap told path-passes
+        ∙ ap answerOf path-passes
 
     -- a path that passes is that of the tree's own share
     pub passes-sound : (share : List ℕ) (hashes : List (List ℕ)) (count : ℕ)

@@ -64,9 +64,9 @@ same [] (b ∷ bs) = false
 same (a ∷ as') [] = false
 same (a ∷ as') (b ∷ bs) = eqb a b && same as' bs
 
-abbrev pub told : Bool → Checked
-told true = checked.Yes
-told false = checked.No
+abbrev pub answerOf : Bool → Checked
+answerOf true = checked.Yes
+answerOf false = checked.No
 
 module _ (H : List ℕ → List ℕ) where
   -- the leaf hashes, and blanks up to the greatest number of parties; all blank where a cause applies
@@ -113,4 +113,4 @@ module _ (H : List ℕ → List ℕ) where
       (cond (not (numbered n j)) (checked.Refused 3)
       (cond (ltb maxHashed (2 + length share)) (checked.Refused 4)
       (cond (not (eqb (length root) 32)) (checked.Refused 7)
-      (told (passes n j share path count root)))))
+      (answerOf (passes n j share path count root)))))

@@ -35,7 +35,7 @@ use denote.Triple.Statement.{Contract}
 use denote.Triple.Entry.{Vals, onEntry}
 use denote.Triple.Spec.{tripleOf}
 use denote.Triple.Clauses.{ensured, lasts}
-use Rattle.packet.specs.Answer.{toldEntry, entryAt}
+use Rattle.packet.specs.Answer.{toldEntry, entryRead}
 use Rattle.packet.specs.declared.Reader.{Reader}
 use Rattle.packet.specs.declared.Entry.{Entry}
 use Rattle.packet.proofs.Reader as T
@@ -60,7 +60,7 @@ module _ (κ : Lft) (d : Reader) (n : ℕ) where
   v = sliceVal (d .src .ptr) (length (d .src .now))
 
   abbrev pub found : Entry
-  found = entryAt n (now (d .src)) (d .at)
+  found = entryRead n (now (d .src)) (d .at)
 
   abbrev pub ins : List Val × (List Val × Unit {0})
   ins = (mach ∷ [], (vint w64 n ∷ [], tt))

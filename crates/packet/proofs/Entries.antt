@@ -12,7 +12,7 @@ use Rattle.limits.proofs.Ranges.{parties-some}
 use Rattle.buffer.specs.Entries.{size, fills}
 use Rattle.buffer.proofs.Entries.{whole}
 use Rattle.packet.specs.Format.{readOf}
-use Rattle.packet.specs.Answer.{placed, readAt, ToldEntry, toldEntry, nextAt, entryAt}
+use Rattle.packet.specs.Answer.{placed, readAt, ToldEntry, toldEntry, nextAt, entryRead}
 use Rattle.packet.specs.Private.{bodyAt}
 use Rattle.packet.specs.declared.Entry.{Entry}
 use Rattle.packet.specs.declared.Packet.{Packet}
@@ -25,22 +25,22 @@ pub entry-one : {a b : Entry} → toldEntry a ≡ toldEntry b → a ≡ b
 entry-one e = ap (λ (t : ToldEntry). t .answer) e
 
 module _ (n : ℕ) (s : List ℕ) (at : ℕ) where
-  pub entry-parties : parties n ≡ false → entryAt n s at ≡ record { packet = Refused 1; next = at }
-  unfolding entryAt
+  pub entry-parties : parties n ≡ false → entryRead n s at ≡ record { packet = Refused 1; next = at }
+  unfolding entryRead
   entry-parties h = rw h
 
   module _ (low : 1 ≤ n) (high : n ≤ maxParties) where
-    pub entry-short : length s < nextAt s at → entryAt n s at ≡ record { packet = Refused 8; next = at }
-    unfolding entryAt
+    pub entry-short : length s < nextAt s at → entryRead n s at ≡ record { packet = Refused 8; next = at }
+    unfolding entryRead
     entry-short h = rw (parties-some n low high, lt-ltb (length s) (nextAt s at) h)
 
     module _ (inside : nextAt s at ≤ length s) where
-      pub entry-whole : entryAt n s at ≡ record { packet = readAt n (take (nextAt s at) s) (at + 2); next = nextAt s at }
-      unfolding entryAt
+      pub entry-whole : entryRead n s at ≡ record { packet = readAt n (take (nextAt s at) s) (at + 2); next = nextAt s at }
+      unfolding entryRead
       entry-whole = rw (parties-some n low high, le-ltb (length s) (nextAt s at) inside)
 
       -- the entry's bytes, behind its length
-      pub entry-read : entryAt n s at ≡ record { packet = placed (at + 2) (readOf n (bodyAt at s)); next = nextAt s at }
+      pub entry-read : entryRead n s at ≡ record { packet = placed (at + 2) (readOf n (bodyAt at s)); next = nextAt s at }
       entry-read =
           entry-whole
           ∙ ap (λ (p : Packet). record { packet = p; next = nextAt s at })
@@ -50,7 +50,7 @@ module _ (n : ℕ) (s : List ℕ) (at : ℕ) where
 -- an entry of an inbox, with m entries after it
 pub record Stands (n m at : ℕ) (s : List ℕ) : Type 0 where
   pub inside : nextAt s at ≤ length s
-  pub read : entryAt n s at ≡ record { packet = placed (at + 2) (readOf n (bodyAt at s)); next = nextAt s at }
+  pub read : entryRead n s at ≡ record { packet = placed (at + 2) (readOf n (bodyAt at s)); next = nextAt s at }
   pub tail : fills m (drop (nextAt s at) s) ≡ true
 
 pub entry-stands : (n m k at : ℕ) (s : List ℕ) → 1 ≤ n → n ≤ maxParties → k ≡ suc m → fills k (drop at s) ≡ true → Stands n m at s

@@ -48,11 +48,11 @@ passes-take n j x p r c z e =
     rw (take-at p r c e, take-all c p h)
 
 -- a check that answers yes passed, and one that answers otherwise did not
-pub told-true : (t : Bool) → shares.told t ≡ checked.Yes → t ≡ true
+pub told-true : (t : Bool) → shares.answerOf t ≡ checked.Yes → t ≡ true
 told-true true e = refl
 told-true false e = absurd (let z : _≡_ {A = ℕ} 0 1 = cc in omega arith)
 
-pub told-false : (x : Checked) (t : Bool) → x ≡ shares.told t → OneOf (0 ∷ 1 ∷ []) (tagOf checked-type x) → t ≡ false
+pub told-false : (x : Checked) (t : Bool) → x ≡ shares.answerOf t → OneOf (0 ∷ 1 ∷ []) (tagOf checked-type x) → t ≡ false
 told-false x true e k = absurd (miss (0 ∷ 1 ∷ []) 2 tt (subst (λ (y : Checked). OneOf (0 ∷ 1 ∷ []) (tagOf checked-type y)) e k))
 told-false x false e k = refl
 

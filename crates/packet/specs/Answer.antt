@@ -70,9 +70,9 @@ abbrev pub nextAt : List ℕ → ℕ → ℕ
 nextAt s at = at + 2 + size (drop at s)
 
 -- the entry at a place of an inbox, among n parties: cause 1, then 8 where it runs short, and the place stays; else the packet that its bytes
--- are, by its place in s, and the place behind it
-unfoldable pub entryAt : ℕ → List ℕ → ℕ → Entry
-entryAt n s at =
+-- are, by its place in s, and the place behind it, also where the packet is unreadable: a step falls to the next sender
+unfoldable pub entryRead : ℕ → List ℕ → ℕ → Entry
+entryRead n s at =
     cond (not (parties n)) (record { packet = packet.Refused 1; next = at })
     (cond (ltb (length s) (nextAt s at)) (record { packet = packet.Refused 8; next = at })
     (record { packet = readAt n (take (nextAt s at) s) (at + 2); next = nextAt s at }))
@@ -91,7 +91,7 @@ verdictCause judged.Silent = 0
 verdictCause judged.Faulty = 0
 verdictCause judged.Valid = 0
 
--- the value given with it: whether steps 4 and 5 may take the packet
+-- the value given with it: whether steps 4 and 5 take a packet that was read from these bytes
 abbrev pub verdictValid : Judged → Bool
 verdictValid (judged.Refused k) = false
 verdictValid judged.Silent = false

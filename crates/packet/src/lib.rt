@@ -7,7 +7,7 @@ ghost use Rattle.buffer.specs.Given.{gave};
 ghost use Rattle.buffer.specs.Splice.{spliced};
 ghost use Rattle.packet.specs.Format.{packetOf, chained, shareIn};
 ghost use Rattle.sha256.specs.Sha256.{sha256};
-ghost use Rattle.packet.specs.Answer.{told, readAt, placed, toldEntry, entryAt, pathAt, verdict, verdictOn, judgeOf};
+ghost use Rattle.packet.specs.Answer.{told, readAt, placed, toldEntry, entryRead, pathAt, verdict, verdictOn, judgeOf};
 ghost use Rattle.packet.specs.Answer.{writeCause, writeOf, writeEntryOf};
 use buffer::Written;
 use limits::MAX_PATH;
@@ -107,7 +107,7 @@ fn wide(x: u8) -> usize
 
 // Reads the entry that stands at a place of an inbox, among n parties. The place stays where it is turned away.
 pub fn read_entry(n: usize, s: &[u8], at: usize) -> Entry
-    ensures { λ r. ⌜ toldEntry r ≡ toldEntry (entryAt n (now (s .entry)) at) ⌝ }
+    ensures { λ r. ⌜ toldEntry r ≡ toldEntry (entryRead n (now (s .entry)) at) ⌝ }
 {
     if !limits::parties(n) {
         return Entry {
@@ -367,14 +367,14 @@ pub fn start<'a>(src: &'a [u8]) -> Reader<'a>
 
 // The packet of the entry at the reader's place, among n parties.
 pub fn next<'a>(r: Reader<'a>, n: usize) -> Packet
-    ensures { λ p. ⌜ told p ≡ told (entryAt n (now (r .entry .src)) (r .entry .at) .packet) ⌝ }
+    ensures { λ p. ⌜ told p ≡ told (entryRead n (now (r .entry .src)) (r .entry .at) .packet) ⌝ }
 {
     read_entry(n, r.src, r.at).packet
 }
 
 // The reader at the next entry.
 pub fn moved<'a>(r: Reader<'a>, n: usize) -> Reader<'a>
-    ensures { λ q. ⌜ (q .src ≡ r .entry .src) × (q .at ≡ entryAt n (now (r .entry .src)) (r .entry .at) .next) ⌝ }
+    ensures { λ q. ⌜ (q .src ≡ r .entry .src) × (q .at ≡ entryRead n (now (r .entry .src)) (r .entry .at) .next) ⌝ }
 {
     Reader {
         src: r.src,

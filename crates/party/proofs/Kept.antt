@@ -11,7 +11,7 @@ use Rattle.buffer.specs.Splice.{putOf}
 use Rattle.buffer.proofs.Splice.{put-fits, spliced-start}
 use Rattle.merkle.proofs.Descend.{drop-replicate}
 use Rattle.merkle.specs.Shares.{blank}
-use Rattle.party.specs.State.{padded, messageIn, shareHeld, waiting, atRoot, atBit, atFirst, atSecond, atEnd, Result, outcomeOf, bytesOf}
+use Rattle.party.specs.State.{padded, messageIn, shareHeld, waiting, atRoot, atBit, atFirst, atSecond, atEnd, Result, outcomeOf, resultBytes}
 use Rattle.party.specs.declared.Stage.{Stage}
 use Rattle.party.specs.declared.Stage.the-variants.{Ended}
 use Rattle.party.specs.declared.Seat.{Seat}
@@ -48,7 +48,7 @@ pub waiting-kept : (s : Seat) (stage : Stage) (bs m r z a y : List ℕ) (len hel
 waiting-kept s stage bs m r z a y len held e l q p h = rw (e, l, q, p, h)
 
 -- a state with a result kept has ended
-pub ended-kept : (s : Seat) (r : Result) (bs : List ℕ) → bs ≡ padded maxMessage (bytesOf r)
+pub ended-kept : (s : Seat) (r : Result) (bs : List ℕ) → bs ≡ padded maxMessage (resultBytes r)
     → _≡_ {A = Party} (record {
       seat = s;
       stage = Ended (outcomeOf r);

@@ -16,7 +16,7 @@ use Rattle.erasure.specs.Rebuild.{Recovered, present, recovered}
 use Rattle.erasure.specs.Rebuild as rebuild
 use Rattle.packet.proofs.Reading.{fields-of}
 use Rattle.packet.proofs.Class.{passing}
-use Rattle.party.specs.State.{Result, nothing, settled, bytesOf, messageIn, atRoot, atBit, atFirst, atSecond, atEnd, broken, happy}
+use Rattle.party.specs.State.{Result, nothing, settled, resultBytes, messageIn, atRoot, atBit, atFirst, atSecond, atEnd, broken, happy}
 use Rattle.party.specs.Steps.{turnOf, openOf, bitCause, inboxCause, agreeRootOf, outboxOf, agreeBitOf, Taken, missing, found, takenBy}
 use Rattle.party.specs.Steps.{shareTaken, relayOf, heldOf, takeSharesOf, gathered, rebuilt, resultOf, ending, takeRelaysOf, writes, Stepped}
 use Rattle.party.specs.declared.Seat.{Seat}
@@ -32,7 +32,7 @@ use Rattle.party.proofs.Checks.{took}
 room-for : (x next : Party) (bs out : List ℕ) → length bs ≤ length out → writes x next bs out .cause ≡ 0
 room-for x next bs out h = rw (le-ltb (length out) (length bs) h)
 
-room-for-end : (x : Party) (r : Result) (out : List ℕ) → length (bytesOf r) ≤ length out → ending x r out .cause ≡ 0
+room-for-end : (x : Party) (r : Result) (out : List ℕ) → length (resultBytes r) ≤ length out → ending x r out .cause ≡ 0
 room-for-end x nothing out h = refl
 room-for-end x (settled m) out h = rw (le-ltb (length out) (length m) h)
 
@@ -72,7 +72,7 @@ module _ (H : List ℕ → List ℕ) where
 
     -- step 5
     pub relays-accepted : (inbox out : List ℕ) → turnOf (x .stage) ≡ 5 → fills (x .seat .n) inbox ≡ true
-        → length (bytesOf (resultOf H x inbox)) ≤ length out → takeRelaysOf H x inbox out .cause ≡ 0
+        → length (resultBytes (resultOf H x inbox)) ≤ length out → takeRelaysOf H x inbox out .cause ≡ 0
     unfolding takeRelaysOf
     relays-accepted inbox out turn filled room =
         let e = inbox-fine 5 x inbox (state-fine 5 x whole turn) filled in
@@ -100,7 +100,7 @@ module _ (s : Seat) (low : 1 ≤ s .n) (high : s .n ≤ maxParties) (faults : 2 
     unfolding atSecond
     second-whole z y few = broken-stage (atSecond s m z y) group first last short few
 
-  pub end-whole : (r : Result) → length (bytesOf r) ≤ maxMessage → broken (atEnd s r) ≡ false
+  pub end-whole : (r : Result) → length (resultBytes r) ≤ maxMessage → broken (atEnd s r) ≡ false
   unfolding atEnd
   end-whole nothing h = broken-stage (atEnd s nothing) group first last (omega arith) (omega arith)
   end-whole (settled m) h =
@@ -123,18 +123,18 @@ module _ (H : List ℕ → List ℕ) (x : Party) (whole : broken x ≡ false) wh
           let q = passing H (x .seat .n) (x .seat .own) (x .root) (k .packet) y p (k .good) in
           rw e (fields-of (x .seat .n) (k .packet) (x .seat .own) y p (q .reads) .most)
 
-  rebuilt-short : (r : Recovered) → Short r → length (bytesOf (rebuilt r)) ≤ maxMessage
+  rebuilt-short : (r : Recovered) → Short r → length (resultBytes (rebuilt r)) ≤ maxMessage
   rebuilt-short (rebuild.cause k) h = omega arith
   rebuilt-short (rebuild.message m) h = h
 
-  pub result-short : (inbox : List ℕ) → length (bytesOf (resultOf H x inbox)) ≤ maxMessage
+  pub result-short : (inbox : List ℕ) → length (resultBytes (resultOf H x inbox)) ≤ maxMessage
   unfolding resultOf
   result-short inbox = go (happy H x)
     where
       r : Recovered
       r = recovered (x .seat .n - x .seat .t) (present 1 (gathered H x 1 (bodies (x .seat .n) inbox)))
 
-      go : (b : Bool) → length (bytesOf (cond b (settled (messageIn x))
+      go : (b : Bool) → length (resultBytes (cond b (settled (messageIn x))
           (rebuilt (recovered (x .seat .n - x .seat .t) (present 1 (gathered H x 1 (bodies (x .seat .n) inbox))))))) ≤ maxMessage
       go true = message-short
       go false =

@@ -66,9 +66,9 @@ abbrev pub outcomeOf : Result → Outcome
 outcomeOf nothing = Nothing
 outcomeOf (settled m) = Message (length m)
 
-abbrev pub bytesOf : Result → List ℕ
-bytesOf nothing = []
-bytesOf (settled m) = m
+abbrev pub resultBytes : Result → List ℕ
+resultBytes nothing = []
+resultBytes (settled m) = m
 
 -- an ended party holds its result's bytes, and neither message, root nor share
 unfoldable pub atEnd : Seat → Result → Party
@@ -76,17 +76,17 @@ atEnd s r =
     record {
       seat = s;
       stage = Ended (outcomeOf r);
-      message = padded maxMessage (bytesOf r);
+      message = padded maxMessage (resultBytes r);
       len = 0;
       root = blank;
       share = padded maxShare [];
       held = 0;
     }
 
--- a result told by its outcome, with the bytes beside it
-abbrev pub told : Outcome → List ℕ → Result
-told Nothing bs = nothing
-told (Message l) bs = settled (take l bs)
+-- a result resultFrom by its outcome, with the bytes beside it
+abbrev pub resultFrom : Outcome → List ℕ → Result
+resultFrom Nothing bs = nothing
+resultFrom (Message l) bs = settled (take l bs)
 
 -- the result that a state holds; none before the end
 abbrev pub resultAt : Stage → List ℕ → Option Result
@@ -94,7 +94,7 @@ resultAt Root bs = none
 resultAt Bit bs = none
 resultAt First bs = none
 resultAt Second bs = none
-resultAt (Ended o) bs = some (told o bs)
+resultAt (Ended o) bs = some (resultFrom o bs)
 
 abbrev pub resultIn : Party → Option Result
 resultIn x = resultAt (x .stage) (x .message)

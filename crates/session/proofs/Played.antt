@@ -28,7 +28,7 @@ use Rattle.merkle.proofs.Judged.{same-true, same-refl}
 use Rattle.merkle.proofs.Trees.{length-root}
 use Rattle.packet.specs.Inbox.{inboxOf}
 use Rattle.packet.proofs.Inbox.{inbox-fills, inbox-bodies}
-use Rattle.party.specs.State.{seatOf, Result, nothing, bytesOf, atRoot, atBit, atFirst, atSecond, atEnd, resultIn, messageRoot, happy}
+use Rattle.party.specs.State.{seatOf, Result, nothing, resultBytes, atRoot, atBit, atFirst, atSecond, atEnd, resultIn, messageRoot, happy}
 use Rattle.party.specs.Steps.{turnOf, openCause, withRoot, Stepped, gives, valueOf, outboxOf, heldOf, relayOf}
 use Rattle.party.specs.Steps as steps
 use Rattle.party.specs.declared.Party.{Party}
@@ -319,7 +319,7 @@ module _ (H : List ℕ → List ℕ) (wide : (x : List ℕ) → length (H x) ≡
           let w2 = first-whole (seatOf n t p) (c .low) (c .high) (c .faults) one last m (c .short) z in
           let w = second-whole (seatOf n t p) (c .low) (c .high) (c .faults) one last m (c .short) z (heldOf H X2 (firstInbox H s p))
           (held-short H X2 w2 (firstInbox H s p)) in
-          let fits : length (bytesOf (steps.resultOf H X3 (secondInbox H s p))) ≤ length room5 =
+          let fits : length (resultBytes (steps.resultOf H X3 (secondInbox H s p))) ≤ length room5 =
           omega (arith, result-short H X3 w (secondInbox H s p), length-replicate {A = ℕ} maxMessage 0) in
           ap (λ (x : Party). steps.takeRelaysOf H x (secondInbox H s p) room5 .cause) state-4
           ∙ relays-accepted H X3 w (secondInbox H s p) room5 turn-second (filled (λ k. secondFrom p (k + 1))) fits

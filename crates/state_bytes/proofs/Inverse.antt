@@ -15,7 +15,7 @@ use Rattle.buffer.specs.Entries.{size}
 use Rattle.buffer.specs.Given.{Given, written}
 use Rattle.buffer.proofs.Given.{written-done}
 use Rattle.merkle.specs.Shares.{blank}
-use Rattle.party.specs.State.{Result, nothing, settled, bytesOf, padded, atRoot, atBit, atFirst, atSecond, atEnd}
+use Rattle.party.specs.State.{Result, nothing, settled, resultBytes, padded, atRoot, atBit, atFirst, atSecond, atEnd}
 use Rattle.party.specs.declared.Outcome.the-variants as outcome
 use Rattle.party.specs.declared.Stage.{Stage}
 use Rattle.party.specs.declared.Stage.the-variants.{Root, Bit, First, Second, Ended}
@@ -168,7 +168,7 @@ module _ (s : Seat) (high : s .n ≤ maxParties) (faults : 2 * s .t < s .n) (las
       unfolding atSecond
       second-storable y few = formed Second m z y (length m) short root few (omega arith) refl
 
-  pub end-storable : (r : Result) → length (bytesOf r) ≤ maxMessage → Storable (atEnd s r)
+  pub end-storable : (r : Result) → length (resultBytes r) ≤ maxMessage → Storable (atEnd s r)
   unfolding atEnd
   end-storable nothing h = formed (Ended outcome.Nothing) [] blank [] 0 h refl (omega arith) (omega arith) refl
   end-storable (settled m) h = formed (Ended (outcome.Message (length m))) m blank [] 0 h refl (omega arith) (omega (arith, h)) refl

@@ -13,30 +13,30 @@ use Rattle.buffer.specs.declared.Written.the-variants.{Short, Done}
 use Rattle.buffer.proofs.Splice.{put-fits}
 use Rattle.buffer.proofs.Given.{written-short, written-done}
 use Rattle.erasure.specs.Rebuild.{Recovered, message, answered, other}
-use Rattle.erasure.specs.Arrays.{judged}
-use Rattle.erasure.proofs.Outcomes.{judged-spoilt, judged-found}
+use Rattle.erasure.specs.Arrays.{judgedFrame}
+use Rattle.erasure.proofs.Outcomes.{judged-nonzero, judged-found}
 use borrow.Author.Needs.{needs}
 use Rattle.erasure.proofs.give_message.Statement.{statement}
 use Rattle.erasure.proofs.give_message.Tie as tie
 
-abbrev Entry : tie.After-spoilt → tie.Start
+abbrev Entry : tie.After-nonzero-from → tie.Start
 Entry d = d .before .before .before
 
 -- the frame
 abbrev F : tie.Start → List ℕ
 F st = st .args .frame .now
 
-filling : (d : tie.After-spoilt) → drop (Entry d .args .len + 2) (F (Entry d)) ≡ rest (F (Entry d))
+filling : (d : tie.After-nonzero-from) → drop (Entry d .args .len + 2) (F (Entry d)) ≡ rest (F (Entry d))
 unfolding rest
 filling d =
     let st = Entry d in
     ap (λ (n : ℕ). drop n (F st)) (add-comm (st .args .len) 2 ∙ ap (λ (n : ℕ). 2 + n) (st .pre .0))
 
 -- where the filling is zero, the frame has a message of the length stated
-found : (c : tie.Else1) → judged (F (Entry (c .before))) ≡ message (body (F (Entry (c .before))))
+found : (c : tie.Else1) → judgedFrame (F (Entry (c .before))) ≡ message (body (F (Entry (c .before))))
 found c =
     let d = c .before in
-    judged-found (F (Entry d)) (ap (other 0) (sym (filling d)) ∙ sym (d .spoilt .ensures) ∙ c .if1 .left)
+    judged-found (F (Entry d)) (ap (other 0) (sym (filling d)) ∙ sym (d .nonzero-from .ensures) ∙ c .if1 .left)
 
 text : (st : tie.Start) → body (F st) ≡ take (st .args .len) (drop 2 (F st))
 unfolding body
@@ -45,18 +45,18 @@ text st = ap (λ (n : ℕ). take n (drop 2 (F st))) (sym (st .pre .0))
 text-length : (st : tie.Start) → length (body (F st)) ≡ st .args .len
 text-length st = ap length (text st) ∙ length-take-le (st .args .len) (drop 2 (F st)) (omega (arith, length-drop 2 (F st)))
 
-add-spoilt : tie.Need-add-spoilt
-add-spoilt c = search needs
+add-nonzero-from : tie.Need-add-nonzero-from
+add-nonzero-from c = search needs
 
-spoilt-requires : tie.Need-spoilt-requires
-spoilt-requires c κs = search needs
+nonzero-from-requires : tie.Need-nonzero-from-requires
+nonzero-from-requires c κs = search needs
 
 returns : tie.Need-returns
 returns c =
     let d = c .before in
     let st = Entry d in
     sym (ap (λ (r : Recovered). answered r (st .args .out .now))
-    (judged-spoilt (F st) (ap (other 0) (sym (filling d)) ∙ sym (d .spoilt .ensures) ∙ c .if1 .taken)))
+    (judged-nonzero (F st) (ap (other 0) (sym (filling d)) ∙ sym (d .nonzero-from .ensures) ∙ c .if1 .taken)))
 
 returns-2 : tie.Need-returns-2
 returns-2 c =
@@ -101,8 +101,8 @@ pub give-message-spec : {M : Type 1} → statement M
 give-message-spec =
     tie.close
     (tie.spec
-    add-spoilt
-    spoilt-requires
+    add-nonzero-from
+    nonzero-from-requires
     returns
     returns-2
     add-end

@@ -8,7 +8,7 @@ use Rattle.limits.specs.Limits.{maxMessage}
 use Rattle.buffer.specs.Entries.{size}
 use Rattle.erasure.specs.Coding.{shareLength}
 use Rattle.erasure.specs.Rebuild.{Recovered, answered}
-use Rattle.erasure.specs.Arrays.{combined, judged}
+use Rattle.erasure.specs.Arrays.{combined, judgedFrame}
 use Rattle.erasure.proofs.Arrays.{blocks-small, length-combined}
 use Rattle.erasure.proofs.Frame.{share-low, long-frame}
 use Rattle.erasure.proofs.Outcomes.{unframed-tiny, unframed-over, unframed-stated, unframed-judged}
@@ -149,7 +149,7 @@ returns-5 c =
     let d = At (Read e) in
     let st = Entry d in
     g .give-message .ensures
-    ∙ ap (λ (f : List ℕ). answered (judged f) (st .args .out .now)) (d .whole-frame .ensures)
+    ∙ ap (λ (f : List ℕ). answered (judgedFrame f) (st .args .out .now)) (d .whole-frame .ensures)
     ∙ sym (ap (λ (r : Recovered). answered r (st .args .out .now))
     (unframed-judged (st .args .b) (st .args .s) (F st) (whole d) (within (e .before .before)) (as-stated e)))
 

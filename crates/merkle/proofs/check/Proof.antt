@@ -10,7 +10,7 @@ use Rattle.limits.proofs.Booleans.{denied}
 use Rattle.limits.proofs.Ranges.{parties-told, numbered-told}
 use Rattle.sha256.specs.Sha256.{sha256}
 use Rattle.merkle.specs.Tree.{folded}
-use Rattle.merkle.specs.Shares.{leafString, sidesOf, same, passes, told, checkOf}
+use Rattle.merkle.specs.Shares.{leafString, sidesOf, same, passes, answerOf, checkOf}
 use Rattle.merkle.proofs.Judged.{check-parties, check-number, check-long, check-root, check-judged}
 use Rattle.merkle.proofs.Judged.{passes-miscount, passes-same}
 use Rattle.merkle.proofs.Upward.{folded-same}
@@ -31,7 +31,7 @@ Entry e = e .before .before .before .before .before .before .before .before
 
 judged : (e : tie.Else4) → let a = Entry e .args in
     checkOf sha256 (a .n) (a .j) (a .share .now) (a .path) (a .count) (a .root .now)
-    ≡ told (passes sha256 (a .n) (a .j) (a .share .now) (a .path) (a .count) (a .root .now))
+    ≡ answerOf (passes sha256 (a .n) (a .j) (a .share .now) (a .path) (a .count) (a .root .now))
 judged e =
     let a = Entry e .args in
     let k = e .before .before in
@@ -119,7 +119,7 @@ returns-5 c =
     let w = c .before .before in
     let a = Entry (w .before) .args in
     sym (judged (w .before)
-    ∙ ap told (passes-miscount sha256 (a .n) (a .j) (a .share .now) (a .path) (a .count) (a .root .now)
+    ∙ ap answerOf (passes-miscount sha256 (a .n) (a .j) (a .share .now) (a .path) (a .count) (a .root .now)
     (λ q. c .if5 .taken (q ∙ sym (w .way-down .ensures .1)))))
 
 leaf-hash-requires : tie.Need-leaf-hash-requires
@@ -136,12 +136,12 @@ equal-requires c κs = search needs
 returns-6 : tie.Need-returns-6
 returns-6 c =
     let q = c .before in
-    sym (judged (q .before .before .before .before .before .before .before) ∙ ap told (answer q ∙ c .if6 .taken))
+    sym (judged (q .before .before .before .before .before .before .before) ∙ ap answerOf (answer q ∙ c .if6 .taken))
 
 returns-7 : tie.Need-returns-7
 returns-7 c =
     let q = c .before in
-    sym (judged (q .before .before .before .before .before .before .before) ∙ ap told (answer q ∙ c .if6 .left))
+    sym (judged (q .before .before .before .before .before .before .before) ∙ ap answerOf (answer q ∙ c .if6 .left))
 
 pub check-spec : {M : Type 1} → statement M
 check-spec =

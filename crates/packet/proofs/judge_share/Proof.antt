@@ -8,7 +8,7 @@ use native.Mathlib.Omega.{arith}
 use lib.ListN.{length, take, drop, length-drop, replicate}
 use lib.Seq.{length-take-le}
 use Rattle.limits.specs.Limits.{maxPath}
-use Rattle.merkle.specs.Shares.{blank, passes, told, checkOf}
+use Rattle.merkle.specs.Shares.{blank, passes, answerOf, checkOf}
 use Rattle.merkle.proofs.Judged.{check-judged}
 use Rattle.packet.specs.Format.{hashes}
 use Rattle.packet.proofs.Path.{padded, path-there, length-hashes}
@@ -68,18 +68,18 @@ checked k =
 
 judged : (k : tie.After-check) → let a = Entry k .args in
     checkOf sha256 (a .n) (a .j) (X k) (Path k) (a .count) (a .root .now)
-    ≡ told (passes sha256 (a .n) (a .j) (X k) (Path k) (a .count) (a .root .now))
+    ≡ answerOf (passes sha256 (a .n) (a .j) (X k) (Path k) (a .count) (a .root .now))
 judged k =
     let a = Entry k .args in
     check-judged sha256 (a .n) (a .j) (X k) (Path k) (a .count) (a .root .now)
     (omega arith) (omega arith) (omega arith) (omega arith) (omega (arith, long k)) (omega arith)
 
-answer : (k : tie.After-check) → k .check .result ≡ told (Leads k)
+answer : (k : tie.After-check) → k .check .result ≡ answerOf (Leads k)
 answer k =
     let a = Entry k .args in
     let r = drop (a .from + a .len) (a .s .now) in
     checked k ∙ judged k
-    ∙ ap told (passes-take (a .n) (a .j) (X k) (hashes (a .count) r) (replicate (maxPath - a .count) blank)
+    ∙ ap answerOf (passes-take (a .n) (a .j) (X k) (hashes (a .count) r) (replicate (maxPath - a .count) blank)
     (a .count) (a .root .now) (length-hashes (a .count) r))
 
 returns : tie.Need-returns

@@ -1,18 +1,16 @@
 -- `party::Party::send` meets its contract: what the message gives is written where it has the agreed root, and the answer says whether the state is
 -- the next one. Assumes nothing.
 use mathlib.Core.Path.{_≡_, refl, sym, ap, _∙_}
-use mathlib.Core.Bool.{Bool, true, false, cond, true≢false}
+use mathlib.Core.Bool.{Bool, true, false, true≢false}
 use mathlib.Core.List.{List}
 use Prim.Native.Nat.{ℕ, _≤_}
 use native.Mathlib.Omega.{arith}
 use borrow.Author.Needs.{needs}
-use lib.Dec.{ltb}
 use lib.ListN.{length}
 use Rattle.sha256.specs.Sha256.{sha256}
 use Rattle.limits.specs.Limits.{maxMessage}
-use Rattle.buffer.specs.Splice.{spliced}
-use Rattle.buffer.specs.Given.{Given, gave, written}
-use Rattle.buffer.specs.declared.Written.the-variants.{Short, Done}
+use Rattle.buffer.specs.Given.{gave, written}
+use Rattle.buffer.specs.declared.Written.the-variants.{Done}
 use Rattle.merkle.specs.Shares.{same}
 use Rattle.commitment.specs.Commitment.{messageRoot, mailWith, Sending, sending, sent, sendOf}
 use Rattle.commitment.proofs.Outcomes.{send-other, send-own}
@@ -50,31 +48,21 @@ after-requires c κs = search needs
 same-length : tie.Need-same-length
 same-length c = search needs
 
--- what is written, told by its answer and its buffer
-regiven : (bs out : List ℕ) → gave (written bs out .answer) (written bs out .buffer) ≡ written bs out
-unfolding written
-regiven bs out = go (ltb (length out) (length bs))
-  where
-    go : (t : Bool) → let g = cond t (gave (Short (length bs)) out) (gave (Done (length bs)) (spliced out 0 bs)) in
-        gave (g .answer) (g .buffer) ≡ g
-    go true = refl
-    go false = refl
-
 -- what came of sending, by whether the message has the root
 told : (b : Bool) (r : Sending) (bs out : List ℕ) → (b ≡ true → r ≡ sending true (written bs out))
     → (b ≡ false → r ≡ sending false (gave (Done 0) out))
-    → (r .happy ≡ b) × (r .happy ≡ true → gave (r .answer) (r .buffer) ≡ written bs out) × (r .happy ≡ false → r .buffer ≡ out)
+    → (r .happy ≡ b) × (r .happy ≡ true → r .given ≡ written bs out) × (r .happy ≡ false → r .given .buffer ≡ out)
 told true r bs out own other =
     let e = own refl in (
       ap (λ (s : Sending). s .happy) e,
-      λ h. ap (λ (s : Sending). gave (s .answer) (s .buffer)) e ∙ regiven bs out,
+      λ h. ap (λ (s : Sending). s .given) e,
       λ h. absurd (true≢false (sym (ap (λ (s : Sending). s .happy) e) ∙ h)),
     )
 told false r bs out own other =
     let e = other refl in (
       ap (λ (s : Sending). s .happy) e,
       λ h. absurd (true≢false (sym h ∙ ap (λ (s : Sending). s .happy) e)),
-      λ h. ap (λ (s : Sending). s .buffer) e,
+      λ h. ap (λ (s : Sending). s .given .buffer) e,
     )
 
 returns : tie.Need-returns

@@ -1,12 +1,12 @@
--- `erasure::spoilt` meets its contract: that a byte is not 0 is that one still to come is not. Assumes nothing.
+-- `erasure::nonzero_from` meets its contract: that a byte is not 0 is that one still to come is not. Assumes nothing.
 use mathlib.Core.Path.{_≡_, refl, sym, _∙_}
 use Prim.Native.Nat.{_-_}
 use lib.ListN.{length, drop}
 use Rattle.erasure.specs.Rebuild.{other}
 use Rattle.erasure.proofs.Other.{other-end, other-here, other-more}
 use borrow.Author.Needs.{needs}
-use Rattle.erasure.proofs.spoilt.Statement.{statement}
-use Rattle.erasure.proofs.spoilt.Tie as tie
+use Rattle.erasure.proofs.nonzero_from.Statement.{statement}
+use Rattle.erasure.proofs.nonzero_from.Tie as tie
 
 abbrev Inv-loop : tie.InvT-loop
 Inv-loop frame from i₀ i = other 0 (drop from frame) ≡ other 0 (drop i frame)
@@ -41,5 +41,5 @@ returns-2 c =
     let l = c .before in
     sym (l .loop .inv ∙ other-end 0 (l .before .args .frame .now) (l .loop .i) (c .loop-test .left))
 
-pub spoilt-spec : {M : Type 1} → statement M
-spoilt-spec = tie.close (tie.spec Inv-loop μ-loop loop-holds shared-slice-read-if1 returns add-i loop-less loop-again returns-2)
+pub nonzero-from-spec : {M : Type 1} → statement M
+nonzero-from-spec = tie.close (tie.spec Inv-loop μ-loop loop-holds shared-slice-read-if1 returns add-i loop-less loop-again returns-2)
