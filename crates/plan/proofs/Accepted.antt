@@ -1,21 +1,23 @@
--- What holds of a plan that is taken: n and t are within their limits, a given root has 32 bytes, and no book is over its limit. By the tests
+-- What holds of a plan that is taken: n and t are within their limits, the fields of options are there, and no book is over its limit. By the tests
 -- of the definitions, and by induction along the parties. Assumes nothing.
-use mathlib.Core.Path.{_≡_, refl, subst}
+use mathlib.Core.Path.{_≡_, refl, ap, subst, _∙_}
 use mathlib.Core.Bool.{Bool, true, false, cond, not, _||_, false≢true}
 use mathlib.Core.List.{List, []}
 use mathlib.Core.Option.{Option, none}
-use Prim.Native.Nat.{ℕ, zero, suc, _+_, _≤_, _<_, _^_}
+use Prim.Native.Nat.{ℕ, zero, suc, _+_, _-_, _≤_, _<_, _^_}
 use native.Mathlib.Omega.{arith}
 use borrow.Author.Tests.{ltb-false, eqb-true, eqb-false}
 use lib.Dec.{ltb, eqb, lit<}
-use lib.ListN.{length, drop, length-take, length-drop}
+use lib.ListN.{length, getD, drop, length-take, length-drop}
 use lib.Seq.{length-take-le}
 use Rattle.limits.specs.Limits.{maxMessage, maxPlan, groupCause}
 use Rattle.buffer.specs.Bounds.{Bytes}
 use Rattle.buffer.specs.Entries.{size, body, rest}
 use Rattle.buffer.proofs.Bounds.{body-bytes, rest-bytes}
 use Rattle.limits.proofs.Booleans.{neither}
-use Rattle.plan.specs.Layout.{names, under, longBook, unnamed, lowest, nIn, tIn, optionsIn, afterRoot, afterBit, hasRoot, rootIn, goodIn, booksIn, endOf, empty, laidOut}
+use Rattle.plan.proofs.Options.{field-inside}
+use Rattle.plan.specs.Layout.{names, under, longBook, unnamed, lowest, fields, nIn, tIn, optionsIn, fieldAt, fieldIn, hasRoot, rootIn, goodAt, goodIn, booksIn}
+use Rattle.plan.specs.Layout.{mapWidth, endOf, empty, laidOut}
 use Rattle.plan.specs.Plan.{planCause}
 
 pub record Accepted (s : List ℕ) : Type 0 where
@@ -52,24 +54,29 @@ accepted s e =
     record { group = h .0; laid = either (ltb maxPlan (length s)) (laidOut s) (h .1); short = h .2 }
 
 -- the books start within the plan
-first-tests : (a b c d : Bool) (o : Option (List ℕ)) → empty (cond (a || b || c || d) none o) ≡ true → c ≡ false
-first-tests true b c d o e = absurd (false≢true e)
-first-tests false true c d o e = absurd (false≢true e)
-first-tests false false true d o e = absurd (false≢true e)
-first-tests false false false d o e = refl
+first-tests : (a b c : Bool) (o : Option (List ℕ)) → empty (cond (a || b || c) none o) ≡ true → a ≡ false
+first-tests true b c o e = absurd (false≢true e)
+first-tests false b c o e = refl
 
-pub books-inside : (s : List ℕ) → laidOut s ≡ true → afterBit s + 2 ≤ length s
+pub books-inside : (s : List ℕ) → laidOut s ≡ true → goodAt s + mapWidth ≤ length s
 unfolding laidOut endOf
 books-inside s l =
-    ltb-false (length s) (afterBit s + 2)
-    (first-tests (ltb (length s) 3) (not (ltb (optionsIn s) 4)) (ltb (length s) (afterBit s + 2)) (not (ltb (goodIn s) (2 ^ nIn s))) _ l)
+    ltb-false (length s) (goodAt s + mapWidth)
+    (first-tests (ltb (length s) (goodAt s + mapWidth)) (not (ltb (optionsIn s) (2 ^ length fields))) (not (ltb (goodIn s) (2 ^ nIn s))) _ l)
 
--- a root that is given has 32 bytes
+-- the field of an option that is named stands within the plan, with as many bytes as the table says
+module _ (s : List ℕ) (l : laidOut s ≡ true) (k : ℕ) (known : k < length fields) (given : names (optionsIn s) (k + 1) ≡ true) where
+  pub field-there : fieldAt (optionsIn s) (k + 1) + getD fields k 0 ≤ length s
+  field-there = omega (arith, books-inside s l, field-inside (optionsIn s) k known given)
+
+  pub field-length : length (fieldIn (k + 1) s) ≡ getD fields k 0
+  field-length =
+      let o : ℕ = optionsIn s in
+      let e : getD fields (k + 1 - 1) 0 ≡ getD fields k 0 = let z : k + 1 - 1 ≡ k = omega arith in ap (λ (j : ℕ). getD fields j 0) z in
+      length-take-le (getD fields (k + 1 - 1) 0) (drop (fieldAt o (k + 1)) s) (omega (arith, e, length-drop (fieldAt o (k + 1)) s, field-there)) ∙ e
+
 pub root-length : (s : List ℕ) → laidOut s ≡ true → hasRoot s ≡ true → length (rootIn s) ≡ 32
-root-length s l r =
-    let long : afterBit s + 2 ≤ length s = books-inside s l in
-    let at : afterRoot s ≡ 35 = rw r in
-    length-take-le 32 (drop 3 s) (omega (arith, length-drop 3 s))
+root-length s l r = field-length s l 0 (omega arith) r
 
 -- no book is over the limit
 body-short : (s : List ℕ) → length (body s) ≤ size s

@@ -1,17 +1,46 @@
 -- Laws of the walks over the entries of the parties that a map names: one for each case of a party. Of k parties from p on, j stand behind
 -- the first. Assumes nothing.
-use mathlib.Core.Path.{_≡_, refl, sym}
+use mathlib.Core.Path.{_≡_, refl, sym, ap, _∙_}
 use mathlib.Core.Bool.{Bool, true, false, cond}
 use mathlib.Core.List.{List, []}
-use mathlib.Core.Option.{none, some}
+use mathlib.Core.Option.{Option, none, some}
 use Prim.Native.Nat.{ℕ, zero, suc, _+_, _-_, _<_, _≤_}
+use native.Mathlib.Numerals.{add-one}
+use native.Mathlib.Decide.{ℕ-discrete}
 use native.Mathlib.Omega.{arith}
 use borrow.Author.Tests.{lt-ltb, le-ltb, eq-eqb, ne-eqb, eqb-true}
 use lib.Dec.{eqb}
 use lib.ListN.{length, drop, length-drop}
 use Rattle.buffer.specs.Entries.{size, body, rest}
 use Rattle.buffer.proofs.Entries.{rest-drop}
-use Rattle.plan.specs.Layout.{names, behind, under, within, longBook}
+use Rattle.plan.specs.Layout.{names, behind, under, within, longBook, andThen, walk}
+
+-- a walk: its start, a party that takes no step, one that takes a step, and one that finds nothing, behind which nothing is found
+module _ (takes : ℕ → Bool) (step : List ℕ → Option (List ℕ)) (s : List ℕ) where
+  pub walk-start : walk takes step 0 s ≡ some s
+  unfolding walk
+  walk-start = refl
+
+  module _ (k : ℕ) where
+    pub walk-past : takes (k + 1) ≡ false → walk takes step (k + 1) s ≡ walk takes step k s
+    unfolding walk
+    walk-past h = rw (add-one k, h)
+
+    pub walk-step : takes (k + 1) ≡ true → (x : List ℕ) → walk takes step k s ≡ some x → walk takes step (k + 1) s ≡ step x
+    unfolding walk
+    walk-step h x e = rw (add-one k, h, e)
+
+  pub walk-none : (k n : ℕ) → k ≤ n → walk takes step k s ≡ none → walk takes step n s ≡ none
+  unfolding walk
+  walk-none k zero h e = let z : 0 ≡ k = omega arith in ap (λ (j : ℕ). walk takes step j s) z ∙ e
+  walk-none k (suc n) h e = elim (ℕ-discrete (suc n) k) [
+    | yes z ↦ ap (λ (j : ℕ). walk takes step j s) z ∙ e
+    | no d ↦ go (takes (n + 1)) (walk-none k n (omega arith) e)
+  ]
+    where
+      go : (b : Bool) → walk takes step n s ≡ none → cond b (andThen (walk takes step n s) step) (walk takes step n s) ≡ none
+      go true r = ap (λ (o : Option (List ℕ)). andThen o step) r
+      go false r = r
 
 -- no party is left
 pub behind-end : (k p map : ℕ) (s : List ℕ) → k ≡ 0 → behind k p map s ≡ some s

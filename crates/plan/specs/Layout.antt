@@ -1,7 +1,7 @@
 -- The layout of a plan (document 01, "The rehearsal"): n, t, an option map, the root and the bit if the options name them, a map of good
 -- parties, their books, and for each of two exchanges the blocks of the bad parties. Assumes nothing.
 use mathlib.Core.Bool.{Bool, true, false, cond, not, _&&_, _||_}
-use mathlib.Core.List.{List, []}
+use mathlib.Core.List.{List, [], _∷_}
 use mathlib.Core.Option.{Option, none, some}
 use Prim.Native.Nat.{ℕ, zero, suc, _+_, _-_, _/_, _%_, _^_}
 use lib.Dec.{ltb, eqb}
@@ -73,8 +73,27 @@ unfoldable pub lowest : ℕ → ℕ → ℕ → ℕ
 lowest zero p g = 0
 lowest (suc k) p g = cond (names g p) p (lowest k (p + 1) g)
 
--- the parts of a plan s: n, t and the options; where a root, then a bit stands, if the options name them; the map of good parties; and what
--- stands from the books on
+-- Options are numbered from 1 and named by the option map, as parties are by theirs. The table: how many bytes the field of each has.
+abbrev pub fields : List ℕ
+fields = 32 ∷ 1 ∷ []
+
+abbrev pub rootOption : ℕ
+rootOption = 1
+
+abbrev pub bitOption : ℕ
+bitOption = 2
+
+-- the bytes of the fields of those of the first k options that a map names
+unfoldable pub fieldBytes : ℕ → ℕ → ℕ
+fieldBytes zero options = 0
+fieldBytes (suc k) options = fieldBytes k options + cond (names options (k + 1)) (getD fields k 0) 0
+
+-- the offset of option k's field: n, t, the option map and the fields of lower options stand before it
+abbrev pub fieldAt : ℕ → ℕ → ℕ
+fieldAt options k = 3 + fieldBytes (k - 1) options
+
+-- the parts of a plan s: n, t and the options; the field of an option; the map of good parties, behind all fields; and what stands from the
+-- books on
 abbrev pub nIn : List ℕ → ℕ
 nIn s = getD s 0 0
 
@@ -84,45 +103,59 @@ tIn s = getD s 1 0
 abbrev pub optionsIn : List ℕ → ℕ
 optionsIn s = getD s 2 0
 
+abbrev pub fieldIn : ℕ → List ℕ → List ℕ
+fieldIn k s = take (getD fields (k - 1) 0) (drop (fieldAt (optionsIn s) k) s)
+
 abbrev pub hasRoot : List ℕ → Bool
-hasRoot s = eqb (optionsIn s % 2) 1
-
-abbrev pub hasBit : List ℕ → Bool
-hasBit s = eqb (optionsIn s / 2 % 2) 1
-
-abbrev pub afterRoot : List ℕ → ℕ
-afterRoot s = cond (hasRoot s) 35 3
-
-abbrev pub afterBit : List ℕ → ℕ
-afterBit s = afterRoot s + cond (hasBit s) 1 0
+hasRoot s = names (optionsIn s) rootOption
 
 abbrev pub rootIn : List ℕ → List ℕ
-rootIn s = take 32 (drop 3 s)
+rootIn s = fieldIn rootOption s
+
+abbrev pub hasBit : List ℕ → Bool
+hasBit s = names (optionsIn s) bitOption
 
 abbrev pub bitIn : List ℕ → ℕ
-bitIn s = getD s (afterRoot s) 0
+bitIn s = getD s (fieldAt (optionsIn s) bitOption) 0
+
+abbrev pub goodAt : List ℕ → ℕ
+goodAt s = fieldAt (optionsIn s) (length fields + 1)
 
 abbrev pub goodIn : List ℕ → ℕ
-goodIn s = size (drop (afterBit s) s)
+goodIn s = size (drop (goodAt s) s)
 
 abbrev pub booksIn : List ℕ → List ℕ
-booksIn s = drop (afterBit s + mapWidth) s
+booksIn s = drop (goodAt s + mapWidth) s
 
--- from exchange e on, counted from 0: the first one stands behind the books, each later one behind the blocks of the one before it
+-- of the first k parties, those that `named` tells take a step each, one after the other: what is left, none if a step finds nothing
+unfoldable pub walk : (ℕ → Bool) → (List ℕ → Option (List ℕ)) → ℕ → List ℕ → Option (List ℕ)
+walk named step zero s = some s
+walk named step (suc k) s = cond (named (k + 1)) (andThen (walk named step k s) step) (walk named step k s)
+
+-- how many exchanges there are, and what stands behind e of them
+abbrev pub exchanges : ℕ
+exchanges = 2
+
+abbrev pub skipExchanges : ℕ → ℕ → ℕ → List ℕ → Option (List ℕ)
+skipExchanges e n g s = walk (λ p. true) (behindBlocks n 1 n g) e s
+
+-- from exchange e on, counted from 0: the first one stands behind the books
+abbrev pub exchangeFrom : ℕ → List ℕ → Option (List ℕ)
+exchangeFrom e s = andThen (behind (nIn s) 1 (goodIn s) (booksIn s)) (skipExchanges e (nIn s) (goodIn s))
+
 unfoldable pub exchangeIn : ℕ → List ℕ → List ℕ
-exchangeIn zero s = orEmpty (behind (nIn s) 1 (goodIn s) (booksIn s))
-exchangeIn (suc e) s = orEmpty (behindBlocks (nIn s) 1 (nIn s) (goodIn s) (exchangeIn e s))
+exchangeIn e s = orEmpty (exchangeFrom e s)
 
 abbrev pub exchangeAt : ℕ → List ℕ → ℕ
 exchangeAt e s = length s - length (exchangeIn e s)
 
--- the plan is well laid out behind n and t: the options are known, the map of good parties names none beyond n, the entries and blocks are
--- all there, and no byte is left over
+-- the plan is well laid out behind n and t: the fields and the map of good parties are there, the options are known, that map names none
+-- beyond n, the entries and blocks are all there, and no byte is left over
 unfoldable pub endOf : List ℕ → Option (List ℕ)
 endOf s =
-    cond (ltb (length s) 3 || not (ltb (optionsIn s) 4) || ltb (length s) (afterBit s + mapWidth) || not (ltb (goodIn s) (2 ^ nIn s))) none
-    (andThen (behind (nIn s) 1 (goodIn s) (booksIn s))
-    (λ first. andThen (behindBlocks (nIn s) 1 (nIn s) (goodIn s) first) (behindBlocks (nIn s) 1 (nIn s) (goodIn s))))
+    cond
+    (ltb (length s) (goodAt s + mapWidth) || not (ltb (optionsIn s) (2 ^ length fields)) || not (ltb (goodIn s) (2 ^ nIn s))) none
+    (exchangeFrom exchanges s)
 
 abbrev pub empty : Option (List ℕ) → Bool
 empty none = false

@@ -1,14 +1,14 @@
 -- A plan read: its causes, in document 01's order for a plan, and its parts. The rule of the short agreement (cause 14) is judged with the
 -- parties' roots and bits, not here. Assumes nothing.
-use mathlib.Core.Bool.{false, cond, not, _||_}
+use mathlib.Core.Bool.{cond, not, _||_}
 use mathlib.Core.List.{List}
-use Prim.Native.Nat.{ℕ, _+_}
+use Prim.Native.Nat.{ℕ, _+_, _-_}
 use lib.Dec.{ltb, eqb}
-use lib.ListN.{length}
+use lib.ListN.{length, drop}
 use Rattle.limits.specs.Limits.{maxMessage, maxPlan, parties, groupCause}
 use Rattle.buffer.specs.Given.{Given, gave, written}
 use Rattle.buffer.specs.declared.Written.the-variants.{Refused}
-use Rattle.plan.specs.Layout.{mapWidth, under, packetFrom, longBook, nIn, tIn, hasRoot, hasBit, afterBit, goodIn, booksIn, exchangeAt, laidOut}
+use Rattle.plan.specs.Layout.{mapWidth, under, packetFrom, longBook, orEmpty, nIn, tIn, optionsIn, goodAt, goodIn, booksIn, skipExchanges, exchangeAt, laidOut}
 use Rattle.plan.specs.declared.Plan.{Plan}
 
 -- 13 if under two bytes, then 1, 2, then 13 (over the greatest length, or badly laid out), then 4; 0: none
@@ -20,22 +20,24 @@ planCause s =
     (cond (longBook maxMessage (nIn s) 1 (goodIn s) (booksIn s)) 4
     0)))
 
--- the parts by where they start; nothing is told of a plan that is turned away
+-- the parts, the books and exchanges by where they start; nothing is told of a plan that is turned away
 unfoldable pub planOf : List ℕ → Plan
 planOf s =
     cond (not (eqb (planCause s) 0))
-    (record { cause = planCause s; n = 0; t = 0; rooted = false; voted = false; good = 0; books = 0; first = 0; second = 0 })
+    (record { cause = planCause s; n = 0; t = 0; options = 0; good = 0; books = 0; exchanges = 0 })
     (record {
       cause = 0;
       n = nIn s;
       t = tIn s;
-      rooted = hasRoot s;
-      voted = hasBit s;
+      options = optionsIn s;
       good = goodIn s;
-      books = afterBit s + mapWidth;
-      first = exchangeAt 0 s;
-      second = exchangeAt 1 s;
+      books = goodAt s + mapWidth;
+      exchanges = exchangeAt 0 s;
     })
+
+-- the offset of exchange e of a plan with these parts, counted from 0; the end, if one before it is not in order
+unfoldable pub exchangeOf : Plan → ℕ → List ℕ → ℕ
+exchangeOf x e s = length s - length (orEmpty (skipExchanges e (x .n) (x .good) (drop (x .exchanges) s)))
 
 -- good party q's book among the books s, in a lent buffer: cause 1, then 9
 unfoldable pub bookOf : ℕ → ℕ → ℕ → List ℕ → List ℕ → Given

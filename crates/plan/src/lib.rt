@@ -5,9 +5,9 @@ ghost use lib.Dec.{ltb};
 ghost use lib.ListN.{length, take, drop};
 ghost use Rattle.limits.specs.Limits.{maxMessage};
 ghost use Rattle.buffer.specs.Given.{gave, written};
-ghost use Rattle.plan.specs.Layout.{names, behind, under, within, behindBlock, behindBlocks, packetFrom, longBook, orEmpty, nIn};
-ghost use Rattle.plan.specs.Plan.{planOf, bookOf, packetOf};
-ghost use Rattle.plan.specs.Private.{Ends, Lies, Headed, Rest, turnedAway};
+ghost use Rattle.plan.specs.Layout.{names, behind, under, within, behindBlock, behindBlocks, packetFrom, longBook, orEmpty, fieldAt, nIn, skipExchanges};
+ghost use Rattle.plan.specs.Plan.{planOf, bookOf, packetOf, exchangeOf};
+ghost use Rattle.plan.specs.Private.{Ends, Lies, HeaderEnds, Rest, turnedAway};
 use buffer::Written;
 use limits::MAX_MESSAGE;
 use limits::MAX_PLAN;
@@ -15,18 +15,31 @@ use limits::MAX_PLAN;
 // The bytes of a map of parties.
 pub const MAP: usize = 2;
 
-// A plan's parts: n, t, whether a root and a bit are given, the map of good parties, and where the books and the two exchanges start. The
-// cause is 0 if the plan is taken; else all parts are 0.
+// n, t and the option map stand first.
+const HEAD: usize = 3;
+
+// The number of options, and the bytes of the field of each: option k, from 1 on, has the value two to the k - 1 in the option map.
+const OPTIONS: usize = 2;
+
+const FIELDS: [usize; OPTIONS] = [32, 1];
+
+pub const ROOT: usize = 1;
+
+pub const BIT: usize = 2;
+
+// The number of exchanges.
+const EXCHANGES: usize = 2;
+
+// A plan's parts: n, t, the option map, the map of good parties, and where the books and the exchanges start. The cause is 0 if the plan is
+// taken; else all parts are 0.
 pub struct Plan {
     pub cause: u8,
     pub n: usize,
     pub t: usize,
-    pub rooted: bool,
-    pub voted: bool,
+    pub options: usize,
     pub good: usize,
     pub books: usize,
-    pub first: usize,
-    pub second: usize,
+    pub exchanges: usize,
 }
 
 // A place in a plan; nowhere if what stands before it is not in order.
@@ -57,7 +70,7 @@ pub fn read(plan: &[u8]) -> Plan
     if MAX_PLAN < plan.len() {
         return turned_away(13);
     }
-    let Place::At(books) = head(plan, n) else {
+    let Place::At(books) = books_at(plan, n) else {
         return turned_away(13);
     };
     parts(plan, n, t, books)
@@ -85,6 +98,36 @@ pub fn packet(exchange: &[u8], n: usize, good: usize, q: usize, i: usize, out: &
     give(exchange, found, out)
 }
 
+// The offset of option k's field, which stands behind those of the lower options that the map names; behind the fields of all options for a
+// k that is none of them.
+pub fn field_at(options: usize, k: usize) -> usize
+    ensures { λ r. ⌜ r ≡ fieldAt options k ⌝ }
+{
+    let mut at = HEAD;
+    let mut j: usize = 1;
+    while j < k {
+        if OPTIONS < j {
+            return at;
+        }
+        if names(options, j) {
+            at += FIELDS[j - 1];
+        }
+        j += 1;
+    }
+    at
+}
+
+// The offset of exchange e, counted from 0; the end, if one before it is not in order.
+pub fn exchange_at(plan: &[u8], parts: Plan, e: usize) -> usize
+    ensures { λ r. ⌜ r ≡ exchangeOf parts e (now (plan .entry)) ⌝ }
+{
+    let from = buffer::skip(plan, 0, parts.exchanges);
+    let Place::At(at) = skip_exchanges(plan, from, parts.n, parts.good, e) else {
+        return plan.len();
+    };
+    at
+}
+
 // Whether a map names party p.
 pub fn names(map: usize, p: usize) -> bool
     ensures { λ r. ⌜ r ≡ names map p ⌝ }
@@ -105,12 +148,10 @@ fn turned_away(cause: u8) -> Plan
         cause,
         n: 0,
         t: 0,
-        rooted: false,
-        voted: false,
+        options: 0,
         good: 0,
         books: 0,
-        first: 0,
-        second: 0,
+        exchanges: 0,
     }
 }
 
@@ -120,43 +161,38 @@ fn wide(x: u8) -> usize
     x as usize
 }
 
-// Where the books start, if the options and the map of good parties are in order.
-fn head(plan: &[u8], n: usize) -> Place
+// The offset of the books, if the options are known and the map of good parties names none beyond n.
+fn books_at(plan: &[u8], n: usize) -> Place
     requires { ⌜ n ≡ nIn (now plan) ⌝ }
-    ensures { λ r. ⌜ Headed r (now (plan .entry)) ⌝ }
+    ensures { λ r. ⌜ HeaderEnds r (now (plan .entry)) ⌝ }
 {
-    if plan.len() < 3 {
+    if plan.len() < HEAD {
         return Place::Nowhere;
     }
     let options = wide(plan[2]);
-    if 3 < options {
-        return Place::Nowhere;
-    }
-    // A root has 32 bytes, a bit has one.
-    let map = 3 + options % 2 * 32 + options / 2 % 2;
+    let map = field_at(options, OPTIONS + 1);
     let books = map + MAP;
     if plan.len() < books {
         return Place::Nowhere;
     }
-    if up_to(n, buffer::size_at(plan, map)) {
-        return Place::At(books);
+    if up_to(OPTIONS, options) {
+        if up_to(n, buffer::size_at(plan, map)) {
+            return Place::At(books);
+        }
     }
     Place::Nowhere
 }
 
-// The parts of a plan whose books start there. No byte may be left over behind the second exchange.
+// The parts of a plan whose books start there. No byte may be left over behind the exchanges.
 fn parts(plan: &[u8], n: usize, t: usize, books: usize) -> Plan
     requires { ⌜ Rest n t books (now plan) ⌝ }
     ensures { λ r. ⌜ r ≡ planOf (now (plan .entry)) ⌝ }
 {
     let good = buffer::size_at(plan, books - MAP);
-    let Place::At(first) = behind(plan, books, n, good) else {
+    let Place::At(exchanges) = behind(plan, books, n, good) else {
         return turned_away(13);
     };
-    let Place::At(second) = behind_blocks(plan, first, n, good) else {
-        return turned_away(13);
-    };
-    let Place::At(end) = behind_blocks(plan, second, n, good) else {
+    let Place::At(end) = skip_exchanges(plan, exchanges, n, good, EXCHANGES) else {
         return turned_away(13);
     };
     if end != plan.len() {
@@ -165,17 +201,14 @@ fn parts(plan: &[u8], n: usize, t: usize, books: usize) -> Plan
     if long_book(plan, books, n, good) {
         return turned_away(4);
     }
-    let options = plan[2];
     Plan {
         cause: 0,
         n,
         t,
-        rooted: options % 2 == 1,
-        voted: options / 2 % 2 == 1,
+        options: wide(plan[2]),
         good,
         books,
-        first,
-        second,
+        exchanges,
     }
 }
 
@@ -326,6 +359,23 @@ fn behind_blocks(s: &[u8], from: usize, n: usize, good: usize) -> Place
             return Place::Nowhere;
         };
         at = next;
+    }
+    Place::At(at)
+}
+
+// The place behind e exchanges.
+fn skip_exchanges(s: &[u8], from: usize, n: usize, good: usize, e: usize) -> Place
+    requires { ⌜ from ≤ length (now s) ⌝ }
+    ensures { λ r. ⌜ Ends r (skipExchanges e n good (drop from (now (s .entry)))) (now (s .entry)) ⌝ }
+{
+    let mut at = from;
+    let mut k: usize = 0;
+    while k < e {
+        let Place::At(next) = behind_blocks(s, at, n, good) else {
+            return Place::Nowhere;
+        };
+        at = next;
+        k += 1;
     }
     Place::At(at)
 }

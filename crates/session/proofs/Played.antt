@@ -151,7 +151,7 @@ module _ (H : List ℕ → List ℕ) (wide : (x : List ℕ) → length (H x) ≡
 
   message-bytes : (p : ℕ) → Bytes (messageOf s p)
   unfolding messageOf
-  message-bytes p = under-bytes n 1 (goodIn s) p (booksIn s) (drop-bytes (layout.afterBit s + 2) s bytes)
+  message-bytes p = under-bytes n 1 (goodIn s) p (booksIn s) (drop-bytes (layout.goodAt s + layout.mapWidth) s bytes)
 
   -- the root that any opening gives, or the blank one, has 32 bytes
   root-long : (p : ℕ) → length (opened H s p .root) ≡ 32

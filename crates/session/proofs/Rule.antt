@@ -19,7 +19,7 @@ use Rattle.buffer.proofs.Splice.{length-spliced, take-spliced}
 use Rattle.buffer.proofs.Given.{written-done}
 use Rattle.merkle.specs.Shares.{same}
 use Rattle.party.specs.Steps.{openOf}
-use Rattle.plan.specs.Layout.{names, unnamed, lowest, nIn, tIn, hasRoot, hasBit, afterRoot, afterBit, rootIn, bitIn, goodIn, booksIn}
+use Rattle.plan.specs.Layout.{mapWidth, names, unnamed, lowest, fieldAt, nIn, tIn, optionsIn, hasRoot, hasBit, rootIn, bitIn, goodAt, goodIn, booksIn}
 use Rattle.plan.specs.Layout.{exchangeAt, laidOut}
 use Rattle.plan.specs.Plan.{planCause, planOf, bookOf}
 use Rattle.plan.specs.declared.Plan.{Plan}
@@ -34,17 +34,14 @@ use Rattle.session.specs.Private.{Ready}
 pub record Known (s : List ℕ) (parts : Plan) : Type 0 where
   pub n-is : parts .n ≡ nIn s
   pub t-is : parts .t ≡ tIn s
-  pub rooted-is : parts .rooted ≡ hasRoot s
-  pub voted-is : parts .voted ≡ hasBit s
+  pub options-are : parts .options ≡ optionsIn s
   pub good-is : parts .good ≡ goodIn s
-  pub books-are : parts .books ≡ afterBit s + 2
-  pub first-is : parts .first ≡ exchangeAt 0 s
-  pub second-is : parts .second ≡ exchangeAt 1 s
+  pub books-are : parts .books ≡ goodAt s + mapWidth
   pub low : 1 ≤ nIn s
   pub high : nIn s ≤ maxParties
   pub faults : 2 * tIn s < nIn s
   pub laid : laidOut s ≡ true
-  pub inside : afterBit s + 2 ≤ length s
+  pub inside : goodAt s + mapWidth ≤ length s
   pub short : (q : ℕ) → length (messageOf s q) ≤ maxMessage
 
 abbrev takenPlan : List ℕ → Plan
@@ -53,12 +50,10 @@ takenPlan s =
       cause = 0;
       n = nIn s;
       t = tIn s;
-      rooted = hasRoot s;
-      voted = hasBit s;
+      options = optionsIn s;
       good = goodIn s;
-      books = afterBit s + 2;
-      first = exchangeAt 0 s;
-      second = exchangeAt 1 s;
+      books = goodAt s + mapWidth;
+      exchanges = exchangeAt 0 s;
     }
 
 plan-is : (s : List ℕ) → planCause s ≡ 0 → planOf s ≡ takenPlan s
@@ -74,12 +69,9 @@ known s parts r =
     record {
       n-is = ap (λ (x : Plan). x .n) e;
       t-is = ap (λ (x : Plan). x .t) e;
-      rooted-is = ap (λ (x : Plan). x .rooted) e;
-      voted-is = ap (λ (x : Plan). x .voted) e;
+      options-are = ap (λ (x : Plan). x .options) e;
       good-is = ap (λ (x : Plan). x .good) e;
       books-are = ap (λ (x : Plan). x .books) e;
-      first-is = ap (λ (x : Plan). x .first) e;
-      second-is = ap (λ (x : Plan). x .second) e;
       low = g .low;
       high = g .high;
       faults = g .faults;
@@ -102,15 +94,11 @@ module _ (s : List ℕ) (parts : Plan) (k : Known s parts) where
   pub books-room : parts .books ≤ length s
   books-room = omega (arith, k .books-are, k .inside)
 
-  pub root-room : hasRoot s ≡ true → 35 ≤ length s
-  root-room h =
-      let e : afterRoot s ≡ 35 = ap (λ (b : Bool). cond b 35 3) h in
-      omega (arith, k .inside, e)
+  pub option-named : (j : ℕ) (b : Bool) → b ≡ names (parts .options) j → b ≡ names (optionsIn s) j
+  option-named j b e = e ∙ ap (λ (o : ℕ). names o j) (k .options-are)
 
-  pub bit-place : hasBit s ≡ true → parts .books ≡ afterRoot s + 3
-  bit-place h =
-      let e : afterBit s ≡ afterRoot s + 1 = ap (λ (b : Bool). afterRoot s + cond b 1 0) h in
-      omega (arith, k .books-are, e)
+  pub field-is : (j x : ℕ) → x ≡ fieldAt (parts .options) j → x ≡ fieldAt (optionsIn s) j
+  field-is j x e = e ∙ ap (λ (o : ℕ). fieldAt o j) (k .options-are)
 
   pub open-is : (H : List ℕ → List ℕ) (q : ℕ) (m : List ℕ) → m ≡ messageOf s q → openOf H (parts .n) (parts .t) q m ≡ opened H s q
   unfolding opened

@@ -33,8 +33,9 @@ use party::Settled;
 use party::Step;
 use party::Vote;
 use party::Voted;
-use plan::MAP;
+use plan::BIT;
 use plan::Plan;
+use plan::ROOT;
 
 // The greatest length of an inbox: the packets of bad parties stand in the plan, and one of a good party is no longer than an outbox.
 const MAX_INBOX: usize = MAX_PLAN + MAX_PARTIES * (MAX_OUTBOX + 2);
@@ -320,9 +321,11 @@ fn agreed_root(bytes: &[u8], parts: Plan) -> Hash
     requires { ⌜ Ready (now bytes) parts ⌝ }
     ensures { λ r. ⌜ r ≡ agreedRoot sha256 (now (bytes .entry)) ⌝ }
 {
-    if parts.rooted {
+    if plan::names(parts.options, ROOT) {
+        let at = plan::field_at(parts.options, ROOT);
+        let end = at + 32;
         let mut root = [0u8; 32];
-        buffer::put(&mut root, 0, &bytes[3..35]);
+        buffer::put(&mut root, 0, &bytes[at..end]);
         return root;
     }
     let q = lowest_good(parts.n, parts.good);
@@ -366,10 +369,8 @@ fn agreed_bit(bytes: &[u8], parts: Plan, root: &Hash) -> u8
     requires { ⌜ Ready (now bytes) parts × (now root ≡ agreedRoot sha256 (now bytes)) ⌝ }
     ensures { λ r. ⌜ r ≡ agreedBit sha256 (now (bytes .entry)) ⌝ }
 {
-    if parts.voted {
-        // A bit stands before the map.
-        let map = parts.books - MAP;
-        let at = map - 1;
+    if plan::names(parts.options, BIT) {
+        let at = plan::field_at(parts.options, BIT);
         return bytes[at];
     }
     let q = lowest_good(parts.n, parts.good);
@@ -421,7 +422,7 @@ fn unlawful(bytes: &[u8], parts: Plan, root: &Hash, bit: u8) -> bool
     if parts.t < unnamed(parts.n, parts.good) {
         return true;
     }
-    if parts.voted {
+    if plan::names(parts.options, BIT) {
         if 1 < bit {
             return true;
         }
@@ -563,16 +564,6 @@ fn keep(answer: Written, out: &[u8], slot: &mut [u8]) -> usize
     len
 }
 
-// Where exchange e of a plan starts, 0 or 1.
-fn exchange_at(parts: Plan, e: usize) -> usize
-    ensures { λ r. ⌜ r ≡ cond (eqb e 0) (parts .first) (parts .second) ⌝ }
-{
-    if e == 0 {
-        return parts.first;
-    }
-    parts.second
-}
-
 // Party i's inbox of exchange e; its length.
 fn inbox(
     bytes: &[u8],
@@ -583,7 +574,7 @@ fn inbox(
     i: usize,
     out: &mut [u8],
 ) -> usize
-    requires { ⌜ Ready (now bytes) parts × (e ≤ 1) × (1 ≤ i) × (i ≤ nIn (now bytes)) × (length (now out) ≡ inboxRoom) ⌝ }
+    requires { ⌜ Ready (now bytes) parts × (1 ≤ i) × (i ≤ nIn (now bytes)) × (length (now out) ≡ inboxRoom) ⌝ }
     ensures { λ r. ⌜ (r ≤ length (now (out .exit)))
         × (take r (now (out .exit)) ≡ inboxTo (nIn (now (bytes .entry))) (goodIn (now (bytes .entry))) (wholeIn e)
         (slotOf maxOutbox (now (slots .entry)) (now (lens .entry))) (exchangeIn e (now (bytes .entry))) i) ⌝ }
@@ -594,7 +585,7 @@ fn inbox(
         size: MAX_OUTBOX,
         whole: e != 0,
     };
-    let at = exchange_at(parts, e);
+    let at = plan::exchange_at(bytes, parts, e);
     buffer::value_of(exchange::fill(mail, slots, lens, &bytes[at..], i, out))
 }
 

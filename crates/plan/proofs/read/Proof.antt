@@ -5,7 +5,7 @@ use Prim.Native.Nat.{ℕ}
 use native.Mathlib.Omega.{arith}
 use Rattle.limits.specs.Limits.{groupCause}
 use Rattle.plan.specs.Layout.{nIn, tIn}
-use Rattle.plan.specs.Private.{Headed, turnedAway}
+use Rattle.plan.specs.Private.{HeaderEnds, turnedAway}
 use Rattle.plan.specs.declared.Place.{Place}
 use Rattle.plan.specs.declared.Place.the-variants.{Nowhere, At}
 use Rattle.plan.proofs.Reading.{plan-short, plan-group, plan-over, plan-bad}
@@ -22,8 +22,8 @@ cause-is c =
     c .group-cause .ensures ∙ ap₂ groupCause (c .before .before .before .wide .ensures .0) (c .before .wide2 .ensures .0)
 
 -- the answer for what stands before the books
-headed : (c : tie.After-head) → let g = c .before .before .before in (r : Place) → c .head .result ≡ r → Headed r (S g)
-headed c r q = let g = c .before .before .before in subst (λ (x : Place). Headed x (S g)) q (c .head .ensures)
+header : (c : tie.After-books-at) → let g = c .before .before .before in (r : Place) → c .books-at .result ≡ r → HeaderEnds r (S g)
+header c r q = let g = c .before .before .before in subst (λ (x : Place). HeaderEnds x (S g)) q (c .books-at .ensures)
 
 turned-away-requires : tie.Need-turned-away-requires
 turned-away-requires c κs = search needs
@@ -66,8 +66,8 @@ returns-3 c =
     let g = e .before in
     c .turned-away3 .ensures ∙ sym (plan-over (S g) (omega arith) (sym (cause-is g) ∙ e .if2 .left) (omega arith))
 
-head-requires : tie.Need-head-requires
-head-requires c κs = search needs
+books-at-requires : tie.Need-books-at-requires
+books-at-requires c κs = search needs
 
 enum-known-books : tie.Need-enum-known-books
 enum-known-books c = search needs
@@ -85,7 +85,7 @@ returns-4 c =
     let e = h .before .before in
     let g = e .before in
     c .turned-away4 .ensures
-    ∙ sym (plan-bad (S g) (omega arith) (sym (cause-is g) ∙ e .if2 .left) (omega arith) (headed h Nowhere (t .enum-told .given .1)))
+    ∙ sym (plan-bad (S g) (omega arith) (sym (cause-is g) ∙ e .if2 .left) (omega arith) (header h Nowhere (t .enum-told .given .1)))
 
 parts-requires : tie.Need-parts-requires
 parts-requires c κs =
@@ -96,7 +96,7 @@ parts-requires c κs =
     record {
       group = sym (cause-is g) ∙ e .if2 .left;
       short = omega arith;
-      head = headed h (At (b .books .given .0 .0)) (b .books .given .1);
+      header = header h (At (b .books .given .0 .0)) (b .books .given .1);
       n-is = g .before .before .before .wide .ensures .0;
       t-is = g .before .wide2 .ensures .0;
     }
@@ -119,7 +119,7 @@ read-spec =
     returns-2
     turned-away-requires-3
     returns-3
-    head-requires
+    books-at-requires
     enum-known-books
     enum-told
     turned-away-requires-4
