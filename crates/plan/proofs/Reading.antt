@@ -8,11 +8,11 @@ use native.Mathlib.Omega.{arith}
 use borrow.Author.Tests.{lt-ltb, le-ltb, ne-eqb}
 use lib.Dec.{ltb, eqb}
 use lib.ListN.{length, drop, length-drop}
-use Rattle.limits.specs.Limits.{maxMessage, maxPlan, groupCause}
-use Rattle.plan.specs.Layout.{mapWidth, behind, longBook, fields, nIn, tIn, optionsIn, goodAt, goodIn, booksIn, walk}
-use Rattle.plan.specs.Layout.{exchanges, skipExchanges, exchangeFrom, exchangeIn, exchangeAt, endOf, laidOut}
+use Rattle.limits.specs.Limits.{maxPlan, groupCause}
+use Rattle.plan.specs.Layout.{mapWidth, andThen, orEmpty, skipEntries, booksFit, fields, nIn, tIn, optionsIn, goodAt, goodIn, booksIn, walk}
+use Rattle.plan.specs.Layout.{exchanges, skipExchanges, exchangeIn, exchangeAt, endOf, laidOut}
 use Rattle.plan.specs.Plan.{planCause, planOf}
-use Rattle.plan.specs.Private.{Header, turnedAway}
+use Rattle.plan.specs.Private.{Header, refused}
 
 module _ (s : List ℕ) where
   -- what stands before the books is not in order
@@ -30,17 +30,8 @@ module _ (s : List ℕ) where
     laid-beyond k h = rw (le-ltb (length s) (goodAt s + mapWidth) room, k, h)
 
 -- the books and the exchanges, which start where the header ends
-module _ (n good books : ℕ) (s : List ℕ) (h : Header books s) (en : n ≡ nIn s) (eg : good ≡ goodIn s) where
-  same-books : behind n 1 good (drop books s) ≡ behind (nIn s) 1 (goodIn s) (booksIn s)
-  same-books = rw (en, eg, h .there)
-
-  same-exchanges : (e : ℕ) (x : List ℕ) → skipExchanges e n good x ≡ skipExchanges e (nIn s) (goodIn s) x
-  same-exchanges e x = rw (en, eg)
-
-  pub same-long : longBook maxMessage n 1 good (drop books s) ≡ longBook maxMessage (nIn s) 1 (goodIn s) (booksIn s)
-  same-long = rw (en, eg, h .there)
-
-  end-is : endOf s ≡ exchangeFrom exchanges s
+module _ (books : ℕ) (s : List ℕ) (h : Header books s) where
+  end-is : endOf s ≡ andThen (skipEntries (nIn s) (goodIn s) (booksIn s)) (skipExchanges exchanges (nIn s) (goodIn s))
   unfolding endOf
   end-is =
       rw (
@@ -49,66 +40,66 @@ module _ (n good books : ℕ) (s : List ℕ) (h : Header books s) (en : n ≡ nI
         lt-ltb (goodIn s) (2 ^ nIn s) (h .few),
       )
 
-  pub books-none : behind n 1 good (drop books s) ≡ none → laidOut s ≡ false
+  pub books-none : skipEntries (nIn s) (goodIn s) (booksIn s) ≡ none → laidOut s ≡ false
   unfolding laidOut
-  books-none q = rw (end-is, sym same-books ∙ q)
+  books-none q = rw (end-is, q)
 
-  module _ (x : List ℕ) (a : behind n 1 good (drop books s) ≡ some x) where
+  module _ (x : List ℕ) (a : skipEntries (nIn s) (goodIn s) (booksIn s) ≡ some x) where
     pub first-is : exchangeIn 0 s ≡ x
     unfolding exchangeIn walk
-    first-is = rw (sym same-books ∙ a)
+    first-is = ap orEmpty a
 
-    pub end-none : skipExchanges exchanges n good x ≡ none → laidOut s ≡ false
+    pub end-none : skipExchanges exchanges (nIn s) (goodIn s) x ≡ none → laidOut s ≡ false
     unfolding laidOut
-    end-none q = rw (end-is, sym same-books ∙ a, sym (same-exchanges exchanges x) ∙ q)
+    end-none q = rw (end-is, a, q)
 
-    pub end-at : (z : List ℕ) → skipExchanges exchanges n good x ≡ some z → laidOut s ≡ eqb (length z) 0
+    pub end-at : (z : List ℕ) → skipExchanges exchanges (nIn s) (goodIn s) x ≡ some z → laidOut s ≡ eqb (length z) 0
     unfolding laidOut
-    end-at z q = rw (end-is, sym same-books ∙ a, sym (same-exchanges exchanges x) ∙ q)
+    end-at z q = rw (end-is, a, q)
 
 -- the causes
 module _ (s : List ℕ) where
-  turned : (k : ℕ) → planCause s ≡ k → (k ≡ 0 → ⊥) → planOf s ≡ turnedAway k
+  turned : (k : ℕ) → planCause s ≡ k → (k ≡ 0 → ⊥) → planOf s ≡ refused k
   unfolding planOf
   turned k e nz = rw (e, ne-eqb k 0 nz)
 
-  pub plan-short : length s < 2 → planOf s ≡ turnedAway 13
+  pub plan-short : length s < 2 → planOf s ≡ refused 13
   unfolding planCause
   plan-short h = turned 13 (rw (lt-ltb (length s) 2 h)) (λ e. omega arith)
 
   module _ (two : 2 ≤ length s) where
-    pub plan-group : (groupCause (nIn s) (tIn s) ≡ 0 → ⊥) → planOf s ≡ turnedAway (groupCause (nIn s) (tIn s))
+    pub plan-group : (groupCause (nIn s) (tIn s) ≡ 0 → ⊥) → planOf s ≡ refused (groupCause (nIn s) (tIn s))
     unfolding planCause
     plan-group h =
         turned (groupCause (nIn s) (tIn s)) (rw (le-ltb (length s) 2 two, ne-eqb (groupCause (nIn s) (tIn s)) 0 h)) h
 
     module _ (group : groupCause (nIn s) (tIn s) ≡ 0) where
-      pub plan-over : maxPlan < length s → planOf s ≡ turnedAway 13
+      pub plan-over : maxPlan < length s → planOf s ≡ refused 13
       unfolding planCause
       plan-over h = turned 13 (rw (le-ltb (length s) 2 two, group, lt-ltb maxPlan (length s) h)) (λ e. omega arith)
 
       module _ (fits : length s ≤ maxPlan) where
-        pub plan-bad : laidOut s ≡ false → planOf s ≡ turnedAway 13
+        pub plan-bad : laidOut s ≡ false → planOf s ≡ refused 13
         unfolding planCause
         plan-bad h = turned 13 (rw (le-ltb (length s) 2 two, group, le-ltb maxPlan (length s) fits, h)) (λ e. omega arith)
 
         module _ (laid : laidOut s ≡ true) where
-          pub plan-long : longBook maxMessage (nIn s) 1 (goodIn s) (booksIn s) ≡ true → planOf s ≡ turnedAway 4
+          pub plan-long : booksFit (nIn s) (goodIn s) (booksIn s) ≡ false → planOf s ≡ refused 4
           unfolding planCause
           plan-long h =
               turned 4 (rw (le-ltb (length s) 2 two, group, le-ltb maxPlan (length s) fits, laid, h)) (λ e. omega arith)
 
-          fine : longBook maxMessage (nIn s) 1 (goodIn s) (booksIn s) ≡ false → planCause s ≡ 0
+          fine : booksFit (nIn s) (goodIn s) (booksIn s) ≡ true → planCause s ≡ 0
           unfolding planCause
           fine h = rw (le-ltb (length s) 2 two, group, le-ltb maxPlan (length s) fits, laid, h)
 
-          pub plan-taken : longBook maxMessage (nIn s) 1 (goodIn s) (booksIn s) ≡ false → (n t options good books first : ℕ)
+          pub plan-taken : booksFit (nIn s) (goodIn s) (booksIn s) ≡ true → (n t options good books first : ℕ)
               → n ≡ nIn s → t ≡ tIn s → options ≡ optionsIn s → good ≡ goodIn s → books ≡ goodAt s + mapWidth
               → first ≡ exchangeAt 0 s → planOf s
               ≡ record { cause = 0; n = n; t = t; options = options; good = good; books = books; exchanges = first }
           unfolding planOf
           plan-taken h n t options good books first en et eo eg eb ef = rw (fine h, en, et, eo, eg, eb, ef)
 
--- the place of what stands behind it
-pub place-of : (k : ℕ) (x s : List ℕ) → k ≤ length s → x ≡ drop k s → k ≡ length s - length x
-place-of k x s h e = omega (arith, ap length e, length-drop k s)
+-- the offset of what stands behind it
+pub offset-of : (k : ℕ) (x s : List ℕ) → k ≤ length s → x ≡ drop k s → k ≡ length s - length x
+offset-of k x s h e = omega (arith, ap length e, length-drop k s)

@@ -2,7 +2,7 @@
 -- Assumes nothing.
 use mathlib.Core.Path.{_≡_, refl, sym, ap, ap₂, _∙_}
 use mathlib.Core.Bool.{Bool, true, false, cond, not, _&&_, _||_, true≢false, false≢true}
-use mathlib.Core.List.{List}
+use mathlib.Core.List.{List, []}
 use Prim.Native.Nat.{ℕ, suc, _+_, _-_, _*_, _%_, _/_, _^_, _<_, _≤_}
 use native.Mathlib.Decide.{ℕ-discrete}
 use native.Mathlib.Omega.{arith}
@@ -12,21 +12,22 @@ use lib.ListN.{length, take, drop}
 use Rattle.limits.specs.Limits.{maxParties, maxMessage}
 use Rattle.limits.proofs.Group.{group-of}
 use Rattle.buffer.specs.Splice.{spliced}
-use Rattle.buffer.specs.Given.{Given, gave, valueOf}
+use Rattle.buffer.specs.Given.{Given, gave, causeOf, valueOf}
 use Rattle.buffer.specs.declared.Written.{Written}
-use Rattle.buffer.specs.declared.Written.the-variants.{Done}
+use Rattle.buffer.specs.declared.Written.the-variants.{Refused, Done}
 use Rattle.buffer.proofs.Splice.{length-spliced, take-spliced}
 use Rattle.buffer.proofs.Given.{written-done}
 use Rattle.merkle.specs.Shares.{same}
 use Rattle.party.specs.Steps.{openOf}
-use Rattle.plan.specs.Layout.{mapWidth, names, unnamed, lowest, fieldAt, nIn, tIn, optionsIn, hasRoot, hasBit, rootIn, bitIn, goodAt, goodIn, booksIn}
+use Rattle.plan.specs.Layout.{mapWidth, names, member, unnamed, lowest, fieldAt, nIn, tIn, optionsIn, hasRoot, hasBit, rootIn, bitIn, goodAt, goodIn, booksIn}
 use Rattle.plan.specs.Layout.{exchangeAt, laidOut}
-use Rattle.plan.specs.Plan.{planCause, planOf, bookOf}
+use Rattle.plan.specs.Plan.{planCause, planOf, bookGiven}
 use Rattle.plan.specs.declared.Plan.{Plan}
 use Rattle.plan.proofs.Maps.{named}
 use Rattle.plan.proofs.Maps as maps
-use Rattle.plan.proofs.Given.{book-given}
-use Rattle.plan.proofs.Accepted.{accepted, books-inside, under-short}
+use Rattle.plan.proofs.Given.{book-none, book-some}
+use Rattle.plan.proofs.Blocks.{entry-none}
+use Rattle.plan.proofs.Accepted.{accepted, books-inside, book-short}
 use Rattle.session.specs.Session.{isGood, messageOf, lowestGood, opened, agreedRoot, step2, agreedBit, sameRoots, sameBits, unlawful}
 use Rattle.session.specs.Private.{Ready}
 
@@ -77,7 +78,7 @@ known s parts r =
       faults = g .faults;
       laid = a .laid;
       inside = books-inside s (a .laid);
-      short = λ q. under-short maxMessage (nIn s) 1 (goodIn s) q (booksIn s) (a .short);
+      short = λ q. book-short (nIn s) (goodIn s) q (booksIn s) (a .books-fit);
     }
 
 -- what the code reads of such a plan is what the definitions say
@@ -106,26 +107,45 @@ module _ (s : List ℕ) (parts : Plan) (k : Known s parts) where
 
   -- the answer for a book, in a buffer of the greatest length
   module _ (q : ℕ) (out : List ℕ) (long : length out ≡ maxMessage) (r : Written) (o : List ℕ)
-      (e : gave r o ≡ bookOf (parts .n) (parts .good) q (drop (parts .books) s) out) where
-    given : gave r o ≡ gave (Done (length (messageOf s q))) (spliced out 0 (messageOf s q))
+      (e : gave r o ≡ bookGiven (parts .n) (parts .good) q (drop (parts .books) s) out) where
+    -- a good party has one, and another party none
+    given : member (nIn s) (goodIn s) q ≡ true → gave r o ≡ gave (Done (length (messageOf s q))) (spliced out 0 (messageOf s q))
     unfolding messageOf
-    given =
+    given good =
         e ∙ rw (k .n-is, k .good-is, k .books-are)
-        (book-given (nIn s) (goodIn s) q (booksIn s) out (k .low) (k .high)
+        (book-some (nIn s) (goodIn s) q (booksIn s) out (k .low) (k .high) good
         ∙ written-done (messageOf s q) out (omega (arith, long, k .short q)))
 
-    pub book-done : r ≡ Done (length (messageOf s q))
-    book-done = ap (λ (g : Given). g .answer) given
+    refused : member (nIn s) (goodIn s) q ≡ false → gave r o ≡ gave (Refused 3) out
+    refused bad = e ∙ rw (k .n-is, k .good-is, k .books-are) (book-none (nIn s) (goodIn s) q (booksIn s) out (k .low) (k .high) bad)
+
+    -- one that is given is the party's message
+    done : (l : ℕ) → r ≡ Done l → gave r o ≡ gave (Done (length (messageOf s q))) (spliced out 0 (messageOf s q))
+    done l h = go (member (nIn s) (goodIn s) q) refl
+      where
+        go : (b : Bool) → member (nIn s) (goodIn s) q ≡ b → gave r o ≡ gave (Done (length (messageOf s q))) (spliced out 0 (messageOf s q))
+        go true good = given good
+        go false bad = absurd (omega (arith, ap causeOf (sym h), ap (λ (g : Given). g .cause) (refused bad)))
 
     pub book-room : (l : ℕ) → r ≡ Done l → l ≤ length o
     book-room l h =
-        let size : l ≡ length (messageOf s q) = ap valueOf (sym h ∙ book-done) in
-        let bytes : length o ≡ length (spliced out 0 (messageOf s q)) = ap (λ (g : Given). length (g .buffer)) given in
+        let size : l ≡ length (messageOf s q) = ap valueOf (sym h) ∙ ap (λ (g : Given). g .value) (done l h) in
+        let bytes : length o ≡ length (spliced out 0 (messageOf s q)) = ap (λ (g : Given). length (g .buffer)) (done l h) in
         omega (arith, size, bytes, length-spliced out 0 (messageOf s q) (omega (arith, long, k .short q)), long, k .short q)
 
     pub book-bytes : (l : ℕ) → r ≡ Done l → take l o ≡ messageOf s q
     book-bytes l h =
-        ap₂ take (ap valueOf (sym h ∙ book-done)) (ap (λ (g : Given). g .buffer) given) ∙ take-spliced out (messageOf s q)
+        ap₂ take (ap valueOf (sym h) ∙ ap (λ (g : Given). g .value) (done l h)) (ap (λ (g : Given). g .buffer) (done l h))
+        ∙ take-spliced out (messageOf s q)
+
+    -- where none is given, the party has no message
+    pub book-missing : ((l : ℕ) → r ≡ Done l → ⊥) → messageOf s q ≡ []
+    unfolding messageOf
+    book-missing never = go (member (nIn s) (goodIn s) q) refl
+      where
+        go : (b : Bool) → member (nIn s) (goodIn s) q ≡ b → messageOf s q ≡ []
+        go true good = absurd (never (length (messageOf s q)) (ap (λ (g : Given). g .answer) (given good)))
+        go false bad = entry-none (nIn s) (goodIn s) q (booksIn s) bad
 
 -- the agreed root and bit: given, or the lowest-numbered good party's
 module _ (H : List ℕ → List ℕ) (s : List ℕ) where

@@ -309,7 +309,7 @@ fn opened(bytes: &[u8], parts: Plan, q: usize) -> Opened
     let t = parts.t;
     let from = parts.books;
     let mut message = [0u8; MAX_MESSAGE];
-    // No book of a plan that is taken is longer.
+    // No book of a plan that is taken is longer; a party that is not good has none.
     let Written::Done(len) = plan::book(&bytes[from..], n, parts.good, q, &mut message) else {
         return Party::open(n, t, q, &[]);
     };

@@ -19,11 +19,11 @@ abbrev S : tie.After-field-at → List ℕ
 S c = c .before .before .before .before .before .args .plan .now
 
 -- the map of good parties stands there
-place : (c : tie.After-field-at) → c .field-at .result ≡ goodAt (S c)
-place c = c .field-at .ensures ∙ ap (λ (o : ℕ). fieldAt o (length fields + 1)) (c .before .wide .ensures .0)
+offset : (c : tie.After-field-at) → c .field-at .result ≡ goodAt (S c)
+offset c = c .field-at .ensures ∙ ap (λ (o : ℕ). fieldAt o (length fields + 1)) (c .before .wide .ensures .0)
 
 room : (e : tie.Else2) → goodAt (S (e .before)) + mapWidth ≤ length (S (e .before))
-room e = omega (arith, place (e .before), e .if2 .left)
+room e = omega (arith, offset (e .before), e .if2 .left)
 
 -- the tests of the options and of the map
 known : (c : tie.After-up-to) → let w = c .before .before in c .up-to .result ≡ ltb (optionsIn (S w)) (2 ^ length fields)
@@ -34,7 +34,7 @@ beyond : (c : tie.After-up-to2) → let w = c .before .before .before .before .b
 beyond c =
     let w = c .before .before .before .before .before in
     c .up-to2 .ensures
-    ∙ ap₂ (λ (k n : ℕ). ltb k (2 ^ n)) (c .before .size-at .ensures ∙ ap (λ (k : ℕ). size (drop k (S w))) (place w))
+    ∙ ap₂ (λ (k n : ℕ). ltb k (2 ^ n)) (c .before .size-at .ensures ∙ ap (λ (k : ℕ). size (drop k (S w))) (offset w))
     (w .before .before .before .before .before .pre)
 
 returns : tie.Need-returns
@@ -56,7 +56,7 @@ add-books : tie.Need-add-books
 add-books c = omega (arith, c .field-at .ensures, fields-short (c .before .wide .result) (length fields))
 
 returns-2 : tie.Need-returns-2
-returns-2 c = laid-room (S (c .before)) (omega (arith, place (c .before), c .if2 .taken))
+returns-2 c = laid-room (S (c .before)) (omega (arith, offset (c .before), c .if2 .taken))
 
 up-to-requires : tie.Need-up-to-requires
 up-to-requires c κs = search needs
@@ -77,7 +77,7 @@ returns-3 c =
       room = room e;
       known = ltb-true (optionsIn (S w)) (2 ^ length fields) (sym (known (t .before)) ∙ t .if3 .taken);
       few = ltb-true (goodIn (S w)) (2 ^ nIn (S w)) (sym (beyond m) ∙ c .if4 .taken);
-      there = ap (λ (k : ℕ). k + mapWidth) (place w);
+      there = ap (λ (k : ℕ). k + mapWidth) (offset w);
     }
 
 returns-4 : tie.Need-returns-4

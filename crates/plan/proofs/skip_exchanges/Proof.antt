@@ -1,61 +1,57 @@
 -- `plan::skip_exchanges` meets its contract: so far it is the offset behind as many exchanges as turns. Assumes nothing.
-use mathlib.Core.Path.{_≡_, refl, subst, _∙_}
+use mathlib.Core.Path.{_≡_, refl}
 use mathlib.Core.Bool.{true}
 use mathlib.Core.List.{List}
+use mathlib.Core.Option.{Option}
 use Prim.Native.Nat.{ℕ, _+_, _-_, _≤_}
 use native.Mathlib.Omega.{arith}
-use lib.ListN.{length, drop}
-use Rattle.plan.specs.Layout.{behindBlocks, walk, skipExchanges}
+use lib.ListN.{drop}
+use Rattle.plan.specs.Layout.{skipExchange, skipExchanges}
 use Rattle.plan.specs.Private.{Ends}
-use Rattle.plan.specs.declared.Place.{Place}
-use Rattle.plan.specs.declared.Place.the-variants.{Nowhere, At as There}
-use Rattle.plan.proofs.Walks.{walk-start, walk-step, walk-none}
+use Rattle.plan.specs.declared.Offset.{Offset}
+use Rattle.plan.specs.declared.Offset.the-variants.{Nowhere, At}
+use Rattle.plan.proofs.Walks.{walk-start, step-ends, walk-none}
 use borrow.Author.Needs.{needs}
 use Rattle.plan.proofs.skip_exchanges.Statement.{statement}
 use Rattle.plan.proofs.skip_exchanges.Tie as tie
 
 abbrev Inv-loop : tie.InvT-loop
-Inv-loop s from n good e at₀ k₀ at k = (k ≤ e) × Ends (There at) (skipExchanges k n good (drop from s)) s
+Inv-loop s from n good e at₀ k₀ at k = (k ≤ e) × Ends (At at) (skipExchanges k n good (drop from s)) s
 
 abbrev μ-loop : tie.MeasureT-loop
 μ-loop s from n good e at₀ k₀ at k = e - k
 
-abbrev S : tie.In-loop Inv-loop μ-loop → List ℕ
-S c = c .before .before .before .args .s .now
-
+-- the names of the source, in a turn
 abbrev Entry : tie.In-loop Inv-loop μ-loop → tie.Start Inv-loop μ-loop
 Entry c = c .before .before .before
 
-abbrev N : tie.In-loop Inv-loop μ-loop → ℕ
-N c = Entry c .args .n
+abbrev S : tie.In-loop Inv-loop μ-loop → List ℕ
+S c = Entry c .args .s .now
 
-abbrev Good : tie.In-loop Inv-loop μ-loop → ℕ
-Good c = Entry c .args .good
+abbrev X : tie.In-loop Inv-loop μ-loop → List ℕ
+X c = drop (Entry c .args .from) (S c)
 
-abbrev At : tie.In-loop Inv-loop μ-loop → ℕ
-At c = c .before .loop .at
+abbrev Step : tie.Start Inv-loop μ-loop → List ℕ → Option (List ℕ)
+Step st = skipExchange (st .args .n) (st .args .good)
 
--- the exchange behind as many as turns, and the answer for it
-behind-it : (c : tie.In-loop Inv-loop μ-loop) → let a = Entry c .args in let l = c .before .loop in
-    skipExchanges (l .k + 1) (a .n) (a .good) (drop (a .from) (S c)) ≡ behindBlocks (a .n) 1 (a .n) (a .good) (drop (l .at) (S c))
-behind-it c =
-    let a = Entry c .args in
-    let l = c .before .loop in
-    walk-step (λ p. true) (behindBlocks (a .n) 1 (a .n) (a .good)) (drop (a .from) (S c)) (l .k) refl (drop (l .at) (S c)) (l .inv .1 .0)
+abbrev K : tie.In-loop Inv-loop μ-loop → ℕ
+K c = c .before .loop .k
 
-answered : (c : tie.After-behind-blocks Inv-loop μ-loop) → let d = c .before in let a = Entry d .args in (r : Place)
-    → c .behind-blocks .result ≡ r → Ends r (skipExchanges (d .before .loop .k + 1) (a .n) (a .good) (drop (a .from) (S d))) (S d)
-answered c r q =
+-- a step, by the answer for it
+answered : (c : tie.After-skip-blocks Inv-loop μ-loop) → let d = c .before in (q : Offset) → c .skip-blocks .result ≡ q
+    → Ends q (skipExchanges (K d + 1) (Entry d .args .n) (Entry d .args .good) (X d)) (S d)
+answered c q e =
     let d = c .before in
-    rw (behind-it d) (subst (λ (x : Place). Ends x (behindBlocks (N d) 1 (N d) (Good d) (drop (At d) (S d))) (S d)) q (c .behind-blocks .ensures))
+    let l = d .before .loop in
+    step-ends (λ k. true) (Step (Entry d)) (X d) (K d) (S d) (l .at) refl (l .inv .1 .0) (c .skip-blocks .result) q (c .skip-blocks .ensures) e
 
 loop-holds : tie.Need-loop-holds Inv-loop μ-loop
 loop-holds c =
     let a = c .before .args in
-    (omega arith, (walk-start (λ p. true) (behindBlocks (a .n) 1 (a .n) (a .good)) (drop (a .from) (a .s .now)), c .before .pre))
+    (omega arith, (walk-start (λ k. true) (Step (c .before)) (drop (a .from) (a .s .now)), c .before .pre))
 
-behind-blocks-requires : tie.Need-behind-blocks-requires Inv-loop μ-loop
-behind-blocks-requires c κs = c .before .loop .inv .1 .1
+skip-blocks-requires : tie.Need-skip-blocks-requires Inv-loop μ-loop
+skip-blocks-requires c κs = c .before .loop .inv .1 .1
 
 enum-known-next : tie.Need-enum-known-next Inv-loop μ-loop
 enum-known-next c = search needs
@@ -67,10 +63,7 @@ returns : tie.Need-returns Inv-loop μ-loop
 returns c =
     let b = c .before .before in
     let d = b .before in
-    let a = Entry d .args in
-    let k = d .before .loop .k in
-    walk-none (λ p. true) (behindBlocks (a .n) 1 (a .n) (a .good)) (drop (a .from) (S d)) (k + 1) (a .e) (omega arith)
-    (answered b Nowhere (c .enum-told .given .1))
+    walk-none (λ k. true) (Step (Entry d)) (X d) (K d + 1) (Entry d .args .e) (omega arith) (answered b Nowhere (c .enum-told .given .1))
 
 add-k : tie.Need-add-k Inv-loop μ-loop
 add-k c = search needs
@@ -81,7 +74,7 @@ loop-less c = search needs
 loop-again : tie.Need-loop-again Inv-loop μ-loop
 loop-again c =
     let x = c .before in
-    (omega arith, answered (x .before .before) (There (x .next .given .0 .0)) (x .next .given .1))
+    (omega arith, answered (x .before .before) (At (x .next .given .0 .0)) (x .next .given .1))
 
 returns-2 : tie.Need-returns-2 Inv-loop μ-loop
 returns-2 c =
@@ -96,7 +89,7 @@ skip-exchanges-spec =
     Inv-loop
     μ-loop
     loop-holds
-    behind-blocks-requires
+    skip-blocks-requires
     enum-known-next
     enum-told
     returns

@@ -9,7 +9,7 @@ use Rattle.buffer.specs.Splice.{putOf}
 use Rattle.party.specs.declared.Opened.{Opened}
 use Rattle.party.proofs.Kept.{put-whole}
 use Rattle.plan.specs.Layout.{rootOption, fieldAt, optionsIn, hasRoot, rootIn}
-use Rattle.plan.proofs.Accepted.{field-there, root-length, plan-length}
+use Rattle.plan.proofs.Accepted.{field-there, root-length, accepted}
 use Rattle.session.specs.Session.{opened}
 use Rattle.session.proofs.Rule.{Known, known, option-named, field-is, lowest-is, root-given, root-own}
 use borrow.Author.Needs.{needs}
@@ -52,7 +52,7 @@ field-at-requires : tie.Need-field-at-requires
 field-at-requires c κs = search needs
 
 add-end : tie.Need-add-end
-add-end c = omega (arith, inside c, plan-length (S (Entry c)) (Entry c .pre .taken))
+add-end c = omega (arith, inside c, accepted (S (Entry c)) (Entry c .pre .taken) .length-fits)
 
 slice-aggregate-put : tie.Need-slice-aggregate-put
 slice-aggregate-put c = search needs

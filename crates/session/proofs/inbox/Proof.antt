@@ -10,7 +10,7 @@ use Rattle.buffer.proofs.Parts.{part-rest}
 use Rattle.plan.specs.Layout.{nIn, goodIn, exchangeIn, exchangeAt}
 use Rattle.plan.specs.Plan.{exchangeOf}
 use Rattle.plan.specs.declared.Plan.{Plan}
-use Rattle.plan.proofs.Accepted.{plan-length}
+use Rattle.plan.proofs.Accepted.{accepted}
 use Rattle.plan.proofs.Tails.{exchange-there, exchange-short, exchange-of}
 use Rattle.exchange.specs.Exchange.{inboxTo, slotOf, maxInbox}
 use Rattle.exchange.specs.Private.{Lawful}
@@ -57,7 +57,7 @@ lawful k =
       first = st .pre .1;
       last = omega (arith, p .n-is, st .pre .2);
       short = omega arith;
-      planned = omega (arith, ap length (blocks k), exchange-short (st .args .e) s, plan-length s (st .pre .0 .taken));
+      planned = omega (arith, ap length (blocks k), exchange-short (st .args .e) s, accepted s (st .pre .0 .taken) .length-fits);
     }
 
 room : (k : tie.After-exchange-at) → maxInbox (M (Entry k) .n) (M (Entry k) .size) ≤ length (Entry k .args .out .now)
