@@ -6,7 +6,6 @@ use mathlib.Core.Bool.{Bool, true, false, cond}
 use mathlib.Core.List.{List, []}
 use Prim.Native.Nat.{ℕ, zero, suc, _+_, _-_, _*_, _≤_, _<_, min}
 use native.Mathlib.Nat.{suc-mul}
-use native.Mathlib.Decide.{ℕ-discrete}
 use native.Mathlib.Omega.{arith}
 use lib.Dec.{eqb}
 use lib.ListN.{length, getD, take, drop, length-append, length-take}
@@ -22,7 +21,7 @@ use Rattle.packet.specs.Inbox.{inboxOf}
 use Rattle.packet.proofs.Inbox.{inbox-more}
 use Rattle.packet.proofs.Parts.{entry-length}
 use Rattle.plan.specs.Layout.{names, packetFrom}
-use Rattle.plan.proofs.Packets.{total, total-most, total-last, packetLength, packets-within}
+use Rattle.plan.proofs.Packets.{total, total-most, total-last, one-term, packetLength, packets-within}
 use Rattle.exchange.specs.Exchange.{sentTo, inboxTo, slotOf, maxInbox, fillOf}
 use Rattle.exchange.specs.Private.{Lawful, sentBy, inboxBy}
 use Rattle.exchange.specs.declared.Mail.{Mail}
@@ -39,14 +38,6 @@ unfolding total
 total-fewer zero n p f h = omega arith
 total-fewer (suc k) zero p f h = absurd (omega arith)
 total-fewer (suc k) (suc n) p f h = omega (arith, total-fewer k n (p + 1) f (omega arith))
-
-one-term : (n p q : ℕ) (f : ℕ → ℕ) → p ≤ q → q < p + n → f q ≤ total n p f
-unfolding total
-one-term zero p q f l h = absurd (omega arith)
-one-term (suc n) p q f l h = elim (ℕ-discrete p q) [
-  | yes e ↦ omega (arith, ap f e)
-  | no d ↦ omega (arith, one-term n (p + 1) q f (omega arith) (omega arith))
-]
 
 -- the length of an inbox, by its packets
 inbox-length : (F : ℕ → List ℕ) (k : ℕ) → length (inboxOf (tabulate k (λ j. F (j + 1)))) ≡ total k 1 (λ p. 2 + length (F p))
@@ -76,7 +67,7 @@ module _ (m : Mail) (slots lens blocks : List ℕ) (i : ℕ) where
   F p = sentBy m slots lens blocks i p
 
   abbrev P : ℕ → ℕ
-  P p = packetLength (m .n) (m .good) i (m .n) 1 blocks p
+  P p = packetLength (m .n) (m .good) i blocks p
 
   sent-length : (p : ℕ) → length (F p) ≤ m .size + P p
   unfolding sentTo packetLength
@@ -85,8 +76,8 @@ module _ (m : Mail) (slots lens blocks : List ℕ) (i : ℕ) where
       go w (eqb p i) (names (m .good) p) (m .whole) (slot-short (m .size) slots lens p) (entry-within (i - 1) w)
     where
       go : (w : List ℕ) (a b c : Bool) → length w ≤ m .size → length (entryAt (i - 1) w) ≤ length w
-          → length (cond a [] (cond b (cond c w (entryAt (i - 1) w)) (packetFrom (m .n) 1 (m .n) (m .good) p i blocks)))
-          ≤ m .size + cond b 0 (length (packetFrom (m .n) 1 (m .n) (m .good) p i blocks))
+          → length (cond a [] (cond b (cond c w (entryAt (i - 1) w)) (packetFrom (m .n) (m .good) p i blocks)))
+          ≤ m .size + cond b 0 (length (packetFrom (m .n) (m .good) p i blocks))
       go w true b c h k = omega arith
       go w false true true h k = omega arith
       go w false true false h k = omega arith
@@ -98,11 +89,11 @@ module _ (m : Mail) (slots lens blocks : List ℕ) (i : ℕ) where
   sent-within M p low high small few =
       let w : List ℕ = slotOf (m .size) slots lens p in
       go w (eqb p i) (names (m .good) p) (m .whole) (slot-short (m .size) slots lens p) (entry-within (i - 1) w)
-      (omega (arith, one-term (m .n) 1 p P low (omega arith), packets-within (m .n) (m .good) i (m .n) 1 blocks))
+      (omega (arith, one-term (m .n) 1 p P low (omega arith), packets-within (m .n) (m .good) i blocks))
     where
       go : (w : List ℕ) (a b c : Bool) → length w ≤ m .size → length (entryAt (i - 1) w) ≤ length w
-          → cond b 0 (length (packetFrom (m .n) 1 (m .n) (m .good) p i blocks)) ≤ M
-          → length (cond a [] (cond b (cond c w (entryAt (i - 1) w)) (packetFrom (m .n) 1 (m .n) (m .good) p i blocks))) ≤ M
+          → cond b 0 (length (packetFrom (m .n) (m .good) p i blocks)) ≤ M
+          → length (cond a [] (cond b (cond c w (entryAt (i - 1) w)) (packetFrom (m .n) (m .good) p i blocks))) ≤ M
       go w true b c h k l = omega arith
       go w false true true h k l = omega arith
       go w false true false h k l = omega arith
@@ -117,7 +108,7 @@ module _ (m : Mail) (slots lens blocks : List ℕ) (i : ℕ) where
         inbox-length F (m .n),
         total-most (m .n) 1 (λ p. 2 + length (F p)) (λ p. m .size + 2 + P p) (λ q l h. omega (arith, sent-length q)),
         total-both (m .n) 1 (m .size + 2) P,
-        packets-within (m .n) (m .good) i (m .n) 1 blocks,
+        packets-within (m .n) (m .good) i blocks,
       )
 
   pub inbox-room : (k : ℕ) → k < m .n → length (inboxOf (tabulate k (λ j. F (j + 1)))) + (2 + length (F (k + 1)))

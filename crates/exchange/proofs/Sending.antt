@@ -31,7 +31,7 @@ module _ (n g : ℕ) (whole : Bool) (wrote : ℕ → List ℕ) (blocks : List �
     unfolding sentTo
     sent-good h = rw (ne-eqb p i other, h)
 
-    pub sent-bad : names g p ≡ false → sentTo n g whole wrote blocks i p ≡ packetFrom n 1 n g p i blocks
+    pub sent-bad : names g p ≡ false → sentTo n g whole wrote blocks i p ≡ packetFrom n g p i blocks
     unfolding sentTo
     sent-bad h = rw (ne-eqb p i other, h)
 
@@ -58,8 +58,8 @@ module _ (n g : ℕ) (whole : Bool) (f h : ℕ → List ℕ) (blocks : List ℕ)
   sent-same p low high = go (names g p) refl
     where
       go : (b : Bool) → names g p ≡ b
-          → cond (eqb p i) [] (cond b (cond whole (f p) (entryAt (i - 1) (f p))) (packetFrom n 1 n g p i blocks))
-          ≡ cond (eqb p i) [] (cond b (cond whole (h p) (entryAt (i - 1) (h p))) (packetFrom n 1 n g p i blocks))
+          → cond (eqb p i) [] (cond b (cond whole (f p) (entryAt (i - 1) (f p))) (packetFrom n g p i blocks))
+          ≡ cond (eqb p i) [] (cond b (cond whole (h p) (entryAt (i - 1) (h p))) (packetFrom n g p i blocks))
       go true e =
           ap (λ (x : List ℕ). cond (eqb p i) [] (cond whole x (entryAt (i - 1) x))) (same p low high e)
       go false e = refl

@@ -21,7 +21,7 @@ module _ (n g : ℕ) (whole : Bool) (wrote : ℕ → List ℕ) (blocks : List �
   unfoldable pub sentTo : ℕ → ℕ → List ℕ
   sentTo i p =
       cond (eqb p i) []
-      (cond (names g p) (cond whole (wrote p) (entryAt (i - 1) (wrote p))) (packetFrom n 1 n g p i blocks))
+      (cond (names g p) (cond whole (wrote p) (entryAt (i - 1) (wrote p))) (packetFrom n g p i blocks))
 
   unfoldable pub inboxTo : ℕ → List ℕ
   inboxTo i = inboxOf (tabulate n (λ k. sentTo i (k + 1)))

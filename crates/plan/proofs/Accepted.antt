@@ -1,111 +1,97 @@
--- What holds of a plan that is taken: n and t are within their limits, a given root has 32 bytes, and no book is over its limit. By the tests
+-- What holds of a plan that is taken: n and t are within their limits, the fields of options are there, and no book is over its limit. By the tests
 -- of the definitions, and by induction along the parties. Assumes nothing.
-use mathlib.Core.Path.{_≡_, refl, subst}
-use mathlib.Core.Bool.{Bool, true, false, cond, not, _||_, false≢true}
+use mathlib.Core.Path.{_≡_, refl, sym, ap, subst, _∙_}
+use mathlib.Core.Bool.{Bool, true, false, cond, not, _&&_, _||_, false≢true}
 use mathlib.Core.List.{List, []}
 use mathlib.Core.Option.{Option, none}
-use Prim.Native.Nat.{ℕ, zero, suc, _+_, _≤_, _<_, _^_}
+use Prim.Native.Nat.{ℕ, zero, suc, _+_, _-_, _≤_, _<_, _^_}
 use native.Mathlib.Omega.{arith}
-use borrow.Author.Tests.{ltb-false, eqb-true, eqb-false}
-use lib.Dec.{ltb, eqb, lit<}
-use lib.ListN.{length, drop, length-take, length-drop}
+use borrow.Author.Tests.{ltb-false, leb-true, eqb-true, eqb-false}
+use lib.Dec.{ltb, leb, eqb, lit<}
+use lib.ListN.{length, getD, drop, length-drop}
 use lib.Seq.{length-take-le}
-use Rattle.limits.specs.Limits.{maxMessage, maxPlan, groupCause}
+use Rattle.limits.specs.Limits.{maxMessage, maxPlan, numbered, groupCause}
 use Rattle.buffer.specs.Bounds.{Bytes}
-use Rattle.buffer.specs.Entries.{size, body, rest}
-use Rattle.buffer.proofs.Bounds.{body-bytes, rest-bytes}
-use Rattle.limits.proofs.Booleans.{neither}
-use Rattle.plan.specs.Layout.{names, under, longBook, unnamed, lowest, nIn, tIn, optionsIn, afterRoot, afterBit, hasRoot, rootIn, goodIn, booksIn, endOf, empty, laidOut}
+use Rattle.buffer.specs.Entries.{body}
+use Rattle.buffer.proofs.Bounds.{drop-bytes, body-bytes}
+use Rattle.limits.proofs.Ranges.{numbered-range}
+use Rattle.plan.proofs.Options.{field-inside}
+use Rattle.plan.proofs.Walks.{every-each}
+use Rattle.plan.proofs.Blocks.{entry-none}
+use Rattle.plan.proofs.Tails.{tail-entries}
+use Rattle.plan.specs.Layout.{mapWidth, names, member, unnamed, lowest, orEmpty, skipEntries, partyEntry, booksFit, fields, fieldAt, nIn, tIn, optionsIn}
+use Rattle.plan.specs.Layout.{fieldIn, hasRoot, rootIn, goodAt, goodIn, booksIn, endOf, empty, laidOut}
 use Rattle.plan.specs.Plan.{planCause}
 
 pub record Accepted (s : List ℕ) : Type 0 where
   pub group : groupCause (nIn s) (tIn s) ≡ 0
+  pub length-fits : length s ≤ maxPlan
   pub laid : laidOut s ≡ true
-  pub short : longBook maxMessage (nIn s) 1 (goodIn s) (booksIn s) ≡ false
+  pub books-fit : booksFit (nIn s) (goodIn s) (booksIn s) ≡ true
 
-no-cause : (a : Bool) (k : ℕ) (g b c : Bool) → eqb k 0 ≡ g → cond a 13 (cond (not g) k (cond (not b) 13 (cond c 4 0))) ≡ 0
-    → (k ≡ 0) × (b ≡ true) × (c ≡ false)
-no-cause true k g b c q e = absurd (omega arith)
-no-cause false k false b c q e = absurd (eqb-false k 0 q e)
-no-cause false k true false c q e = absurd (omega arith)
-no-cause false k true true true q e = absurd (omega arith)
-no-cause false k true true false q e = (eqb-true k 0 q, refl, refl)
-
-either : (a b : Bool) → cond (a || not b) false true ≡ true → b ≡ true
-either true b e = absurd (false≢true e)
-either false true e = refl
-either false false e = absurd (false≢true e)
-
-not-or : (a b : Bool) → a || not b ≡ not (cond (a || not b) false true)
-not-or true b = refl
-not-or false true = refl
-not-or false false = refl
+no-cause : (a : Bool) (k : ℕ) (g l b c : Bool) → eqb k 0 ≡ g → cond a 13 (cond (not g) k (cond (l || not b) 13 (cond (not c) 4 0))) ≡ 0
+    → (k ≡ 0) × (l ≡ false) × (b ≡ true) × (c ≡ true)
+no-cause true k g l b c q e = absurd (omega arith)
+no-cause false k false l b c q e = absurd (eqb-false k 0 q e)
+no-cause false k true true b c q e = absurd (omega arith)
+no-cause false k true false false c q e = absurd (omega arith)
+no-cause false k true false true false q e = absurd (omega arith)
+no-cause false k true false true true q e = (eqb-true k 0 q, refl, refl, refl)
 
 pub accepted : (s : List ℕ) → planCause s ≡ 0 → Accepted s
 unfolding planCause
 accepted s e =
     let k : ℕ = groupCause (nIn s) (tIn s) in
-    let o : Bool = cond (ltb maxPlan (length s) || not (laidOut s)) false true in
-    let h = no-cause (ltb (length s) 2) k (eqb k 0) o (longBook maxMessage (nIn s) 1 (goodIn s) (booksIn s)) refl
-    (subst (λ (b : Bool). cond (ltb (length s) 2) 13 (cond (not (eqb k 0)) k (cond b 13
-    (cond (longBook maxMessage (nIn s) 1 (goodIn s) (booksIn s)) 4 0))) ≡ 0) (not-or (ltb maxPlan (length s)) (laidOut s)) e) in
-    record { group = h .0; laid = either (ltb maxPlan (length s)) (laidOut s) (h .1); short = h .2 }
+    let h = no-cause (ltb (length s) 2) k (eqb k 0) (ltb maxPlan (length s)) (laidOut s) (booksFit (nIn s) (goodIn s) (booksIn s)) refl e in
+    record { group = h .0; length-fits = ltb-false maxPlan (length s) (h .1); laid = h .2; books-fit = h .3 }
 
 -- the books start within the plan
-first-tests : (a b c d : Bool) (o : Option (List ℕ)) → empty (cond (a || b || c || d) none o) ≡ true → c ≡ false
-first-tests true b c d o e = absurd (false≢true e)
-first-tests false true c d o e = absurd (false≢true e)
-first-tests false false true d o e = absurd (false≢true e)
-first-tests false false false d o e = refl
+first-tests : (a b c : Bool) (o : Option (List ℕ)) → empty (cond (a || b || c) none o) ≡ true → a ≡ false
+first-tests true b c o e = absurd (false≢true e)
+first-tests false b c o e = refl
 
-pub books-inside : (s : List ℕ) → laidOut s ≡ true → afterBit s + 2 ≤ length s
+pub books-inside : (s : List ℕ) → laidOut s ≡ true → goodAt s + mapWidth ≤ length s
 unfolding laidOut endOf
 books-inside s l =
-    ltb-false (length s) (afterBit s + 2)
-    (first-tests (ltb (length s) 3) (not (ltb (optionsIn s) 4)) (ltb (length s) (afterBit s + 2)) (not (ltb (goodIn s) (2 ^ nIn s))) _ l)
+    ltb-false (length s) (goodAt s + mapWidth)
+    (first-tests (ltb (length s) (goodAt s + mapWidth)) (not (ltb (optionsIn s) (2 ^ length fields))) (not (ltb (goodIn s) (2 ^ nIn s))) _ l)
 
--- a root that is given has 32 bytes
+-- the field of an option that is named stands within the plan, with as many bytes as the table says
+module _ (s : List ℕ) (l : laidOut s ≡ true) (k : ℕ) (known : k < length fields) (given : names (optionsIn s) (k + 1) ≡ true) where
+  pub field-there : fieldAt (optionsIn s) (k + 1) + getD fields k 0 ≤ length s
+  field-there = omega (arith, books-inside s l, field-inside (optionsIn s) k known given)
+
+  pub field-length : length (fieldIn (k + 1) s) ≡ getD fields k 0
+  field-length =
+      let o : ℕ = optionsIn s in
+      let e : getD fields (k + 1 - 1) 0 ≡ getD fields k 0 = let z : k + 1 - 1 ≡ k = omega arith in ap (λ (j : ℕ). getD fields j 0) z in
+      length-take-le (getD fields (k + 1 - 1) 0) (drop (fieldAt o (k + 1)) s) (omega (arith, e, length-drop (fieldAt o (k + 1)) s, field-there)) ∙ e
+
 pub root-length : (s : List ℕ) → laidOut s ≡ true → hasRoot s ≡ true → length (rootIn s) ≡ 32
-root-length s l r =
-    let long : afterBit s + 2 ≤ length s = books-inside s l in
-    let at : afterRoot s ≡ 35 = rw r in
-    length-take-le 32 (drop 3 s) (omega (arith, length-drop 3 s))
+root-length s l r = field-length s l 0 (omega arith) r
 
--- no book is over the limit
-body-short : (s : List ℕ) → length (body s) ≤ size s
-unfolding body
-body-short s = omega (arith, length-take (size s) (drop 2 s))
+-- no book is over the limit, and books are bytes if the plan is
+module _ (n map q : ℕ) (s : List ℕ) where
+  pub book-short : booksFit n map s ≡ true → length (partyEntry n map q s) ≤ maxMessage
+  book-short f = go (numbered n q) refl
+    where
+      go : (b : Bool) → numbered n q ≡ b → length (partyEntry n map q s) ≤ maxMessage
+      go true e =
+          let r = numbered-range n q e in
+          leb-true (length (partyEntry n map q s)) maxMessage
+          (every-each (λ p. leb (length (partyEntry n map p s)) maxMessage) n q f (r .0) (r .1))
+      go false e = omega (arith, ap length (entry-none n map q s (ap (λ (b : Bool). b && names map q) e)))
 
-pub under-short : (most k p g q : ℕ) (s : List ℕ) → longBook most k p g s ≡ false → length (under k p g q s) ≤ most
-unfolding longBook under
-under-short most zero p g q s e = omega arith
-under-short most (suc k) p g q s e =
-    go (names g p) (eqb p q) e (under-short most k (p + 1) g q (rest s)) (under-short most k (p + 1) g q s)
-  where
-    go : (a b : Bool) → cond a (ltb most (size s) || longBook most k (p + 1) g (rest s)) (longBook most k (p + 1) g s) ≡ false
-        → (longBook most k (p + 1) g (rest s) ≡ false → length (under k (p + 1) g q (rest s)) ≤ most)
-        → (longBook most k (p + 1) g s ≡ false → length (under k (p + 1) g q s) ≤ most)
-        → length (cond b (cond a (body s) []) (under k (p + 1) g q (cond a (rest s) s))) ≤ most
-    go true true h r t =
-        let w = neither (ltb most (size s)) (longBook most k (p + 1) g (rest s)) h in
-        omega (arith, body-short s, ltb-false most (size s) (w .0))
-    go true false h r t = r (neither (ltb most (size s)) (longBook most k (p + 1) g (rest s)) h .1)
-    go false true h r t = omega arith
-    go false false h r t = t h
-
--- books are bytes if the plan is
-pub under-bytes : (k p g q : ℕ) (s : List ℕ) → Bytes s → Bytes (under k p g q s)
-unfolding under
-under-bytes zero p g q s h = λ i. lit< tt
-under-bytes (suc k) p g q s h =
-    go (names g p) (eqb p q) (under-bytes k (p + 1) g q (rest s) (rest-bytes s h)) (under-bytes k (p + 1) g q s h)
-  where
-    go : (a b : Bool) → Bytes (under k (p + 1) g q (rest s)) → Bytes (under k (p + 1) g q s)
-        → Bytes (cond b (cond a (body s) []) (under k (p + 1) g q (cond a (rest s) s)))
-    go true true r t = body-bytes s h
-    go true false r t = r
-    go false true r t = λ i. lit< tt
-    go false false r t = t
+  pub entry-bytes : Bytes s → Bytes (partyEntry n map q s)
+  unfolding partyEntry
+  entry-bytes h =
+      let y : List ℕ = orEmpty (skipEntries (q - 1) map s) in
+      let t = tail-entries (q - 1) map s s (record { at = 0; is = refl }) in
+      go (member n map q) (body y) (body-bytes y (subst Bytes (sym (t .is)) (drop-bytes (t .at) s h)))
+    where
+      go : (b : Bool) (x : List ℕ) → Bytes x → Bytes (cond b x [])
+      go true x r = r
+      go false x r = λ i. lit< tt
 
 -- where a map leaves fewer than k of k parties unnamed, the lowest that it names is one of them
 pub lowest-named : (k p g : ℕ) → unnamed k p g < k → (names g (lowest k p g) ≡ true) × (p ≤ lowest k p g) × (lowest k p g < p + k)
@@ -118,18 +104,3 @@ lowest-named (suc k) p g h = go (names g p) refl h (lowest-named k (p + 1) g)
         → (names g (cond b p (lowest k (p + 1) g)) ≡ true) × (p ≤ cond b p (lowest k (p + 1) g)) × (cond b p (lowest k (p + 1) g) < p + suc k)
     go true e l r = (e, omega arith, omega arith)
     go false e l r = let w = r (omega arith) in (w .0, omega (arith, w .1), omega (arith, w .2))
-
--- a plan that is taken is no longer than the limit
-long-cause : (a : Bool) (k : ℕ) (g b c : Bool) (r : ℕ) → eqb k 0 ≡ g → cond a 13 (cond (not g) k (cond (b || c) 13 r)) ≡ 0 → b ≡ false
-long-cause true k g b c r q e = absurd (omega arith)
-long-cause false k false b c r q e = absurd (eqb-false k 0 q e)
-long-cause false k true true c r q e = absurd (omega arith)
-long-cause false k true false c r q e = refl
-
-pub plan-length : (s : List ℕ) → planCause s ≡ 0 → length s ≤ maxPlan
-unfolding planCause
-plan-length s e =
-    let k : ℕ = groupCause (nIn s) (tIn s) in
-    ltb-false maxPlan (length s)
-    (long-cause (ltb (length s) 2) k (eqb k 0) (ltb maxPlan (length s)) (not (laidOut s))
-    (cond (longBook maxMessage (nIn s) 1 (goodIn s) (booksIn s)) 4 0) refl e)

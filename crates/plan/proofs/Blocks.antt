@@ -1,75 +1,77 @@
--- Laws of a bad party's block and of the blocks of an exchange: one for each case. Assumes nothing.
+-- Laws of an entry and of a bad party's block at an offset: one for each case. Assumes nothing.
 use mathlib.Core.Path.{_≡_}
 use mathlib.Core.Bool.{true, false}
 use mathlib.Core.List.{List, []}
 use mathlib.Core.Option.{none, some}
-use Prim.Native.Nat.{ℕ, suc, _+_, _-_, _^_, _<_, _≤_}
-use borrow.Author.Tests.{lt-ltb, le-ltb, eq-eqb, ne-eqb}
+use Prim.Native.Nat.{ℕ, _+_, _-_, _^_, _<_, _≤_}
+use borrow.Author.Tests.{lt-ltb, le-ltb}
 use lib.Dec.{ltb}
 use lib.ListN.{length, drop, length-drop}
 use lib.Seq.{drop-drop}
-use Rattle.buffer.specs.Entries.{size}
-use Rattle.plan.specs.Layout.{names, behind, under, within, behindBlock, behindBlocks, packetFrom, orEmpty}
+use Rattle.limits.specs.Limits.{numbered}
+use Rattle.buffer.specs.Entries.{size, body}
+use Rattle.buffer.proofs.Entries.{rest-drop}
+use Rattle.plan.specs.Layout.{mapWidth, names, member, within, orEmpty, skipEntry, skipEntries, partyEntry, skipBlock, blockEntry, skipBlocks, packetFrom}
 
+module _ (at : ℕ) (s : List ℕ) where
+  pub entry-short : length s - at < 2 + size (drop at s) → skipEntry (drop at s) ≡ none
+  unfolding skipEntry
+  entry-short h =
+      let g : length (drop at s) < 2 + size (drop at s) = simp length-drop h in
+      rw (lt-ltb (length (drop at s)) (2 + size (drop at s)) g)
+
+  pub entry-whole : 2 + size (drop at s) ≤ length s - at → skipEntry (drop at s) ≡ some (drop (at + 2 + size (drop at s)) s)
+  unfolding skipEntry
+  entry-whole h =
+      let g : 2 + size (drop at s) ≤ length (drop at s) = simp length-drop h in
+      rw (le-ltb (length (drop at s)) (2 + size (drop at s)) g, rest-drop)
+
+-- a party's entry
+module _ (n map q : ℕ) (s : List ℕ) where
+  pub entry-none : member n map q ≡ false → partyEntry n map q s ≡ []
+  unfolding partyEntry
+  entry-none h = rw h
+
+  pub entry-some : member n map q ≡ true → partyEntry n map q s ≡ body (orEmpty (skipEntries (q - 1) map s))
+  unfolding partyEntry
+  entry-some h = rw h
+
+-- a block
 module _ (n g at : ℕ) (s : List ℕ) where
-  pub block-short : length s - at < 2 → behindBlock n g (drop at s) ≡ none
-  unfolding behindBlock
+  pub block-short : length s - at < mapWidth → skipBlock n g (drop at s) ≡ none
+  unfolding skipBlock
   block-short h =
-      let a : length (drop at s) < 2 = simp length-drop h in
-      rw (lt-ltb (length (drop at s)) 2 a)
+      let a : length (drop at s) < mapWidth = simp length-drop h in
+      rw (lt-ltb (length (drop at s)) mapWidth a)
 
-  module _ (long : 2 ≤ length s - at) where
-    there : ltb (length (drop at s)) 2 ≡ false
-    there = le-ltb (length (drop at s)) 2 (simp length-drop long)
+  module _ (long : mapWidth ≤ length s - at) where
+    there : ltb (length (drop at s)) mapWidth ≡ false
+    there = le-ltb (length (drop at s)) mapWidth (simp length-drop long)
 
-    pub block-beyond : ltb (size (drop at s)) (2 ^ n) ≡ false → behindBlock n g (drop at s) ≡ none
-    unfolding behindBlock
+    pub block-beyond : ltb (size (drop at s)) (2 ^ n) ≡ false → skipBlock n g (drop at s) ≡ none
+    unfolding skipBlock
     block-beyond h = rw (there, h)
 
     module _ (few : ltb (size (drop at s)) (2 ^ n) ≡ true) where
-      pub block-stray : within n 1 (size (drop at s)) g ≡ false → behindBlock n g (drop at s) ≡ none
-      unfolding behindBlock
+      pub block-stray : within n (size (drop at s)) g ≡ false → skipBlock n g (drop at s) ≡ none
+      unfolding skipBlock
       block-stray h = rw (there, few, h)
 
-      pub block-good : within n 1 (size (drop at s)) g ≡ true
-          → behindBlock n g (drop at s) ≡ behind n 1 (size (drop at s)) (drop (at + 2) s)
-      unfolding behindBlock
-      block-good h = rw (there, few, h, drop-drop 2 at s)
+      pub block-good : within n (size (drop at s)) g ≡ true
+          → skipBlock n g (drop at s) ≡ skipEntries n (size (drop at s)) (drop (at + mapWidth) s)
+      unfolding skipBlock
+      block-good h = rw (there, few, h, drop-drop mapWidth at s)
 
-module _ (n g : ℕ) where
-  pub blocks-end : (k p : ℕ) (s : List ℕ) → k ≡ 0 → behindBlocks k p n g s ≡ some s
-  unfolding behindBlocks
-  blocks-end k p s e = rw e
-
-  pub packet-end : (k p q i : ℕ) (s : List ℕ) → k ≡ 0 → packetFrom k p n g q i s ≡ []
+-- what a bad party sends
+module _ (n g q i : ℕ) (s : List ℕ) where
+  pub packet-none : numbered n q ≡ false → packetFrom n g q i s ≡ []
   unfolding packetFrom
-  packet-end k p q i s e = rw e
+  packet-none h = rw h
 
-  -- party p, with j behind it
-  module _ (j k p : ℕ) (s : List ℕ) (e : k ≡ suc j) where
-    module _ (good : names g p ≡ true) where
-      pub blocks-good : behindBlocks k p n g s ≡ behindBlocks j (p + 1) n g s
-      unfolding behindBlocks
-      blocks-good = rw (e, good)
+  pub packet-good : numbered n q ≡ true → names g q ≡ true → packetFrom n g q i s ≡ []
+  unfolding packetFrom
+  packet-good h k = rw (h, k)
 
-      pub packet-good : (q i : ℕ) → packetFrom k p n g q i s ≡ packetFrom j (p + 1) n g q i s
-      unfolding packetFrom
-      packet-good q i = rw (e, good)
-
-    module _ (bad : names g p ≡ false) where
-      pub blocks-none : behindBlock n g s ≡ none → behindBlocks k p n g s ≡ none
-      unfolding behindBlocks
-      blocks-none h = rw (e, bad, h)
-
-      pub blocks-more : (t : List ℕ) → behindBlock n g s ≡ some t → behindBlocks k p n g s ≡ behindBlocks j (p + 1) n g t
-      unfolding behindBlocks
-      blocks-more t h = rw (e, bad, h)
-
-      pub packet-found : (q i : ℕ) → p ≡ q → packetFrom k p n g q i s ≡ under n 1 (size s) i (drop 2 s)
-      unfolding packetFrom
-      packet-found q i h = rw (e, bad, eq-eqb p q h)
-
-      pub packet-later : (q i : ℕ) → (p ≡ q → ⊥)
-          → packetFrom k p n g q i s ≡ packetFrom j (p + 1) n g q i (orEmpty (behindBlock n g s))
-      unfolding packetFrom
-      packet-later q i h = rw (e, bad, ne-eqb p q h)
+  pub packet-bad : numbered n q ≡ true → names g q ≡ false → packetFrom n g q i s ≡ blockEntry n i (orEmpty (skipBlocks (q - 1) n g s))
+  unfolding packetFrom
+  packet-bad h k = rw (h, k)

@@ -1,4 +1,5 @@
 pub mod Maps
+pub mod Options
 pub mod Walks
 pub mod Tails
 pub mod Packets

@@ -1,8 +1,8 @@
--- What stands behind entries and blocks stands at the end of the list, so that an exchange is told by where it starts. By induction along the
--- parties. Assumes nothing.
+-- What stands behind a walk stands at the end of the list, so that an exchange is told by where it starts. By induction along the walk. Assumes
+-- nothing.
 use mathlib.Core.Path.{_≡_, refl, sym, ap, _∙_}
 use mathlib.Core.Bool.{Bool, true, false, cond, not, _||_}
-use mathlib.Core.List.{List, []}
+use mathlib.Core.List.{List, [], _∷_}
 use mathlib.Core.Option.{Option, none, some}
 use Prim.Native.Nat.{ℕ, zero, suc, _+_, _-_, _≤_, _^_, min}
 use native.Mathlib.Omega.{arith}
@@ -11,8 +11,9 @@ use lib.ListN.{length, drop, length-drop}
 use lib.Seq.{drop-drop, drop-length}
 use Rattle.buffer.specs.Entries.{size, rest}
 use Rattle.buffer.proofs.Places.{drop-min}
-use Rattle.plan.specs.Layout.{mapWidth, names, behind, within, behindBlock, behindBlocks, andThen, orEmpty, nIn, afterBit, goodIn, booksIn}
-use Rattle.plan.specs.Layout.{exchangeIn, exchangeAt}
+use Rattle.plan.specs.Layout.{mapWidth, names, within, andThen, orEmpty, walk, skipEntry, skipEntries, skipBlock, skipExchange, nIn, goodAt, goodIn}
+use Rattle.plan.specs.Layout.{booksIn, skipExchanges, exchangeIn, exchangeAt}
+use Rattle.plan.specs.Plan.{planCause, planOf, exchangeOf}
 
 -- x stands at the end of s
 pub record Tail (x s : List ℕ) : Type 0 where
@@ -28,57 +29,58 @@ tail-drop k x s t = record { at = t .at + k; is = ap (drop k) (t .is) ∙ drop-d
 pub tail-short : (x s : List ℕ) → Tail x s → length x ≤ length s
 tail-short x s t = omega (arith, ap length (t .is), length-drop (t .at) s)
 
-pub tail-place : (x s : List ℕ) → Tail x s → drop (length s - length x) s ≡ x
-tail-place x s t =
+pub tail-offset : (x s : List ℕ) → Tail x s → drop (length s - length x) s ≡ x
+tail-offset x s t =
     let e : length s - length x ≡ min (t .at) (length s) = omega (arith, ap length (t .is), length-drop (t .at) s) in
     ap (λ (k : ℕ). drop k s) e ∙ drop-min (t .at) s ∙ sym (t .is)
 
--- what stands behind entries and blocks
-pub tail-behind : (k p map : ℕ) (x s : List ℕ) → Tail x s → Tail (orEmpty (behind k p map x)) s
-unfolding behind rest
-tail-behind zero p map x s t = t
-tail-behind (suc k) p map x s t =
-    go (names map p) (ltb (length x) (2 + size x)) (tail-behind k (p + 1) map (rest x) s (tail-drop (2 + size x) x s t))
-    (tail-behind k (p + 1) map x s t)
+-- what stands behind a walk whose steps leave such an end
+pub tail-walk : (takes : ℕ → Bool) (step : List ℕ → Option (List ℕ)) (s : List ℕ)
+    → ((y : List ℕ) → Tail y s → Tail (orEmpty (step y)) s) → (k : ℕ) (x : List ℕ) → Tail x s → Tail (orEmpty (walk takes step k x)) s
+unfolding walk
+tail-walk takes step s h zero x t = t
+tail-walk takes step s h (suc k) x t = go (takes (k + 1)) (walk takes step k x) (tail-walk takes step s h k x t)
   where
-    go : (a b : Bool) → Tail (orEmpty (behind k (p + 1) map (rest x))) s → Tail (orEmpty (behind k (p + 1) map x)) s
-        → Tail (orEmpty (cond a (cond b none (behind k (p + 1) map (rest x))) (behind k (p + 1) map x))) s
-    go true true r u = tail-none s
-    go true false r u = r
-    go false b r u = u
+    go : (a : Bool) (o : Option (List ℕ)) → Tail (orEmpty o) s → Tail (orEmpty (cond a (andThen o step) o)) s
+    go true none u = tail-none s
+    go true (some y) u = h y u
+    go false o u = u
 
-pub tail-block : (n g : ℕ) (x s : List ℕ) → Tail x s → Tail (orEmpty (behindBlock n g x)) s
-unfolding behindBlock
+-- a test that may find nothing
+tail-test : (a : Bool) (o : Option (List ℕ)) (s : List ℕ) → Tail (orEmpty o) s → Tail (orEmpty (cond a none o)) s
+tail-test true o s t = tail-none s
+tail-test false o s t = t
+
+-- what stands behind entries, and behind a block
+pub tail-entries : (k map : ℕ) (x s : List ℕ) → Tail x s → Tail (orEmpty (skipEntries k map x)) s
+unfolding skipEntry rest
+tail-entries k map x s t =
+    tail-walk (names map) skipEntry s
+    (λ y u. tail-test (ltb (length y) (2 + size y)) (some (rest y)) s (tail-drop (2 + size y) y s u)) k x t
+
+tail-block : (n g : ℕ) (x s : List ℕ) → Tail x s → Tail (orEmpty (skipBlock n g x)) s
+unfolding skipBlock
 tail-block n g x s t =
-    go (ltb (length x) 2 || not (ltb (size x) (2 ^ n)) || not (within n 1 (size x) g))
-    (tail-behind n 1 (size x) (drop 2 x) s (tail-drop 2 x s t))
-  where
-    go : (a : Bool) → Tail (orEmpty (behind n 1 (size x) (drop 2 x))) s
-        → Tail (orEmpty (cond a none (behind n 1 (size x) (drop 2 x)))) s
-    go true r = tail-none s
-    go false r = r
+    tail-test (ltb (length x) mapWidth || not (ltb (size x) (2 ^ n)) || not (within n (size x) g))
+    (skipEntries n (size x) (drop mapWidth x)) s (tail-entries n (size x) (drop mapWidth x) s (tail-drop mapWidth x s t))
 
-tail-blocks : (k p n g : ℕ) (x s : List ℕ) → Tail x s → Tail (orEmpty (behindBlocks k p n g x)) s
-unfolding behindBlocks
-tail-blocks zero p n g x s t = t
-tail-blocks (suc k) p n g x s t =
-    go (names g p) (behindBlock n g x) (tail-block n g x s t) (λ y u. tail-blocks k (p + 1) n g y s u)
-  where
-    go : (a : Bool) (o : Option (List ℕ)) → Tail (orEmpty o) s
-        → ((y : List ℕ) → Tail y s → Tail (orEmpty (behindBlocks k (p + 1) n g y)) s)
-        → Tail (orEmpty (cond a (behindBlocks k (p + 1) n g x) (andThen o (behindBlocks k (p + 1) n g)))) s
-    go true o u r = r x t
-    go false none u r = tail-none s
-    go false (some y) u r = r y u
-
--- an exchange
+-- an exchange of a plan
 tail-exchange : (e : ℕ) (s : List ℕ) → Tail (exchangeIn e s) s
 unfolding exchangeIn
-tail-exchange zero s = tail-behind (nIn s) 1 (goodIn s) (booksIn s) s (record { at = afterBit s + mapWidth; is = refl })
-tail-exchange (suc e) s = tail-blocks (nIn s) 1 (nIn s) (goodIn s) (exchangeIn e s) s (tail-exchange e s)
+tail-exchange e s =
+    let n = nIn s in
+    let g = goodIn s in
+    tail-walk (λ k. true) (skipExchange n g) s (tail-walk (λ p. not (names g p)) (skipBlock n g) s (λ y u. tail-block n g y s u) n) e
+    (orEmpty (skipEntries n g (booksIn s))) (tail-entries n g (booksIn s) s (record { at = goodAt s + mapWidth; is = refl }))
 
 pub exchange-there : (e : ℕ) (s : List ℕ) → drop (exchangeAt e s) s ≡ exchangeIn e s
-exchange-there e s = tail-place (exchangeIn e s) s (tail-exchange e s)
+exchange-there e s = tail-offset (exchangeIn e s) s (tail-exchange e s)
 
 pub exchange-short : (e : ℕ) (s : List ℕ) → length (exchangeIn e s) ≤ length s
 exchange-short e s = tail-short (exchangeIn e s) s (tail-exchange e s)
+
+-- by the parts of a plan that is taken
+pub exchange-of : (e : ℕ) (s : List ℕ) → planCause s ≡ 0 → exchangeOf (planOf s) e s ≡ exchangeAt e s
+unfolding planOf exchangeOf exchangeIn walk
+exchange-of e s h =
+    rw h (ap (λ (x : List ℕ). length s - length (orEmpty (skipExchanges e (nIn s) (goodIn s) x))) (exchange-there 0 s))

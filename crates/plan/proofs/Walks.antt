@@ -1,101 +1,82 @@
--- Laws of the walks over the entries of the parties that a map names: one for each case of a party. Of k parties from p on, j stand behind
--- the first. Assumes nothing.
-use mathlib.Core.Path.{_≡_, refl, sym}
-use mathlib.Core.Bool.{Bool, true, false, cond}
-use mathlib.Core.List.{List, []}
-use mathlib.Core.Option.{none, some}
-use Prim.Native.Nat.{ℕ, zero, suc, _+_, _-_, _<_, _≤_}
+-- Laws of walks and of tests over the first numbers. A walk goes past a number that takes no step, takes a step at an offset, and finds nothing
+-- behind one that finds nothing. By induction along the numbers. Assumes nothing.
+use mathlib.Core.Path.{_≡_, refl, sym, ap, subst, _∙_}
+use mathlib.Core.Bool.{Bool, true, false, cond, _&&_}
+use mathlib.Core.List.{List}
+use mathlib.Core.Option.{Option, none, some}
+use Prim.Native.Nat.{ℕ, zero, suc, _+_, _≤_}
+use native.Mathlib.Numerals.{add-one}
+use native.Mathlib.Decide.{ℕ-discrete}
 use native.Mathlib.Omega.{arith}
-use borrow.Author.Tests.{lt-ltb, le-ltb, eq-eqb, ne-eqb, eqb-true}
-use lib.Dec.{eqb}
-use lib.ListN.{length, drop, length-drop}
-use Rattle.buffer.specs.Entries.{size, body, rest}
-use Rattle.buffer.proofs.Entries.{rest-drop}
-use Rattle.plan.specs.Layout.{names, behind, under, within, longBook}
+use lib.ListN.{length, drop}
+use lib.Seq.{drop-length}
+use Rattle.limits.proofs.Booleans.{both}
+use Rattle.plan.specs.Layout.{every, andThen, orEmpty, walk}
+use Rattle.plan.specs.Private.{Ends, orEnd}
+use Rattle.plan.specs.declared.Offset.{Offset}
+use Rattle.plan.specs.declared.Offset.the-variants.{Nowhere, At}
 
--- no party is left
-pub behind-end : (k p map : ℕ) (s : List ℕ) → k ≡ 0 → behind k p map s ≡ some s
-unfolding behind
-behind-end k p map s e = rw e
+-- where what was found stands, or the end, where nothing stands
+pub found-there : (r : Offset) (o : Option (List ℕ)) (s : List ℕ) → Ends r o s
+    → (drop (orEnd r (length s)) s ≡ orEmpty o) × (orEnd r (length s) ≤ length s)
+found-there Nowhere o s e = (drop-length s ∙ sym (ap orEmpty e), omega arith)
+found-there (At k) o s e = (sym (ap orEmpty (e .0)), e .1)
 
-pub under-end : (k p map q : ℕ) (s : List ℕ) → k ≡ 0 → under k p map q s ≡ []
-unfolding under
-under-end k p map q s e = rw e
+module _ (takes : ℕ → Bool) (step : List ℕ → Option (List ℕ)) (x : List ℕ) where
+  pub walk-start : walk takes step 0 x ≡ some x
+  unfolding walk
+  walk-start = refl
 
-pub within-end : (k p map g : ℕ) → k ≡ 0 → within k p map g ≡ true
-unfolding within
-within-end k p map g e = rw e
+  module _ (k : ℕ) where
+    pub walk-past : takes (k + 1) ≡ false → walk takes step (k + 1) x ≡ walk takes step k x
+    unfolding walk
+    walk-past h = rw (add-one k, h)
 
-pub long-end : (most k p map : ℕ) (s : List ℕ) → k ≡ 0 → longBook most k p map s ≡ false
-unfolding longBook
-long-end most k p map s e = rw e
+    walk-step : takes (k + 1) ≡ true → (y : List ℕ) → walk takes step k x ≡ some y → walk takes step (k + 1) x ≡ step y
+    unfolding walk
+    walk-step h y e = rw (add-one k, h, e)
 
--- the party looked for is past
-pub under-past : (k p map q : ℕ) (s : List ℕ) → q < p → under k p map q s ≡ []
-unfolding under
-under-past zero p map q s h = refl
-under-past (suc k) p map q s h =
-    rw (ne-eqb p q (λ e. omega arith)) (under-past k (p + 1) map q (cond (names map p) (rest s) s) (omega arith))
+    -- a step at an offset of s, by the answer for it
+    pub step-ends : (s : List ℕ) (at : ℕ) → takes (k + 1) ≡ true → walk takes step k x ≡ some (drop at s) → (r q : Offset)
+        → Ends r (step (drop at s)) s → r ≡ q → Ends q (walk takes step (k + 1) x) s
+    step-ends s at h e r q a z =
+        subst (λ (o : Option (List ℕ)). Ends q o s) (sym (walk-step h (drop at s) e)) (subst (λ (o : Offset). Ends o (step (drop at s)) s) z a)
 
-module _ (j k p map : ℕ) (e : k ≡ suc j) where
-  module _ (s : List ℕ) (no : names map p ≡ false) where
-    pub behind-unnamed : behind k p map s ≡ behind j (p + 1) map s
-    unfolding behind
-    behind-unnamed = rw (e, no)
+  pub walk-none : (k n : ℕ) → k ≤ n → walk takes step k x ≡ none → walk takes step n x ≡ none
+  unfolding walk
+  walk-none k zero h e = let z : 0 ≡ k = omega arith in ap (λ (j : ℕ). walk takes step j x) z ∙ e
+  walk-none k (suc n) h e = elim (ℕ-discrete (suc n) k) [
+    | yes z ↦ ap (λ (j : ℕ). walk takes step j x) z ∙ e
+    | no d ↦ go (takes (n + 1)) (walk-none k n (omega arith) e)
+  ]
+    where
+      go : (b : Bool) → walk takes step n x ≡ none → cond b (andThen (walk takes step n x) step) (walk takes step n x) ≡ none
+      go true r = ap (λ (o : Option (List ℕ)). andThen o step) r
+      go false r = r
 
-    pub under-unnamed : (q : ℕ) → under k p map q s ≡ under j (p + 1) map q s
-    unfolding under
-    under-unnamed q = rw (e, no) (by-test (eqb p q) refl)
-      where
-        by-test : (t : Bool) → eqb p q ≡ t → cond t [] (under j (p + 1) map q s) ≡ under j (p + 1) map q s
-        by-test true h = sym (under-past j (p + 1) map q s (omega (arith, eqb-true p q h)))
-        by-test false h = refl
+-- a test of all, from the last number down
+module _ (test : ℕ → Bool) where
+  pub every-none : (p : ℕ) → p ≡ 0 → every test p ≡ true
+  unfolding every
+  every-none p e = rw e
 
-    pub long-unnamed : (most : ℕ) → longBook most k p map s ≡ longBook most j (p + 1) map s
-    unfolding longBook
-    long-unnamed most = rw (e, no)
+  module _ (k p : ℕ) (e : p ≡ suc k) where
+    last : every test p ≡ test p && every test k
+    unfolding every
+    last = let q : p ≡ k + 1 = omega arith in ap (every test) e ∙ ap (λ (j : ℕ). test j && every test k) (sym q)
 
-  module _ (yes : names map p ≡ true) where
-    module _ (at : ℕ) (s : List ℕ) where
-      pub behind-short : length s - at < 2 + size (drop at s) → behind k p map (drop at s) ≡ none
-      unfolding behind
-      behind-short h =
-          let g : length (drop at s) < 2 + size (drop at s) = simp length-drop h in
-          rw (e, yes, lt-ltb (length (drop at s)) (2 + size (drop at s)) g)
+    pub every-fails : test p ≡ false → every test p ≡ false
+    every-fails h = last ∙ ap (λ (b : Bool). b && every test k) h
 
-      pub behind-more : 2 + size (drop at s) ≤ length s - at
-          → behind k p map (drop at s) ≡ behind j (p + 1) map (drop (at + 2 + size (drop at s)) s)
-      unfolding behind
-      behind-more h =
-          let g : 2 + size (drop at s) ≤ length (drop at s) = simp length-drop h in
-          rw (e, yes, le-ltb (length (drop at s)) (2 + size (drop at s)) g, rest-drop)
+    pub every-next : test p ≡ true → every test p ≡ every test k
+    every-next h = last ∙ ap (λ (b : Bool). b && every test k) h
 
-    module _ (s : List ℕ) where
-      pub under-found : (q : ℕ) → p ≡ q → under k p map q s ≡ body s
-      unfolding under
-      under-found q h = rw (e, yes, eq-eqb p q h)
-
-      pub under-later : (q : ℕ) → (p ≡ q → ⊥) → under k p map q s ≡ under j (p + 1) map q (rest s)
-      unfolding under
-      under-later q h = rw (e, yes, ne-eqb p q h)
-
-      pub long-found : (most : ℕ) → most < size s → longBook most k p map s ≡ true
-      unfolding longBook
-      long-found most h = rw (e, yes, lt-ltb most (size s) h)
-
-      pub long-later : (most : ℕ) → size s ≤ most → longBook most k p map s ≡ longBook most j (p + 1) map (rest s)
-      unfolding longBook
-      long-later most h = rw (e, yes, le-ltb most (size s) h)
-
-  -- receivers and good parties
-  pub within-not : (g : ℕ) → names map p ≡ true → names g p ≡ false → within k p map g ≡ false
-  unfolding within
-  within-not g a b = rw (e, a, b)
-
-  pub within-unnamed : (g : ℕ) → names map p ≡ false → within k p map g ≡ within j (p + 1) map g
-  unfolding within
-  within-unnamed g a = rw (e, a)
-
-  pub within-named : (g : ℕ) → names map p ≡ true → names g p ≡ true → within k p map g ≡ within j (p + 1) map g
-  unfolding within
-  within-named g a b = rw (e, a, b)
+  pub every-each : (k q : ℕ) → every test k ≡ true → 1 ≤ q → q ≤ k → test q ≡ true
+  unfolding every
+  every-each zero q h l m = absurd (omega arith)
+  every-each (suc k) q h l m =
+      let b = both (test (k + 1)) (every test k) h in
+      elim (ℕ-discrete q (k + 1)) [
+        | yes e ↦ ap test e ∙ b .0
+        | no d ↦ every-each k q (b .1) l (omega arith)
+      ]

@@ -1,11 +1,12 @@
--- The layout of a plan (document 01, "The rehearsal"): n, t, an option map, the root and the bit if the options name them, a map of good
--- parties, their books, and for each of two exchanges the blocks of the bad parties. Assumes nothing.
+-- The layout of a plan (document 01, "The rehearsal"): n, t, an option map, the fields of the options that it names, a map of good parties, their
+-- books, and for each exchange the blocks of the bad parties. Assumes nothing.
 use mathlib.Core.Bool.{Bool, true, false, cond, not, _&&_, _||_}
-use mathlib.Core.List.{List, []}
+use mathlib.Core.List.{List, [], _∷_}
 use mathlib.Core.Option.{Option, none, some}
 use Prim.Native.Nat.{ℕ, zero, suc, _+_, _-_, _/_, _%_, _^_}
-use lib.Dec.{ltb, eqb}
+use lib.Dec.{ltb, leb, eqb}
 use lib.ListN.{length, getD, take, drop}
+use Rattle.limits.specs.Limits.{maxMessage, numbered}
 use Rattle.buffer.specs.Entries.{size, body, rest}
 
 -- a map has two bytes, and names party p by the value two to the p - 1
@@ -15,53 +16,9 @@ mapWidth = 2
 abbrev pub names : ℕ → ℕ → Bool
 names map p = eqb (map / 2 ^ (p - 1) % 2) 1
 
--- of k parties from p on, those that a map names have an entry each, one behind the other: what stands behind them, none if one runs short
-unfoldable pub behind : ℕ → ℕ → ℕ → List ℕ → Option (List ℕ)
-behind zero p map s = some s
-behind (suc k) p map s =
-    cond (names map p) (cond (ltb (length s) (2 + size s)) none (behind k (p + 1) map (rest s))) (behind k (p + 1) map s)
-
--- the bytes of party q's entry among them; no bytes if it has none
-unfoldable pub under : ℕ → ℕ → ℕ → ℕ → List ℕ → List ℕ
-under zero p map q s = []
-under (suc k) p map q s =
-    cond (eqb p q) (cond (names map p) (body s) []) (under k (p + 1) map q (cond (names map p) (rest s) s))
-
--- of k parties from p on, all that the map r names are named by g too
-unfoldable pub within : ℕ → ℕ → ℕ → ℕ → Bool
-within zero p r g = true
-within (suc k) p r g = cond (names r p) (names g p) true && within k (p + 1) r g
-
--- a bad party's block: a two-byte map of receivers, who are good parties up to n, and an entry for each; what stands behind it
-unfoldable pub behindBlock : ℕ → ℕ → List ℕ → Option (List ℕ)
-behindBlock n g s =
-    cond (ltb (length s) mapWidth || not (ltb (size s) (2 ^ n)) || not (within n 1 (size s) g)) none (behind n 1 (size s) (drop mapWidth s))
-
-abbrev pub andThen : Option (List ℕ) → (List ℕ → Option (List ℕ)) → Option (List ℕ)
-andThen none f = none
-andThen (some s) f = f s
-
-abbrev pub orEmpty : Option (List ℕ) → List ℕ
-orEmpty none = []
-orEmpty (some s) = s
-
--- one exchange: of k parties from p on, each bad one has a block; what stands behind them
-unfoldable pub behindBlocks : ℕ → ℕ → ℕ → ℕ → List ℕ → Option (List ℕ)
-behindBlocks zero p n g s = some s
-behindBlocks (suc k) p n g s =
-    cond (names g p) (behindBlocks k (p + 1) n g s) (andThen (behindBlock n g s) (behindBlocks k (p + 1) n g))
-
--- what bad party q sends to party i in it; no bytes if its block does not name i
-unfoldable pub packetFrom : ℕ → ℕ → ℕ → ℕ → ℕ → ℕ → List ℕ → List ℕ
-packetFrom zero p n g q i s = []
-packetFrom (suc k) p n g q i s =
-    cond (names g p) (packetFrom k (p + 1) n g q i s)
-    (cond (eqb p q) (under n 1 (size s) i (drop mapWidth s)) (packetFrom k (p + 1) n g q i (orEmpty (behindBlock n g s))))
-
--- a book longer than the limit stands among the entries of the k parties from p on that g names
-unfoldable pub longBook : ℕ → ℕ → ℕ → ℕ → List ℕ → Bool
-longBook most zero p g s = false
-longBook most (suc k) p g s = cond (names g p) (ltb most (size s) || longBook most k (p + 1) g (rest s)) (longBook most k (p + 1) g s)
+-- q is one of n parties, and a map names it
+abbrev pub member : ℕ → ℕ → ℕ → Bool
+member n map q = numbered n q && names map q
 
 -- how many of k parties from p on a map does not name
 unfoldable pub unnamed : ℕ → ℕ → ℕ → ℕ
@@ -73,8 +30,84 @@ unfoldable pub lowest : ℕ → ℕ → ℕ → ℕ
 lowest zero p g = 0
 lowest (suc k) p g = cond (names g p) p (lowest k (p + 1) g)
 
--- the parts of a plan s: n, t and the options; where a root, then a bit stands, if the options name them; the map of good parties; and what
--- stands from the books on
+-- all of the first k numbers pass a test
+unfoldable pub every : (ℕ → Bool) → ℕ → Bool
+every test zero = true
+every test (suc k) = test (k + 1) && every test k
+
+-- of n parties, all that the map r names are named by g too
+abbrev pub within : ℕ → ℕ → ℕ → Bool
+within n r g = every (λ p. cond (names r p) (names g p) true) n
+
+abbrev pub andThen : Option (List ℕ) → (List ℕ → Option (List ℕ)) → Option (List ℕ)
+andThen none f = none
+andThen (some s) f = f s
+
+abbrev pub orEmpty : Option (List ℕ) → List ℕ
+orEmpty none = []
+orEmpty (some s) = s
+
+-- of the first k numbers, those that `takes` tells take a step each, one after the other: what stands behind them, none if a step finds nothing
+unfoldable pub walk : (ℕ → Bool) → (List ℕ → Option (List ℕ)) → ℕ → List ℕ → Option (List ℕ)
+walk takes step zero s = some s
+walk takes step (suc k) s = cond (takes (k + 1)) (andThen (walk takes step k s) step) (walk takes step k s)
+
+-- an entry; the entries of the first k parties, one for each that a map names; and what stands behind them, none if one runs short
+unfoldable pub skipEntry : List ℕ → Option (List ℕ)
+skipEntry s = cond (ltb (length s) (2 + size s)) none (some (rest s))
+
+abbrev pub skipEntries : ℕ → ℕ → List ℕ → Option (List ℕ)
+skipEntries k map s = walk (names map) skipEntry k s
+
+-- the bytes of party q's entry, which stands behind those of lower parties; no bytes if it has none
+unfoldable pub partyEntry : ℕ → ℕ → ℕ → List ℕ → List ℕ
+partyEntry n map q s = cond (member n map q) (body (orEmpty (skipEntries (q - 1) map s))) []
+
+-- no book among them is over the greatest length
+abbrev pub booksFit : ℕ → ℕ → List ℕ → Bool
+booksFit n g s = every (λ p. leb (length (partyEntry n g p s)) maxMessage) n
+
+-- a bad party's block: a map of receivers, who are good parties up to n, and an entry for each; what stands behind it
+unfoldable pub skipBlock : ℕ → ℕ → List ℕ → Option (List ℕ)
+skipBlock n g s =
+    cond (ltb (length s) mapWidth || not (ltb (size s) (2 ^ n)) || not (within n (size s) g)) none (skipEntries n (size s) (drop mapWidth s))
+
+-- what it has for party i; no bytes if it does not name i
+abbrev pub blockEntry : ℕ → ℕ → List ℕ → List ℕ
+blockEntry n i s = partyEntry n (size s) i (drop mapWidth s)
+
+-- the blocks of the first k parties, one for each bad one; and an exchange, the blocks of all n
+abbrev pub skipBlocks : ℕ → ℕ → ℕ → List ℕ → Option (List ℕ)
+skipBlocks k n g s = walk (λ p. not (names g p)) (skipBlock n g) k s
+
+abbrev pub skipExchange : ℕ → ℕ → List ℕ → Option (List ℕ)
+skipExchange n g s = skipBlocks n n g s
+
+-- what bad party q sends to party i in it, by q's block, which stands behind those of lower bad parties
+unfoldable pub packetFrom : ℕ → ℕ → ℕ → ℕ → List ℕ → List ℕ
+packetFrom n g q i s = cond (numbered n q && not (names g q)) (blockEntry n i (orEmpty (skipBlocks (q - 1) n g s))) []
+
+-- Options are numbered from 1 and named by the option map, as parties are by theirs. The table: how many bytes the field of each has.
+abbrev pub fields : List ℕ
+fields = 32 ∷ 1 ∷ []
+
+abbrev pub rootOption : ℕ
+rootOption = 1
+
+abbrev pub bitOption : ℕ
+bitOption = 2
+
+-- the bytes of the fields of those of the first k options that a map names
+unfoldable pub fieldBytes : ℕ → ℕ → ℕ
+fieldBytes zero options = 0
+fieldBytes (suc k) options = fieldBytes k options + cond (names options (k + 1)) (getD fields k 0) 0
+
+-- the offset of option k's field: n, t, the option map and the fields of lower options stand before it
+abbrev pub fieldAt : ℕ → ℕ → ℕ
+fieldAt options k = 3 + fieldBytes (k - 1) options
+
+-- the parts of a plan s: n, t and the options; the field of an option; the map of good parties, behind all fields; and what stands from the
+-- books on
 abbrev pub nIn : List ℕ → ℕ
 nIn s = getD s 0 0
 
@@ -84,45 +117,51 @@ tIn s = getD s 1 0
 abbrev pub optionsIn : List ℕ → ℕ
 optionsIn s = getD s 2 0
 
+abbrev pub fieldIn : ℕ → List ℕ → List ℕ
+fieldIn k s = take (getD fields (k - 1) 0) (drop (fieldAt (optionsIn s) k) s)
+
 abbrev pub hasRoot : List ℕ → Bool
-hasRoot s = eqb (optionsIn s % 2) 1
-
-abbrev pub hasBit : List ℕ → Bool
-hasBit s = eqb (optionsIn s / 2 % 2) 1
-
-abbrev pub afterRoot : List ℕ → ℕ
-afterRoot s = cond (hasRoot s) 35 3
-
-abbrev pub afterBit : List ℕ → ℕ
-afterBit s = afterRoot s + cond (hasBit s) 1 0
+hasRoot s = names (optionsIn s) rootOption
 
 abbrev pub rootIn : List ℕ → List ℕ
-rootIn s = take 32 (drop 3 s)
+rootIn s = fieldIn rootOption s
+
+abbrev pub hasBit : List ℕ → Bool
+hasBit s = names (optionsIn s) bitOption
 
 abbrev pub bitIn : List ℕ → ℕ
-bitIn s = getD s (afterRoot s) 0
+bitIn s = getD s (fieldAt (optionsIn s) bitOption) 0
+
+abbrev pub goodAt : List ℕ → ℕ
+goodAt s = fieldAt (optionsIn s) (length fields + 1)
 
 abbrev pub goodIn : List ℕ → ℕ
-goodIn s = size (drop (afterBit s) s)
+goodIn s = size (drop (goodAt s) s)
 
 abbrev pub booksIn : List ℕ → List ℕ
-booksIn s = drop (afterBit s + mapWidth) s
+booksIn s = drop (goodAt s + mapWidth) s
 
--- from exchange e on, counted from 0: the first one stands behind the books, each later one behind the blocks of the one before it
+-- how many exchanges there are, and what stands behind e of them
+abbrev pub exchanges : ℕ
+exchanges = 2
+
+abbrev pub skipExchanges : ℕ → ℕ → ℕ → List ℕ → Option (List ℕ)
+skipExchanges e n g s = walk (λ k. true) (skipExchange n g) e s
+
+-- from exchange e on, counted from 0: the first one stands behind the books
 unfoldable pub exchangeIn : ℕ → List ℕ → List ℕ
-exchangeIn zero s = orEmpty (behind (nIn s) 1 (goodIn s) (booksIn s))
-exchangeIn (suc e) s = orEmpty (behindBlocks (nIn s) 1 (nIn s) (goodIn s) (exchangeIn e s))
+exchangeIn e s = orEmpty (skipExchanges e (nIn s) (goodIn s) (orEmpty (skipEntries (nIn s) (goodIn s) (booksIn s))))
 
 abbrev pub exchangeAt : ℕ → List ℕ → ℕ
 exchangeAt e s = length s - length (exchangeIn e s)
 
--- the plan is well laid out behind n and t: the options are known, the map of good parties names none beyond n, the entries and blocks are
--- all there, and no byte is left over
+-- the plan is well laid out behind n and t: the fields and the map of good parties are there, the options are known, that map names none
+-- beyond n, the entries and blocks are all there, and no byte is left over
 unfoldable pub endOf : List ℕ → Option (List ℕ)
 endOf s =
-    cond (ltb (length s) 3 || not (ltb (optionsIn s) 4) || ltb (length s) (afterBit s + mapWidth) || not (ltb (goodIn s) (2 ^ nIn s))) none
-    (andThen (behind (nIn s) 1 (goodIn s) (booksIn s))
-    (λ first. andThen (behindBlocks (nIn s) 1 (nIn s) (goodIn s) first) (behindBlocks (nIn s) 1 (nIn s) (goodIn s))))
+    cond
+    (ltb (length s) (goodAt s + mapWidth) || not (ltb (optionsIn s) (2 ^ length fields)) || not (ltb (goodIn s) (2 ^ nIn s))) none
+    (andThen (skipEntries (nIn s) (goodIn s) (booksIn s)) (skipExchanges exchanges (nIn s) (goodIn s)))
 
 abbrev pub empty : Option (List ℕ) → Bool
 empty none = false

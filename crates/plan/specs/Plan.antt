@@ -1,14 +1,15 @@
 -- A plan read: its causes, in document 01's order for a plan, and its parts. The rule of the short agreement (cause 14) is judged with the
 -- parties' roots and bits, not here. Assumes nothing.
-use mathlib.Core.Bool.{false, cond, not, _||_}
+use mathlib.Core.Bool.{cond, not, _||_}
 use mathlib.Core.List.{List}
-use Prim.Native.Nat.{ℕ, _+_}
+use Prim.Native.Nat.{ℕ, _+_, _-_}
 use lib.Dec.{ltb, eqb}
-use lib.ListN.{length}
-use Rattle.limits.specs.Limits.{maxMessage, maxPlan, parties, groupCause}
+use lib.ListN.{length, drop}
+use Rattle.limits.specs.Limits.{maxPlan, parties, groupCause}
 use Rattle.buffer.specs.Given.{Given, gave, written}
 use Rattle.buffer.specs.declared.Written.the-variants.{Refused}
-use Rattle.plan.specs.Layout.{mapWidth, under, packetFrom, longBook, nIn, tIn, hasRoot, hasBit, afterBit, goodIn, booksIn, exchangeAt, laidOut}
+use Rattle.plan.specs.Layout.{mapWidth, member, partyEntry, booksFit, packetFrom, orEmpty, nIn, tIn, optionsIn, goodAt, goodIn, booksIn}
+use Rattle.plan.specs.Layout.{skipExchanges, exchangeAt, laidOut}
 use Rattle.plan.specs.declared.Plan.{Plan}
 
 -- 13 if under two bytes, then 1, 2, then 13 (over the greatest length, or badly laid out), then 4; 0: none
@@ -17,30 +18,35 @@ planCause s =
     cond (ltb (length s) 2) 13
     (cond (not (eqb (groupCause (nIn s) (tIn s)) 0)) (groupCause (nIn s) (tIn s))
     (cond (ltb maxPlan (length s) || not (laidOut s)) 13
-    (cond (longBook maxMessage (nIn s) 1 (goodIn s) (booksIn s)) 4
+    (cond (not (booksFit (nIn s) (goodIn s) (booksIn s))) 4
     0)))
 
--- the parts by where they start; nothing is told of a plan that is turned away
+-- the parts, the books and exchanges by where they start; nothing is told of a plan that is refused
 unfoldable pub planOf : List ℕ → Plan
 planOf s =
     cond (not (eqb (planCause s) 0))
-    (record { cause = planCause s; n = 0; t = 0; rooted = false; voted = false; good = 0; books = 0; first = 0; second = 0 })
+    (record { cause = planCause s; n = 0; t = 0; options = 0; good = 0; books = 0; exchanges = 0 })
     (record {
       cause = 0;
       n = nIn s;
       t = tIn s;
-      rooted = hasRoot s;
-      voted = hasBit s;
+      options = optionsIn s;
       good = goodIn s;
-      books = afterBit s + mapWidth;
-      first = exchangeAt 0 s;
-      second = exchangeAt 1 s;
+      books = goodAt s + mapWidth;
+      exchanges = exchangeAt 0 s;
     })
 
--- good party q's book among the books s, in a lent buffer: cause 1, then 9
-unfoldable pub bookOf : ℕ → ℕ → ℕ → List ℕ → List ℕ → Given
-bookOf n g q s out = cond (not (parties n)) (gave (Refused 1) out) (written (under n 1 g q s) out)
+-- the offset of exchange e of a plan with these parts, counted from 0; the end, if one before it is not in order
+unfoldable pub exchangeOf : Plan → ℕ → List ℕ → ℕ
+exchangeOf x e s = length s - length (orEmpty (skipExchanges e (x .n) (x .good) (drop (x .exchanges) s)))
+
+-- good party q's book among the books s, in a lent buffer: cause 1, 3 where q is none of n parties or not a good one, which has no book, then 9
+unfoldable pub bookGiven : ℕ → ℕ → ℕ → List ℕ → List ℕ → Given
+bookGiven n g q s out =
+    cond (not (parties n)) (gave (Refused 1) out)
+    (cond (not (member n g q)) (gave (Refused 3) out)
+    (written (partyEntry n g q s) out))
 
 -- what bad party q sends to party i in the exchange that starts with s, in a lent buffer: cause 1, then 9
-unfoldable pub packetOf : ℕ → ℕ → ℕ → ℕ → List ℕ → List ℕ → Given
-packetOf n g q i s out = cond (not (parties n)) (gave (Refused 1) out) (written (packetFrom n 1 n g q i s) out)
+unfoldable pub packetGiven : ℕ → ℕ → ℕ → ℕ → List ℕ → List ℕ → Given
+packetGiven n g q i s out = cond (not (parties n)) (gave (Refused 1) out) (written (packetFrom n g q i s) out)

@@ -53,7 +53,7 @@ use Rattle.agreement.proofs.Agreement.{agreement, agreement-sha256}
 use Rattle.plan.specs.Layout.{unnamed, nIn, tIn, hasRoot, hasBit, rootIn, goodIn, booksIn, exchangeIn}
 use Rattle.plan.specs.Layout as layout
 use Rattle.plan.specs.Plan.{planCause}
-use Rattle.plan.proofs.Accepted.{Accepted, accepted as plan-taken, lowest-named, root-length, under-short, under-bytes}
+use Rattle.plan.proofs.Accepted.{Accepted, accepted as plan-taken, lowest-named, root-length, book-short, entry-bytes}
 use Rattle.exchange.specs.Exchange.{sentTo, inboxTo}
 use Rattle.exchange.proofs.Sending.{sent-good}
 use Rattle.report.specs.Output.{sentLine}
@@ -147,12 +147,12 @@ module _ (H : List ℕ → List ℕ) (wide : (x : List ℕ) → length (H x) ≡
         low = g .low;
         high = g .high;
         faults = g .faults;
-        short = under-short maxMessage n 1 (goodIn s) p (booksIn s) (plan .short);
+        short = book-short n (goodIn s) p (booksIn s) (plan .books-fit);
       }
 
   message-bytes : (p : ℕ) → Bytes (messageOf s p)
   unfolding messageOf
-  message-bytes p = under-bytes n 1 (goodIn s) p (booksIn s) (drop-bytes (layout.afterBit s + 2) s bytes)
+  message-bytes p = entry-bytes n (goodIn s) p (booksIn s) (drop-bytes (layout.goodAt s + layout.mapWidth) s bytes)
 
   -- the root that any opening gives, or the blank one, has 32 bytes
   root-long : (p : ℕ) → length (opened H s p .root) ≡ 32

@@ -12,9 +12,9 @@ use lib.ListN.{length, take, drop}
 use Rattle.limits.specs.Limits.{maxParties, maxMessage}
 use Rattle.limits.proofs.Group.{group-of}
 use Rattle.buffer.specs.Splice.{spliced}
-use Rattle.buffer.specs.Given.{Given, gave, valueOf}
+use Rattle.buffer.specs.Given.{Given, gave, causeOf, valueOf}
 use Rattle.buffer.specs.declared.Written.{Written}
-use Rattle.buffer.specs.declared.Written.the-variants.{Done}
+use Rattle.buffer.specs.declared.Written.the-variants.{Refused, Done}
 use Rattle.buffer.proofs.Splice.{length-spliced, take-spliced}
 use Rattle.buffer.proofs.Given.{written-done}
 use Rattle.merkle.specs.Shares.{same}
@@ -22,14 +22,15 @@ use Rattle.party.specs.State.{happy}
 use Rattle.party.specs.Steps.{openOf, rootCause, withRoot, gives, refused, agreeRootOf}
 use Rattle.party.specs.declared.Party.{Party}
 use Rattle.party.specs.declared.Answer.the-variants.{Happy}
-use Rattle.plan.specs.Layout.{names, unnamed, lowest, nIn, tIn, hasRoot, hasBit, afterRoot, afterBit, rootIn, bitIn, goodIn, booksIn}
+use Rattle.plan.specs.Layout.{mapWidth, names, member, unnamed, lowest, fieldAt, nIn, tIn, optionsIn, hasRoot, hasBit, rootIn, bitIn, goodAt, goodIn, booksIn}
 use Rattle.plan.specs.Layout.{exchangeAt, laidOut}
-use Rattle.plan.specs.Plan.{planCause, planOf, bookOf}
+use Rattle.plan.specs.Plan.{planCause, planOf, bookGiven}
 use Rattle.plan.specs.declared.Plan.{Plan}
 use Rattle.plan.proofs.Maps.{named}
 use Rattle.plan.proofs.Maps as maps
-use Rattle.plan.proofs.Given.{book-given}
-use Rattle.plan.proofs.Accepted.{accepted, books-inside, under-short}
+use Rattle.plan.proofs.Given.{book-none, book-some}
+use Rattle.plan.proofs.Blocks.{entry-none}
+use Rattle.plan.proofs.Accepted.{accepted, books-inside, book-short}
 use Rattle.session.specs.Session.{isGood, messageOf, lowestGood, opened, agreedRoot, step2, agreedBit, sameRoots, sameBits, unlawful}
 use Rattle.session.specs.Private.{Ready, bitGiven}
 
@@ -37,17 +38,14 @@ use Rattle.session.specs.Private.{Ready, bitGiven}
 pub record Known (s : List ℕ) (parts : Plan) : Type 0 where
   pub n-is : parts .n ≡ nIn s
   pub t-is : parts .t ≡ tIn s
-  pub rooted-is : parts .rooted ≡ hasRoot s
-  pub voted-is : parts .voted ≡ hasBit s
+  pub options-are : parts .options ≡ optionsIn s
   pub good-is : parts .good ≡ goodIn s
-  pub books-are : parts .books ≡ afterBit s + 2
-  pub first-is : parts .first ≡ exchangeAt 0 s
-  pub second-is : parts .second ≡ exchangeAt 1 s
+  pub books-are : parts .books ≡ goodAt s + mapWidth
   pub low : 1 ≤ nIn s
   pub high : nIn s ≤ maxParties
   pub faults : 2 * tIn s < nIn s
   pub laid : laidOut s ≡ true
-  pub inside : afterBit s + 2 ≤ length s
+  pub inside : goodAt s + mapWidth ≤ length s
   pub short : (q : ℕ) → length (messageOf s q) ≤ maxMessage
 
 abbrev takenPlan : List ℕ → Plan
@@ -56,12 +54,10 @@ takenPlan s =
       cause = 0;
       n = nIn s;
       t = tIn s;
-      rooted = hasRoot s;
-      voted = hasBit s;
+      options = optionsIn s;
       good = goodIn s;
-      books = afterBit s + 2;
-      first = exchangeAt 0 s;
-      second = exchangeAt 1 s;
+      books = goodAt s + mapWidth;
+      exchanges = exchangeAt 0 s;
     }
 
 plan-is : (s : List ℕ) → planCause s ≡ 0 → planOf s ≡ takenPlan s
@@ -77,18 +73,15 @@ known s parts r =
     record {
       n-is = ap (λ (x : Plan). x .n) e;
       t-is = ap (λ (x : Plan). x .t) e;
-      rooted-is = ap (λ (x : Plan). x .rooted) e;
-      voted-is = ap (λ (x : Plan). x .voted) e;
+      options-are = ap (λ (x : Plan). x .options) e;
       good-is = ap (λ (x : Plan). x .good) e;
       books-are = ap (λ (x : Plan). x .books) e;
-      first-is = ap (λ (x : Plan). x .first) e;
-      second-is = ap (λ (x : Plan). x .second) e;
       low = g .low;
       high = g .high;
       faults = g .faults;
       laid = a .laid;
       inside = books-inside s (a .laid);
-      short = λ q. under-short maxMessage (nIn s) 1 (goodIn s) q (booksIn s) (a .short);
+      short = λ q. book-short (nIn s) (goodIn s) q (booksIn s) (a .books-fit);
     }
 
 -- what the code reads of such a plan is what the definitions say
@@ -105,15 +98,11 @@ module _ (s : List ℕ) (parts : Plan) (k : Known s parts) where
   pub books-room : parts .books ≤ length s
   books-room = omega (arith, k .books-are, k .inside)
 
-  pub root-room : hasRoot s ≡ true → 35 ≤ length s
-  root-room h =
-      let e : afterRoot s ≡ 35 = ap (λ (b : Bool). cond b 35 3) h in
-      omega (arith, k .inside, e)
+  pub option-named : (j : ℕ) (b : Bool) → b ≡ names (parts .options) j → b ≡ names (optionsIn s) j
+  option-named j b e = e ∙ ap (λ (o : ℕ). names o j) (k .options-are)
 
-  pub bit-place : hasBit s ≡ true → parts .books ≡ afterRoot s + 3
-  bit-place h =
-      let e : afterBit s ≡ afterRoot s + 1 = ap (λ (b : Bool). afterRoot s + cond b 1 0) h in
-      omega (arith, k .books-are, e)
+  pub field-is : (j x : ℕ) → x ≡ fieldAt (parts .options) j → x ≡ fieldAt (optionsIn s) j
+  field-is j x e = e ∙ ap (λ (o : ℕ). fieldAt o j) (k .options-are)
 
   pub open-is : (H : List ℕ → List ℕ) (q : ℕ) (m : List ℕ) → m ≡ messageOf s q → openOf H (parts .n) (parts .t) q m ≡ opened H s q
   unfolding opened
@@ -121,26 +110,45 @@ module _ (s : List ℕ) (parts : Plan) (k : Known s parts) where
 
   -- the answer for a book, in a buffer of the greatest length
   module _ (q : ℕ) (out : List ℕ) (long : length out ≡ maxMessage) (r : Written) (o : List ℕ)
-      (e : gave r o ≡ bookOf (parts .n) (parts .good) q (drop (parts .books) s) out) where
-    given : gave r o ≡ gave (Done (length (messageOf s q))) (spliced out 0 (messageOf s q))
+      (e : gave r o ≡ bookGiven (parts .n) (parts .good) q (drop (parts .books) s) out) where
+    -- a good party has one, and another party none
+    given : member (nIn s) (goodIn s) q ≡ true → gave r o ≡ gave (Done (length (messageOf s q))) (spliced out 0 (messageOf s q))
     unfolding messageOf
-    given =
+    given good =
         e ∙ rw (k .n-is, k .good-is, k .books-are)
-        (book-given (nIn s) (goodIn s) q (booksIn s) out (k .low) (k .high)
+        (book-some (nIn s) (goodIn s) q (booksIn s) out (k .low) (k .high) good
         ∙ written-done (messageOf s q) out (omega (arith, long, k .short q)))
 
-    pub book-done : r ≡ Done (length (messageOf s q))
-    book-done = ap (λ (g : Given). g .answer) given
+    refused : member (nIn s) (goodIn s) q ≡ false → gave r o ≡ gave (Refused 3) out
+    refused bad = e ∙ rw (k .n-is, k .good-is, k .books-are) (book-none (nIn s) (goodIn s) q (booksIn s) out (k .low) (k .high) bad)
+
+    -- one that is given is the party's message
+    done : (l : ℕ) → r ≡ Done l → gave r o ≡ gave (Done (length (messageOf s q))) (spliced out 0 (messageOf s q))
+    done l h = go (member (nIn s) (goodIn s) q) refl
+      where
+        go : (b : Bool) → member (nIn s) (goodIn s) q ≡ b → gave r o ≡ gave (Done (length (messageOf s q))) (spliced out 0 (messageOf s q))
+        go true good = given good
+        go false bad = absurd (omega (arith, ap causeOf (sym h), ap (λ (g : Given). g .cause) (refused bad)))
 
     pub book-room : (l : ℕ) → r ≡ Done l → l ≤ length o
     book-room l h =
-        let size : l ≡ length (messageOf s q) = ap valueOf (sym h ∙ book-done) in
-        let bytes : length o ≡ length (spliced out 0 (messageOf s q)) = ap (λ (g : Given). length (g .buffer)) given in
+        let size : l ≡ length (messageOf s q) = ap valueOf (sym h) ∙ ap (λ (g : Given). g .value) (done l h) in
+        let bytes : length o ≡ length (spliced out 0 (messageOf s q)) = ap (λ (g : Given). length (g .buffer)) (done l h) in
         omega (arith, size, bytes, length-spliced out 0 (messageOf s q) (omega (arith, long, k .short q)), long, k .short q)
 
     pub book-bytes : (l : ℕ) → r ≡ Done l → take l o ≡ messageOf s q
     book-bytes l h =
-        ap₂ take (ap valueOf (sym h ∙ book-done)) (ap (λ (g : Given). g .buffer) given) ∙ take-spliced out (messageOf s q)
+        ap₂ take (ap valueOf (sym h) ∙ ap (λ (g : Given). g .value) (done l h)) (ap (λ (g : Given). g .buffer) (done l h))
+        ∙ take-spliced out (messageOf s q)
+
+    -- where none is given, the party has no message
+    pub book-missing : ((l : ℕ) → r ≡ Done l → ⊥) → messageOf s q ≡ []
+    unfolding messageOf
+    book-missing never = go (member (nIn s) (goodIn s) q) refl
+      where
+        go : (b : Bool) → member (nIn s) (goodIn s) q ≡ b → messageOf s q ≡ []
+        go true good = absurd (never (length (messageOf s q)) (ap (λ (g : Given). g .answer) (given good)))
+        go false bad = entry-none (nIn s) (goodIn s) q (booksIn s) bad
 
 -- the agreed root and bit: given, or the lowest-numbered good party's
 module _ (H : List ℕ → List ℕ) (s : List ℕ) where

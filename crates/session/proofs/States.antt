@@ -10,7 +10,7 @@ use lib.Seq.{getD-set-same, getD-set-other}
 use Rattle.sha256.specs.Sha256.{sha256}
 use Rattle.party.specs.declared.Party.{Party}
 use Rattle.session.specs.Session.{isGood, step2, step3, step4}
-use Rattle.session.specs.Private.{stepOf, stateOf, States}
+use Rattle.session.specs.Private.{stepFor, stateFor, States}
 
 module _ (s : List ℕ) (f : ℕ → Party) where
   -- those before place k, with the one there, or without it where the party is bad
@@ -38,18 +38,18 @@ module _ (s : List ℕ) (f : ℕ → Party) where
 
 -- the step in which a party writes for an exchange, and its state before that
 module _ (e : ℕ) (s : List ℕ) (q : ℕ) where
-  pub step-first : e ≡ 0 → stepOf e s q ≡ step3 sha256 s q
-  unfolding stepOf
+  pub step-first : e ≡ 0 → stepFor e s q ≡ step3 sha256 s q
+  unfolding stepFor
   step-first h = rw h
 
-  pub step-second : e ≡ 1 → stepOf e s q ≡ step4 sha256 s q
-  unfolding stepOf
+  pub step-second : e ≡ 1 → stepFor e s q ≡ step4 sha256 s q
+  unfolding stepFor
   step-second h = rw h
 
-  pub state-first : e ≡ 0 → stateOf e s q ≡ step2 sha256 s q .state
-  unfolding stateOf
+  pub state-first : e ≡ 0 → stateFor e s q ≡ step2 sha256 s q .state
+  unfolding stateFor
   state-first h = rw h
 
-  pub state-second : e ≡ 1 → stateOf e s q ≡ step3 sha256 s q .state
-  unfolding stateOf
+  pub state-second : e ≡ 1 → stateFor e s q ≡ step3 sha256 s q .state
+  unfolding stateFor
   state-second h = rw h

@@ -16,7 +16,7 @@ use Rattle.party.specs.declared.Answer.the-variants as answer
 use Rattle.party.specs.declared.Party.{Party}
 use Rattle.party.proofs.Answer.{the-type as answer-type}
 use Rattle.session.specs.Session.{maxOutbox, sentLength, wroteIn, step2, agreedBit, step3, firstInbox, step4}
-use Rattle.session.specs.Private.{stepOf}
+use Rattle.session.specs.Private.{stepFor}
 
 -- what came of writing: no more than the buffer holds was written, and where it was accepted as much as the value says
 pub record Counted (out : List ℕ) (r : Stepped) : Type 0 where
@@ -53,8 +53,8 @@ module _ (H : List ℕ → List ℕ) where
     step4-counted = shares-counted (step3 H s q .state) (firstInbox H s q) (replicate maxOutbox 0)
 
 -- the step in which a party writes for an exchange, 0 or 1
-pub step-room : (e : ℕ) (s : List ℕ) (q : ℕ) → sentLength (stepOf e s q .answer) ≤ maxOutbox
-unfolding stepOf
+pub step-room : (e : ℕ) (s : List ℕ) (q : ℕ) → sentLength (stepFor e s q .answer) ≤ maxOutbox
+unfolding stepFor
 step-room zero s q = omega (arith, step3-counted sha256 s q .room, length-replicate {A = ℕ} maxOutbox 0)
 step-room (suc e) s q = omega (arith, step4-counted sha256 s q .room, length-replicate {A = ℕ} maxOutbox 0)
 

@@ -40,13 +40,13 @@ abbrev pub maxText : ℕ
 maxText = (maxParties + 1) * maxLine
 
 -- the step in which party p writes for exchange e, 0 or 1, and its state before that
-unfoldable pub stepOf : ℕ → List ℕ → ℕ → Stepped
-stepOf zero s p = step3 sha256 s p
-stepOf (suc e) s p = step4 sha256 s p
+unfoldable pub stepFor : ℕ → List ℕ → ℕ → Stepped
+stepFor zero s p = step3 sha256 s p
+stepFor (suc e) s p = step4 sha256 s p
 
-unfoldable pub stateOf : ℕ → List ℕ → ℕ → Party
-stateOf zero s p = step2 sha256 s p .state
-stateOf (suc e) s p = step3 sha256 s p .state
+unfoldable pub stateFor : ℕ → List ℕ → ℕ → Party
+stateFor zero s p = step2 sha256 s p .state
+stateFor (suc e) s p = step3 sha256 s p .state
 
 -- the good parties from place `low` up to `high` are in the states that f says
 abbrev pub States : List ℕ → (ℕ → Party) → ℕ → ℕ → List Party → Type 0

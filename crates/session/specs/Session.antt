@@ -19,7 +19,7 @@ use Rattle.party.specs.declared.Opened.{Opened}
 pub use Rattle.commitment.specs.Rooms.{maxOutbox}
 use Rattle.agreement.specs.Calls.{Call, agreeRoot, agreeBit, takeShares, takeRelays, lengths}
 use Rattle.agreement.specs.Agreement.{Good}
-use Rattle.plan.specs.Layout.{names, under, unnamed, lowest, nIn, tIn, hasRoot, hasBit, rootIn, bitIn, goodIn, booksIn, exchangeIn}
+use Rattle.plan.specs.Layout.{names, partyEntry, unnamed, lowest, nIn, tIn, hasRoot, hasBit, rootIn, bitIn, goodIn, booksIn, exchangeIn}
 use Rattle.plan.specs.Plan.{planCause}
 use Rattle.exchange.specs.Exchange.{inboxTo}
 use Rattle.report.specs.Output.{line, sentLine, refusedLine}
@@ -50,7 +50,7 @@ abbrev pub isGood : List ℕ → ℕ → Bool
 isGood s p = names (goodIn s) p
 
 unfoldable pub messageOf : List ℕ → ℕ → List ℕ
-messageOf s p = under (nIn s) 1 (goodIn s) p (booksIn s)
+messageOf s p = partyEntry (nIn s) (goodIn s) p (booksIn s)
 
 abbrev pub lowestGood : List ℕ → ℕ
 lowestGood s = lowest (nIn s) 1 (goodIn s)

@@ -18,7 +18,7 @@ ghost use Rattle.report.specs.Output.{line};
 ghost use Rattle.session.specs.Session.{maxOutbox, sentLength, wroteIn, orNothing, lineWith, wholeIn, isGood, opened, agreedRoot, step2, agreedBit};
 ghost use Rattle.session.specs.Session.{sameRoots, sameBits, unlawful, step4};
 ghost use Rattle.session.specs.Session.{step5, endsWith, sentOf, linesFrom, sentFrom, output, rehearseOf, printOf};
-ghost use Rattle.session.specs.Private.{Ready, Turned, stepOf, stateOf, States, Behind, inboxRoom, maxLine, maxText, Dealt, Relayed, Sizes, Finishing, messageLength, bitGiven};
+ghost use Rattle.session.specs.Private.{Ready, Turned, stepFor, stateFor, States, Behind, inboxRoom, maxLine, maxText, Dealt, Relayed, Sizes, Finishing, messageLength, bitGiven};
 use buffer::Written;
 use commitment::MAX_OUTBOX;
 use exchange::Mail;
@@ -30,8 +30,9 @@ use party::Answer;
 use party::Opened;
 use party::Party;
 use party::Reply;
-use plan::MAP;
+use plan::BIT;
 use plan::Plan;
+use plan::ROOT;
 
 // The greatest length of an inbox: the packets of bad parties stand in the plan, and one of a good party is no longer than an outbox.
 const MAX_INBOX: usize = MAX_PLAN + MAX_PARTIES * (MAX_OUTBOX + 2);
@@ -111,7 +112,7 @@ fn relay_on_one(
     relays: &mut [u8],
     sizes: &mut [usize],
 ) -> [Party; MAX_PARTIES]
-    requires { ⌜ Turned (now bytes) turn × (turn .e ≡ 1) × States (now bytes) (stateOf 1 (now bytes)) 0 (nIn (now bytes)) states
+    requires { ⌜ Turned (now bytes) turn × (turn .e ≡ 1) × States (now bytes) (stateFor 1 (now bytes)) 0 (nIn (now bytes)) states
         × Dealt (now bytes) (now boxes) (now lens) × (length (now relays) ≡ maxParties * maxOutbox)
         × (now sizes ≡ replicate maxParties 0) ⌝ }
     ensures { λ r. ⌜ Relayed (now (bytes .entry)) (now (relays .exit)) (now (sizes .exit)) r
@@ -305,7 +306,7 @@ fn opened(bytes: &[u8], parts: Plan, q: usize) -> Opened
     let t = parts.t;
     let from = parts.books;
     let mut message = [0u8; MAX_MESSAGE];
-    // No book of a plan that is taken is longer.
+    // No book of a plan that is taken is longer; a party that is not good has none.
     let Written::Done(len) = plan::book(&bytes[from..], n, parts.good, q, &mut message) else {
         return Party::open(n, t, q, &[]);
     };
@@ -317,9 +318,11 @@ fn agreed_root(bytes: &[u8], parts: Plan) -> Hash
     requires { ⌜ Ready (now bytes) parts ⌝ }
     ensures { λ r. ⌜ r ≡ agreedRoot sha256 (now (bytes .entry)) ⌝ }
 {
-    if parts.rooted {
+    if plan::names(parts.options, ROOT) {
+        let at = plan::field_at(parts.options, ROOT);
+        let end = at + 32;
         let mut root = [0u8; 32];
-        buffer::put(&mut root, 0, &bytes[3..35]);
+        buffer::put(&mut root, 0, &bytes[at..end]);
         return root;
     }
     let q = lowest_good(parts.n, parts.good);
@@ -367,10 +370,8 @@ fn agreed_bit(bytes: &[u8], parts: Plan, root: &Hash) -> u8
     requires { ⌜ Ready (now bytes) parts × (now root ≡ agreedRoot sha256 (now bytes)) ⌝ }
     ensures { λ r. ⌜ r ≡ agreedBit sha256 (now (bytes .entry)) ⌝ }
 {
-    if parts.voted {
-        // A bit stands before the map.
-        let map = parts.books - MAP;
-        let at = map - 1;
+    if plan::names(parts.options, BIT) {
+        let at = plan::field_at(parts.options, BIT);
         return bytes[at];
     }
     let q = lowest_good(parts.n, parts.good);
@@ -422,7 +423,7 @@ fn unlawful(bytes: &[u8], parts: Plan, root: &Hash, bit: u8) -> bool
     if parts.t < unnamed(parts.n, parts.good) {
         return true;
     }
-    if parts.voted {
+    if plan::names(parts.options, BIT) {
         if 1 < bit {
             return true;
         }
@@ -450,7 +451,7 @@ struct Moved {
 // The good parties after step 2.
 fn voted_all(bytes: &[u8], parts: Plan, root: &Hash) -> [Party; MAX_PARTIES]
     requires { ⌜ Ready (now bytes) parts × (now root ≡ agreedRoot sha256 (now bytes)) ⌝ }
-    ensures { λ r. ⌜ States (now (bytes .entry)) (stateOf 0 (now (bytes .entry))) 0 (nIn (now (bytes .entry))) r ⌝ }
+    ensures { λ r. ⌜ States (now (bytes .entry)) (stateFor 0 (now (bytes .entry))) 0 (nIn (now (bytes .entry))) r ⌝ }
 {
     let n = parts.n;
     let good = parts.good;
@@ -479,10 +480,10 @@ fn round(
     sizes: &mut [usize],
 ) -> [Party; MAX_PARTIES]
     requires { ⌜ Turned (now bytes) turn × (turn .e ≤ 1) × Behind (turn .e) (now bytes) (now slots) (now lens)
-        × States (now bytes) (stateOf (turn .e) (now bytes)) 0 (nIn (now bytes)) before
+        × States (now bytes) (stateFor (turn .e) (now bytes)) 0 (nIn (now bytes)) before
         × (length (now next) ≡ maxParties * maxOutbox) × (length (now sizes) ≡ maxParties) ⌝ }
-    ensures { λ r. ⌜ States (now (bytes .entry)) (λ p. stepOf (turn .e) (now (bytes .entry)) p .state) 0 (nIn (now (bytes .entry))) r
-        × Slots (goodIn (now (bytes .entry))) maxOutbox (λ p. wroteIn (stepOf (turn .e) (now (bytes .entry)) p)) (nIn (now (bytes .entry)))
+    ensures { λ r. ⌜ States (now (bytes .entry)) (λ p. stepFor (turn .e) (now (bytes .entry)) p .state) 0 (nIn (now (bytes .entry))) r
+        × Slots (goodIn (now (bytes .entry))) maxOutbox (λ p. wroteIn (stepFor (turn .e) (now (bytes .entry)) p)) (nIn (now (bytes .entry)))
         (now (next .exit)) (now (sizes .exit))
         × (length (now (next .exit)) ≡ maxParties * maxOutbox) × (length (now (sizes .exit)) ≡ maxParties) ⌝ }
 {
@@ -515,10 +516,10 @@ fn kept(
     slot: &mut [u8],
 ) -> Moved
     requires { ⌜ Turned (now bytes) turn × (turn .e ≤ 1) × Behind (turn .e) (now bytes) (now slots) (now lens) × (1 ≤ q) × (q ≤ nIn (now bytes))
-        × (state ≡ stateOf (turn .e) (now bytes) q) × (maxOutbox ≤ length (now slot)) ⌝ }
-    ensures { λ r. ⌜ (r .state ≡ stepOf (turn .e) (now (bytes .entry)) q .state)
-        × (r .len ≡ length (wroteIn (stepOf (turn .e) (now (bytes .entry)) q))) × (r .len ≤ maxOutbox)
-        × (now (slot .exit) ≡ spliced (now (slot .entry)) 0 (wroteIn (stepOf (turn .e) (now (bytes .entry)) q))) ⌝ }
+        × (state ≡ stateFor (turn .e) (now bytes) q) × (maxOutbox ≤ length (now slot)) ⌝ }
+    ensures { λ r. ⌜ (r .state ≡ stepFor (turn .e) (now (bytes .entry)) q .state)
+        × (r .len ≡ length (wroteIn (stepFor (turn .e) (now (bytes .entry)) q))) × (r .len ≤ maxOutbox)
+        × (now (slot .exit) ≡ spliced (now (slot .entry)) 0 (wroteIn (stepFor (turn .e) (now (bytes .entry)) q))) ⌝ }
 {
     let mut out = [0u8; MAX_OUTBOX];
     let Reply {
@@ -540,8 +541,8 @@ fn step(
     out: &mut [u8],
 ) -> Reply
     requires { ⌜ Turned (now bytes) turn × (turn .e ≤ 1) × Behind (turn .e) (now bytes) (now slots) (now lens) × (1 ≤ q) × (q ≤ nIn (now bytes))
-        × (state ≡ stateOf (turn .e) (now bytes) q) × (now out ≡ replicate maxOutbox 0) ⌝ }
-    ensures { λ r. ⌜ stepped r (now (out .exit)) ≡ stepOf (turn .e) (now (bytes .entry)) q ⌝ }
+        × (state ≡ stateFor (turn .e) (now bytes) q) × (now out ≡ replicate maxOutbox 0) ⌝ }
+    ensures { λ r. ⌜ stepped r (now (out .exit)) ≡ stepFor (turn .e) (now (bytes .entry)) q ⌝ }
 {
     if turn.e == 0 {
         return state.agree_bit(turn.bit, out);
@@ -564,16 +565,6 @@ fn keep(answer: Answer, out: &[u8], slot: &mut [u8]) -> usize
     len
 }
 
-// Where exchange e of a plan starts, 0 or 1.
-fn exchange_at(parts: Plan, e: usize) -> usize
-    ensures { λ r. ⌜ r ≡ cond (eqb e 0) (parts .first) (parts .second) ⌝ }
-{
-    if e == 0 {
-        return parts.first;
-    }
-    parts.second
-}
-
 // Party i's inbox of exchange e; its length.
 fn inbox(
     bytes: &[u8],
@@ -584,7 +575,7 @@ fn inbox(
     i: usize,
     out: &mut [u8],
 ) -> usize
-    requires { ⌜ Ready (now bytes) parts × (e ≤ 1) × (1 ≤ i) × (i ≤ nIn (now bytes)) × (length (now out) ≡ inboxRoom) ⌝ }
+    requires { ⌜ Ready (now bytes) parts × (1 ≤ i) × (i ≤ nIn (now bytes)) × (length (now out) ≡ inboxRoom) ⌝ }
     ensures { λ r. ⌜ (r ≤ length (now (out .exit)))
         × (take r (now (out .exit)) ≡ inboxTo (nIn (now (bytes .entry))) (goodIn (now (bytes .entry))) (wholeIn e)
         (slotOf maxOutbox (now (slots .entry)) (now (lens .entry))) (exchangeIn e (now (bytes .entry))) i) ⌝ }
@@ -595,7 +586,7 @@ fn inbox(
         size: MAX_OUTBOX,
         whole: e != 0,
     };
-    let at = exchange_at(parts, e);
+    let at = plan::exchange_at(bytes, parts, e);
     buffer::value_of(exchange::fill(mail, slots, lens, &bytes[at..], i, out))
 }
 

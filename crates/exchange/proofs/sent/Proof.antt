@@ -74,9 +74,9 @@ returns-3 c =
     let o = a .out .now in
     let e = sent-bad (a .mail .n) (a .mail .good) (a .mail .whole) (slotOf (a .mail .size) (a .slots .now) (a .lens .now)) (a .blocks .now) (a .i)
     (a .p) (t .before .before .if1 .left) (sym (t .before .names .ensures) ∙ t .if2 .left) in
-    let w = given-done (packetFrom (a .mail .n) 1 (a .mail .n) (a .mail .good) (a .p) (a .i) (a .blocks .now)) o (g .packet .result) _
+    let w = given-done (packetFrom (a .mail .n) (a .mail .good) (a .p) (a .i) (a .blocks .now)) o (g .packet .result) _
     (omega (arith, ap length e, st .pre .3))
-    (g .packet .ensures ∙ packet-given (a .mail .n) (a .mail .good) (a .p) (a .blocks .now) o (l .some) (a .i) (l .few)) in
+    (g .packet .ensures ∙ packet-given (a .mail .n) (a .mail .good) (a .p) (a .blocks .now) o (l .some) (l .few) (a .i)) in
     (c .value-of .ensures ∙ w .0 ∙ sym (ap length e), w .1 ∙ sym (ap (spliced o 0) e))
 
 pub sent-spec : {M : Type 1} → statement M

@@ -43,7 +43,7 @@ returns-2 c =
     let a = Entry e .args in
     let r = range e in
     g .give .ensures ∙ ap (λ (b : List ℕ). written b (a .out .now)) (sym (u .packet-from .ensures .are))
-    ∙ sym (packet-given (a .n) (a .good) (a .q) (a .exchange .now) (a .out .now) (r .0) (a .i) (r .1))
+    ∙ sym (packet-given (a .n) (a .good) (a .q) (a .exchange .now) (a .out .now) (r .0) (r .1) (a .i))
 
 pub packet-spec : {M : Type 1} → statement M
 packet-spec =

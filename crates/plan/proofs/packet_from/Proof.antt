@@ -1,144 +1,119 @@
--- `plan::packet_from` meets its contract: what bad party q sends in the whole exchange is what it sends in the blocks still to come.
--- Assumes nothing.
+-- `plan::packet_from` meets its contract: the receiver's entry in the sender's block, which stands behind those of lower bad parties. Assumes
+-- nothing.
 use mathlib.Core.Path.{_≡_, sym, ap, ap₂, _∙_}
+use mathlib.Core.Bool.{true}
 use mathlib.Core.List.{List}
-use Prim.Native.Nat.{ℕ, _+_, _-_, _/_, _^_, _≤_}
-use native.Mathlib.Nat.{sub-zero}
+use Prim.Native.Nat.{ℕ, _+_}
 use native.Mathlib.Omega.{arith}
-use lib.ListN.{length, drop}
+use borrow.Author.Tests.{not-false}
+use lib.ListN.{drop}
 use lib.Seq.{drop-drop}
-use Rattle.plan.specs.Layout.{under, packetFrom}
-use Rattle.plan.proofs.Maps.{unhalved, halved, named, unnamed}
+use Rattle.limits.specs.Limits.{numbered}
+use Rattle.limits.proofs.Booleans.{denied}
+use Rattle.limits.proofs.Ranges.{numbered-range}
 use Rattle.buffer.proofs.Places.{drop-min}
-use Rattle.plan.proofs.Blocks.{packet-end, packet-good, packet-found, packet-later}
+use Rattle.plan.specs.Layout.{mapWidth, partyEntry, blockEntry, packetFrom}
+use Rattle.plan.proofs.Blocks.{packet-none, packet-good, packet-bad}
+use Rattle.plan.proofs.Walks.{found-there}
 use borrow.Author.Needs.{needs}
 use Rattle.plan.proofs.packet_from.Statement.{statement}
 use Rattle.plan.proofs.packet_from.Tie as tie
 
-abbrev Inv-loop : tie.InvT-loop
-Inv-loop s n good q i at₀ m₀ p₀ at m p =
-    (at ≤ length s) × (p ≤ n) × (m ≡ good / 2 ^ p)
-    × (packetFrom n 1 n good q i s ≡ packetFrom (n - p) (p + 1) n good q i (drop at s))
+-- the names of the source
+abbrev Entry : tie.After-names → tie.Start
+Entry c = c .before .before .before .before
 
-abbrev μ-loop : tie.MeasureT-loop
-μ-loop s n good q i at₀ m₀ p₀ at m p = n - p
+abbrev S : tie.After-names → List ℕ
+S c = Entry c .args .s .now
 
--- the names of the source, in a turn
-abbrev S : tie.In-loop Inv-loop μ-loop → List ℕ
-S c = c .before .before .before .args .s .now
+one : (c : tie.After-names) → let a = Entry c .args in numbered (a .n) (a .q) ≡ true
+one c = let k = c .before .before in sym (k .numbered .ensures) ∙ not-false (k .numbered .result) (c .before .if1 .left)
 
-abbrev N : tie.In-loop Inv-loop μ-loop → ℕ
-N c = c .before .before .before .args .n
+-- the packet stands in the block behind those of lower parties
+packet-is : (c : tie.After-or-end) → let d = c .before .before .before in let a = Entry d .args in
+    packetFrom (a .n) (a .good) (a .q) (a .i) (S d) ≡ blockEntry (a .n) (a .i) (drop (c .or-end .result) (S d))
+packet-is c =
+    let b = c .before in
+    let d = b .before .before in
+    let a = Entry d .args in
+    packet-bad (a .n) (a .good) (a .q) (a .i) (S d) (one d) (sym (d .names .ensures) ∙ b .before .if2 .left)
+    ∙ ap (blockEntry (a .n) (a .i))
+    (sym (ap (λ (k : ℕ). drop k (S d)) (c .or-end .ensures) ∙ found-there (b .skip-blocks .result) _ (S d) (b .skip-blocks .ensures) .0))
 
-abbrev Good : tie.In-loop Inv-loop μ-loop → ℕ
-Good c = c .before .before .before .args .good
+numbered-requires : tie.Need-numbered-requires
+numbered-requires c κs = search needs
 
-abbrev Q : tie.In-loop Inv-loop μ-loop → ℕ
-Q c = c .before .before .before .args .q
-
-abbrev I : tie.In-loop Inv-loop μ-loop → ℕ
-I c = c .before .before .before .args .i
-
-abbrev At : tie.In-loop Inv-loop μ-loop → ℕ
-At c = c .before .loop .at
-
-abbrev P : tie.In-loop Inv-loop μ-loop → ℕ
-P c = c .before .loop .p
-
-abbrev M : tie.In-loop Inv-loop μ-loop → ℕ
-M c = c .before .loop .m
-
-loop-holds : tie.Need-loop-holds Inv-loop μ-loop
-loop-holds c = (omega arith, omega arith, unhalved (c .before .args .good), rw sub-zero)
-
-add-p : tie.Need-add-p Inv-loop μ-loop
-add-p c = search needs
-
-loop-less : tie.Need-loop-less Inv-loop μ-loop
-loop-less c = search needs
-
-loop-again : tie.Need-loop-again Inv-loop μ-loop
-loop-again c =
-    let d = c .before in
-    let i = d .before .loop .inv in (
-      omega arith,
-      omega arith,
-      halved (Good d) (P d) (M d) (i .2),
-      i .3 ∙ packet-good (N d) (Good d) (N d - (P d + 1)) (N d - P d) (P d + 1) (drop (At d) (S d)) (omega arith)
-          (named (Good d) (P d) (M d) (i .2) (c .if1 .taken)) (Q d) (I d),
-    )
-
-size-at-requires : tie.Need-size-at-requires Inv-loop μ-loop
-size-at-requires c κs = search needs
-
-skip-requires : tie.Need-skip-requires Inv-loop μ-loop
-skip-requires c κs = search needs
-
-under-requires : tie.Need-under-requires Inv-loop μ-loop
-under-requires c κs = search needs
-
-returns : tie.Need-returns Inv-loop μ-loop
+returns : tie.Need-returns
 returns c =
     let k = c .before in
-    let z = k .before in
-    let t = z .before in
-    let d = t .before .before in
-    let i = d .before .loop .inv in
-    let l = c .under .ensures in
-    record {
-      ordered = l .ordered;
-      inside = l .inside;
-      are = i .3 ∙ packet-found (N d) (Good d) (N d - (P d + 1)) (N d - P d) (P d + 1) (drop (At d) (S d)) (omega arith)
-          (unnamed (Good d) (P d) (M d) (i .2) (omega arith)) (Q d) (I d) (t .if2 .taken)
-          ∙ ap₂ (λ (map : ℕ) (s : List ℕ). under (N d) 1 map (I d) s) (sym (z .size-at .ensures))
-          (drop-drop 2 (At d) (S d) ∙ sym (ap (λ (x : ℕ). drop x (S d)) (k .skip .ensures) ∙ drop-min (At d + 2) (S d)))
-          ∙ l .are;
-    }
-
-past-block-requires : tie.Need-past-block-requires Inv-loop μ-loop
-past-block-requires c κs = search needs
-
-loop-less-2 : tie.Need-loop-less-2 Inv-loop μ-loop
-loop-less-2 c = search needs
-
-loop-again-2 : tie.Need-loop-again-2 Inv-loop μ-loop
-loop-again-2 c =
-    let e = c .before in
-    let d = e .before .before in
-    let i = d .before .loop .inv in (
-      c .past-block .ensures .1,
-      omega arith,
-      halved (Good d) (P d) (M d) (i .2),
-      i .3 ∙ packet-later (N d) (Good d) (N d - (P d + 1)) (N d - P d) (P d + 1) (drop (At d) (S d)) (omega arith)
-          (unnamed (Good d) (P d) (M d) (i .2) (omega arith)) (Q d) (I d) (e .if2 .left)
-          ∙ ap (packetFrom (N d - (P d + 1)) (P d + 1 + 1) (N d) (Good d) (Q d) (I d)) (sym (c .past-block .ensures .0)),
-    )
-
-returns-2 : tie.Need-returns-2 Inv-loop μ-loop
-returns-2 c =
-    let l = c .before .loop in
-    let a = c .before .before .before .args in
+    let a = k .before .before .args in
     record {
       ordered = omega arith;
       inside = omega arith;
-      are = l .inv .3 ∙ packet-end (a .n) (a .good) (a .n - l .p) (l .p + 1) (a .q) (a .i) (drop (l .at) (a .s .now)) (omega arith);
+      are = packet-none (a .n) (a .good) (a .q) (a .i) (a .s .now) (denied (k .numbered .ensures) (c .if1 .taken));
+    }
+
+names-requires : tie.Need-names-requires
+names-requires c κs = search needs
+
+returns-2 : tie.Need-returns-2
+returns-2 c =
+    let d = c .before in
+    let a = Entry d .args in
+    record {
+      ordered = omega arith;
+      inside = omega arith;
+      are = packet-good (a .n) (a .good) (a .q) (a .i) (S d) (one d) (sym (d .names .ensures) ∙ c .if2 .taken);
+    }
+
+sub-skip-blocks : tie.Need-sub-skip-blocks
+sub-skip-blocks c = let a = Entry (c .before) .args in numbered-range (a .n) (a .q) (one (c .before)) .0
+
+skip-blocks-requires : tie.Need-skip-blocks-requires
+skip-blocks-requires c κs = search needs
+
+or-end-requires : tie.Need-or-end-requires
+or-end-requires c κs = search needs
+
+size-at-requires : tie.Need-size-at-requires
+size-at-requires c κs = search needs
+
+skip-requires : tie.Need-skip-requires
+skip-requires c κs = search needs
+
+party-entry-requires : tie.Need-party-entry-requires
+party-entry-requires c κs = search needs
+
+returns-3 : tie.Need-returns-3
+returns-3 c =
+    let k = c .before in
+    let z = k .before in
+    let x = z .before in
+    let at = x .or-end .result in
+    let a = Entry (x .before .before .before) .args in
+    let s = a .s .now in
+    let l = c .party-entry .ensures in
+    record {
+      ordered = l .ordered;
+      inside = l .inside;
+      are = packet-is x
+          ∙ ap₂ (λ (map : ℕ) (y : List ℕ). partyEntry (a .n) map (a .i) y) (sym (z .size-at .ensures))
+          (drop-drop mapWidth at s ∙ sym (ap (λ (j : ℕ). drop j s) (k .skip .ensures) ∙ drop-min (at + mapWidth) s))
+          ∙ l .are;
     }
 
 pub packet-from-spec : {M : Type 1} → statement M
 packet-from-spec =
     tie.close
     (tie.spec
-    Inv-loop
-    μ-loop
-    loop-holds
-    add-p
-    loop-less
-    loop-again
+    numbered-requires
+    returns
+    names-requires
+    returns-2
+    sub-skip-blocks
+    skip-blocks-requires
+    or-end-requires
     size-at-requires
     skip-requires
-    under-requires
-    returns
-    past-block-requires
-    loop-less-2
-    loop-again-2
-    returns-2)
+    party-entry-requires
+    returns-3)

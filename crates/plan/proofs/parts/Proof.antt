@@ -1,22 +1,22 @@
--- `plan::parts` meets its contract: each part of the layout is found, or the plan is turned away. Assumes nothing.
-use mathlib.Core.Path.{_≡_, sym, ap, subst, _∙_}
+-- `plan::parts` meets its contract: each part of the layout is found, or the plan is refused. Assumes nothing.
+use mathlib.Core.Path.{_≡_, sym, ap, ap₂, subst₂, _∙_}
 use mathlib.Core.Bool.{true, false}
 use mathlib.Core.List.{List}
-use mathlib.Core.Option.{some}
-use Prim.Native.Nat.{ℕ, _-_, _≤_}
+use mathlib.Core.Option.{Option, some}
+use Prim.Native.Nat.{ℕ, _+_, _-_, _≤_}
 use native.Mathlib.Omega.{arith}
-use borrow.Author.Tests.{eq-eqb, ne-eqb}
+use borrow.Author.Tests.{eq-eqb, ne-eqb, not-false}
 use lib.Dec.{eqb}
 use lib.ListN.{length, drop, length-drop}
-use Rattle.limits.specs.Limits.{maxMessage}
+use Rattle.limits.proofs.Booleans.{denied}
 use Rattle.buffer.specs.Entries.{size}
-use Rattle.plan.specs.Layout.{behind, behindBlocks, longBook, nIn, afterBit, goodIn, booksIn, laidOut}
+use Rattle.plan.specs.Layout.{mapWidth, skipEntries, booksFit, nIn, goodAt, goodIn, booksIn, exchanges, skipExchanges, laidOut}
 use Rattle.plan.specs.Plan.{planOf}
-use Rattle.plan.specs.Private.{Ends, turnedAway}
-use Rattle.plan.specs.declared.Place.{Place}
-use Rattle.plan.specs.declared.Place.the-variants.{Nowhere, At}
-use Rattle.plan.proofs.Reading.{books-none, first-none, first-is, second-none, second-is, end-at, same-long}
-use Rattle.plan.proofs.Reading.{plan-bad, plan-long, plan-taken, place-of}
+use Rattle.plan.specs.Private.{Ends, refused}
+use Rattle.plan.specs.declared.Offset.{Offset}
+use Rattle.plan.specs.declared.Offset.the-variants.{Nowhere, At}
+use Rattle.plan.proofs.Reading.{books-none, first-is, end-none, end-at}
+use Rattle.plan.proofs.Reading.{plan-bad, plan-long, plan-taken, offset-of}
 use borrow.Author.Needs.{needs}
 use Rattle.plan.proofs.parts.Statement.{statement}
 use Rattle.plan.proofs.parts.Tie as tie
@@ -34,20 +34,14 @@ Books c = c .before .before .args .books
 abbrev Good : tie.After-size-at → ℕ
 Good c = c .size-at .result
 
-abbrev Sized : tie.After-first → tie.After-size-at
+abbrev Sized : tie.After-exchanges → tie.After-size-at
 Sized c = c .before .before .before
 
-abbrev First : tie.After-first → ℕ
-First c = c .first .given .0 .0
+abbrev First : tie.After-exchanges → ℕ
+First c = c .exchanges .given .0 .0
 
-abbrev Firsts : tie.After-second → tie.After-first
+abbrev Firsts : tie.After-end → tie.After-exchanges
 Firsts c = c .before .before .before .before
-
-abbrev Second : tie.After-second → ℕ
-Second c = c .second .given .0 .0
-
-abbrev Seconds : tie.After-end → tie.After-second
-Seconds c = c .before .before .before .before
 
 abbrev End : tie.After-end → ℕ
 End c = c .end .given .0 .0
@@ -56,72 +50,62 @@ End c = c .end .given .0 .0
 good-is : (c : tie.After-size-at) → Good c ≡ goodIn (S c)
 good-is c =
     let st = c .before .before in
-    let e : Books c - 2 ≡ afterBit (S c) = omega (arith, st .pre .head .there) in
+    let e : Books c - mapWidth ≡ goodAt (S c) = omega (arith, st .pre .header .there) in
     c .size-at .ensures ∙ ap (λ (k : ℕ). size (drop k (S c))) e
 
-bad : (c : tie.After-size-at) → laidOut (S c) ≡ false → turnedAway 13 ≡ planOf (S c)
+bad : (c : tie.After-size-at) → laidOut (S c) ≡ false → refused 13 ≡ planOf (S c)
 bad c h =
     let p = c .before .before .pre in
-    sym (plan-bad (S c) (omega arith) (p .group) (p .short) h)
+    sym (plan-bad (S c) (omega (arith, p .header .room)) (p .group) (p .short) h)
+
+-- n, the map and the offset of the books are the plan's
+same : {A : Type 0} (c : tie.After-size-at) (f : ℕ → ℕ → ℕ → A)
+    → f (N c) (Good c) (Books c) ≡ f (nIn (S c)) (goodIn (S c)) (goodAt (S c) + mapWidth)
+same c f =
+    let p = c .before .before .pre in
+    ap₂ (λ (n g : ℕ). f n g (Books c)) (p .n-is) (good-is c) ∙ ap (f (nIn (S c)) (goodIn (S c))) (p .header .there)
 
 -- the answers of the walks
-behind-is : (c : tie.After-behind) → let z = c .before in (r : Place) → c .behind .result ≡ r
-    → Ends r (behind (N z) 1 (Good z) (drop (Books z) (S z))) (S z)
-behind-is c r q =
+entries-are : (c : tie.After-skip-entries) → let z = c .before in (q : Offset) → c .skip-entries .result ≡ q
+    → Ends q (skipEntries (nIn (S z)) (goodIn (S z)) (booksIn (S z))) (S z)
+entries-are c q e =
     let z = c .before in
-    subst (λ (x : Place). Ends x (behind (N z) 1 (Good z) (drop (Books z) (S z))) (S z)) q (c .behind .ensures)
+    subst₂ (λ (r : Offset) (o : Option (List ℕ)). Ends r o (S z)) e (same z (λ n g k. skipEntries n g (drop k (S z)))) (c .skip-entries .ensures)
 
-first-at : (c : tie.After-first) → let z = Sized c in
-    (behind (N z) 1 (Good z) (drop (Books z) (S z)) ≡ some (drop (First c) (S z))) × (First c ≤ length (S z))
-first-at c = behind-is (c .before .before) (At (First c)) (c .first .given .1)
+first-at : (c : tie.After-exchanges) → let s = S (Sized c) in
+    (skipEntries (nIn s) (goodIn s) (booksIn s) ≡ some (drop (First c) s)) × (First c ≤ length s)
+first-at c = entries-are (c .before .before) (At (First c)) (c .exchanges .given .1)
 
-blocks-are : (c : tie.After-behind-blocks) → let f = c .before .before in let z = Sized f in (r : Place)
-    → c .behind-blocks .result ≡ r
-    → Ends r (behindBlocks (N z) 1 (N z) (Good z) (drop (First f) (S z))) (S z)
-blocks-are c r q =
+exchanges-are : (c : tie.After-skip-exchanges) → let f = c .before .before in let s = S (Sized f) in (q : Offset)
+    → c .skip-exchanges .result ≡ q → Ends q (skipExchanges exchanges (nIn s) (goodIn s) (drop (First f) s)) s
+exchanges-are c q e =
     let f = c .before .before in
     let z = Sized f in
-    subst (λ (x : Place). Ends x (behindBlocks (N z) 1 (N z) (Good z) (drop (First f) (S z))) (S z)) q (c .behind-blocks .ensures)
+    subst₂ (λ (r : Offset) (o : Option (List ℕ)). Ends r o (S z)) e (same z (λ n g k. skipExchanges exchanges n g (drop (First f) (S z))))
+    (c .skip-exchanges .ensures)
 
-second-at : (c : tie.After-second) → let f = Firsts c in let z = Sized f in
-    (behindBlocks (N z) 1 (N z) (Good z) (drop (First f) (S z)) ≡ some (drop (Second c) (S z))) × (Second c ≤ length (S z))
-second-at c = blocks-are (c .before .before) (At (Second c)) (c .second .given .1)
+ends-at : (c : tie.After-end) → let f = Firsts c in let s = S (Sized f) in
+    (skipExchanges exchanges (nIn s) (goodIn s) (drop (First f) s) ≡ some (drop (End c) s)) × (End c ≤ length s)
+ends-at c = exchanges-are (c .before .before) (At (End c)) (c .end .given .1)
 
-blocks-are-2 : (c : tie.After-behind-blocks2) → let g = c .before .before in let z = Sized (Firsts g) in (r : Place)
-    → c .behind-blocks2 .result ≡ r
-    → Ends r (behindBlocks (N z) 1 (N z) (Good z) (drop (Second g) (S z))) (S z)
-blocks-are-2 c r q =
-    let g = c .before .before in
-    let z = Sized (Firsts g) in
-    subst (λ (x : Place). Ends x (behindBlocks (N z) 1 (N z) (Good z) (drop (Second g) (S z))) (S z)) q
-    (c .behind-blocks2 .ensures)
-
-ends-at : (c : tie.After-end) → let g = Seconds c in let z = Sized (Firsts g) in
-    (behindBlocks (N z) 1 (N z) (Good z) (drop (Second g) (S z)) ≡ some (drop (End c) (S z))) × (End c ≤ length (S z))
-ends-at c = blocks-are-2 (c .before .before) (At (End c)) (c .end .given .1)
-
--- the layout is judged by where the second exchange ends
-laid-is : (c : tie.After-end) → let z = Sized (Firsts (Seconds c)) in laidOut (S z) ≡ eqb (length (drop (End c) (S z))) 0
+-- the layout is judged by where the exchanges end
+laid-is : (c : tie.After-end) → let s = S (Sized (Firsts c)) in laidOut s ≡ eqb (length (drop (End c) s)) 0
 laid-is c =
-    let g = Seconds c in
-    let f = Firsts g in
+    let f = Firsts c in
     let z = Sized f in
-    let p = z .before .before .pre in
-    end-at (N z) (Good z) (Books z) (S z) (p .head) (p .n-is) (good-is z) (drop (First f) (S z)) (first-at f .0)
-    (drop (Second g) (S z)) (second-at g .0) (drop (End c) (S z)) (ends-at c .0)
+    end-at (Books z) (S z) (z .before .before .pre .header) (drop (First f) (S z)) (first-at f .0) (drop (End c) (S z)) (ends-at c .0)
 
-laid : (c : tie.Else1) → let e = c .before .before in laidOut (S (Sized (Firsts (Seconds e)))) ≡ true
+laid : (c : tie.Else1) → let e = c .before .before in laidOut (S (Sized (Firsts e))) ≡ true
 laid c =
     let e = c .before .before in
-    let s = S (Sized (Firsts (Seconds e))) in
+    let s = S (Sized (Firsts e)) in
     laid-is e ∙ eq-eqb (length (drop (End e) s)) 0 (omega (arith, length-drop (End e) s, c .if1 .left))
 
-long-is : (c : tie.After-long-book) → let e = c .before .before .before in let s = S (Sized (Firsts (Seconds e))) in
-    c .long-book .result ≡ longBook maxMessage (nIn s) 1 (goodIn s) (booksIn s)
-long-is c =
-    let z = Sized (Firsts (Seconds (c .before .before .before))) in
-    let p = z .before .before .pre in
-    c .long-book .ensures ∙ same-long (N z) (Good z) (Books z) (S z) (p .head) (p .n-is) (good-is z)
+fit-is : (c : tie.After-books-fit) → let s = S (Sized (Firsts (c .before .before .before))) in
+    c .books-fit .result ≡ booksFit (nIn s) (goodIn s) (booksIn s)
+fit-is c =
+    let z = Sized (Firsts (c .before .before .before)) in
+    c .books-fit .ensures ∙ same z (λ n g k. booksFit n g (drop k (S z)))
 
 sub-size-at : tie.Need-sub-size-at
 sub-size-at c = search needs
@@ -129,38 +113,37 @@ sub-size-at c = search needs
 size-at-requires : tie.Need-size-at-requires
 size-at-requires c κs = search needs
 
-behind-requires : tie.Need-behind-requires
-behind-requires c κs = search needs
+skip-entries-requires : tie.Need-skip-entries-requires
+skip-entries-requires c κs = search needs
 
-enum-known-first : tie.Need-enum-known-first
-enum-known-first c = search needs
+enum-known-exchanges : tie.Need-enum-known-exchanges
+enum-known-exchanges c = search needs
 
 enum-told : tie.Need-enum-told
 enum-told c = search needs
 
-turned-away-requires : tie.Need-turned-away-requires
-turned-away-requires c κs = search needs
+refused-requires : tie.Need-refused-requires
+refused-requires c κs = search needs
 
 returns : tie.Need-returns
 returns c =
     let t = c .before in
     let b = t .before .before in
     let z = b .before in
-    let p = z .before .before .pre in
-    c .turned-away .ensures ∙ bad z
-    (books-none (N z) (Good z) (Books z) (S z) (p .head) (p .n-is) (good-is z) (behind-is b Nowhere (t .enum-told .given .1)))
+    c .refused .ensures ∙ bad z
+    (books-none (Books z) (S z) (z .before .before .pre .header) (entries-are b Nowhere (t .enum-told .given .1)))
 
-behind-blocks-requires : tie.Need-behind-blocks-requires
-behind-blocks-requires c κs = first-at (c .before) .1
+skip-exchanges-requires : tie.Need-skip-exchanges-requires
+skip-exchanges-requires c κs = first-at (c .before) .1
 
-enum-known-second : tie.Need-enum-known-second
-enum-known-second c = search needs
+enum-known-end : tie.Need-enum-known-end
+enum-known-end c = search needs
 
 enum-told-2 : tie.Need-enum-told-2
 enum-told-2 c = search needs
 
-turned-away-requires-2 : tie.Need-turned-away-requires-2
-turned-away-requires-2 c κs = search needs
+refused-requires-2 : tie.Need-refused-requires-2
+refused-requires-2 c κs = search needs
 
 returns-2 : tie.Need-returns-2
 returns-2 c =
@@ -168,82 +151,56 @@ returns-2 c =
     let b = t .before .before in
     let f = b .before .before in
     let z = Sized f in
-    let p = z .before .before .pre in
-    c .turned-away2 .ensures ∙ bad z
-    (first-none (N z) (Good z) (Books z) (S z) (p .head) (p .n-is) (good-is z) (drop (First f) (S z)) (first-at f .0)
-    (blocks-are b Nowhere (t .enum-told2 .given .1)))
+    c .refused2 .ensures ∙ bad z
+    (end-none (Books z) (S z) (z .before .before .pre .header) (drop (First f) (S z)) (first-at f .0)
+    (exchanges-are b Nowhere (t .enum-told2 .given .1)))
 
-behind-blocks-requires-2 : tie.Need-behind-blocks-requires-2
-behind-blocks-requires-2 c κs = second-at (c .before) .1
-
-enum-known-end : tie.Need-enum-known-end
-enum-known-end c = search needs
-
-enum-told-3 : tie.Need-enum-told-3
-enum-told-3 c = search needs
-
-turned-away-requires-3 : tie.Need-turned-away-requires-3
-turned-away-requires-3 c κs = search needs
+refused-requires-3 : tie.Need-refused-requires-3
+refused-requires-3 c κs = search needs
 
 returns-3 : tie.Need-returns-3
 returns-3 c =
     let t = c .before in
-    let b = t .before .before in
-    let g = b .before .before in
-    let f = Firsts g in
-    let z = Sized f in
-    let p = z .before .before .pre in
-    c .turned-away3 .ensures ∙ bad z
-    (second-none (N z) (Good z) (Books z) (S z) (p .head) (p .n-is) (good-is z) (drop (First f) (S z)) (first-at f .0)
-    (drop (Second g) (S z)) (second-at g .0) (blocks-are-2 b Nowhere (t .enum-told3 .given .1)))
+    let e = t .before .before in
+    let z = Sized (Firsts e) in
+    c .refused3 .ensures ∙ bad z
+    (laid-is e ∙ ne-eqb (length (drop (End e) (S z))) 0
+    (λ q. t .if1 .taken (omega (arith, length-drop (End e) (S z), ends-at e .1))))
 
-turned-away-requires-4 : tie.Need-turned-away-requires-4
-turned-away-requires-4 c κs = search needs
+books-fit-requires : tie.Need-books-fit-requires
+books-fit-requires c κs = search needs
+
+refused-requires-4 : tie.Need-refused-requires-4
+refused-requires-4 c κs = search needs
 
 returns-4 : tie.Need-returns-4
 returns-4 c =
     let t = c .before in
-    let e = t .before .before in
-    let z = Sized (Firsts (Seconds e)) in
-    c .turned-away4 .ensures ∙ bad z
-    (laid-is e ∙ ne-eqb (length (drop (End e) (S z))) 0
-    (λ q. t .if1 .taken (omega (arith, length-drop (End e) (S z), ends-at e .1))))
+    let l = t .before in
+    let i = l .before in
+    let z = Sized (Firsts (i .before .before)) in
+    let p = z .before .before .pre in
+    c .refused4 .ensures
+    ∙ sym (plan-long (S z) (omega (arith, p .header .room)) (p .group) (p .short) (laid i) (denied (fit-is l) (t .if2 .taken)))
 
-long-book-requires : tie.Need-long-book-requires
-long-book-requires c κs = search needs
+shared-slice-read-wide : tie.Need-shared-slice-read-wide
+shared-slice-read-wide c = search needs
 
-turned-away-requires-5 : tie.Need-turned-away-requires-5
-turned-away-requires-5 c κs = search needs
+wide-requires : tie.Need-wide-requires
+wide-requires c κs = search needs
 
 returns-5 : tie.Need-returns-5
 returns-5 c =
-    let t = c .before in
+    let t = c .before .before in
     let l = t .before in
     let i = l .before in
-    let s = S (Sized (Firsts (Seconds (i .before .before)))) in
-    let p = Sized (Firsts (Seconds (i .before .before))) .before .before .pre in
-    c .turned-away5 .ensures
-    ∙ sym (plan-long s (omega (arith, p .head .long)) (p .group) (p .short) (laid i) (sym (long-is l) ∙ t .if2 .taken))
-
-shared-slice-read-options : tie.Need-shared-slice-read-options
-shared-slice-read-options c = search needs
-
-returns-6 : tie.Need-returns-6
-returns-6 c =
-    let t = c .before in
-    let l = t .before in
-    let i = l .before in
-    let e = i .before .before in
-    let g = Seconds e in
-    let f = Firsts g in
+    let f = Firsts (i .before .before) in
     let z = Sized f in
     let p = z .before .before .pre in
-    let one = first-is (N z) (Good z) (Books z) (S z) (p .head) (p .n-is) (good-is z) (drop (First f) (S z)) (first-at f .0) in
-    let two = second-is (N z) (Good z) (Books z) (S z) (p .head) (p .n-is) (good-is z) (drop (First f) (S z)) (first-at f .0)
-    (drop (Second g) (S z)) (second-at g .0) in
-    sym (plan-taken (S z) (omega (arith, p .head .long)) (p .group) (p .short) (laid i) (sym (long-is l) ∙ t .if2 .left)
-    (N z) (z .before .before .args .t) (Good z) (Books z) (First f) (Second g) (p .n-is) (p .t-is) (good-is z) (p .head .there)
-    (place-of (First f) _ (S z) (first-at f .1) one) (place-of (Second g) _ (S z) (second-at g .1) two))
+    let one = first-is (Books z) (S z) (p .header) (drop (First f) (S z)) (first-at f .0) in
+    sym (plan-taken (S z) (omega (arith, p .header .room)) (p .group) (p .short) (laid i) (sym (fit-is l) ∙ not-false (l .books-fit .result) (t .if2 .left))
+    (N z) (z .before .before .args .t) (c .wide .result) (Good z) (Books z) (First f) (p .n-is) (p .t-is) (c .wide .ensures .0) (good-is z)
+    (p .header .there) (offset-of (First f) _ (S z) (first-at f .1) one))
 
 pub parts-spec : {M : Type 1} → statement M
 parts-spec =
@@ -251,25 +208,21 @@ parts-spec =
     (tie.spec
     sub-size-at
     size-at-requires
-    behind-requires
-    enum-known-first
+    skip-entries-requires
+    enum-known-exchanges
     enum-told
-    turned-away-requires
+    refused-requires
     returns
-    behind-blocks-requires
-    enum-known-second
-    enum-told-2
-    turned-away-requires-2
-    returns-2
-    behind-blocks-requires-2
+    skip-exchanges-requires
     enum-known-end
-    enum-told-3
-    turned-away-requires-3
+    enum-told-2
+    refused-requires-2
+    returns-2
+    refused-requires-3
     returns-3
-    turned-away-requires-4
+    books-fit-requires
+    refused-requires-4
     returns-4
-    long-book-requires
-    turned-away-requires-5
-    returns-5
-    shared-slice-read-options
-    returns-6)
+    shared-slice-read-wide
+    wide-requires
+    returns-5)

@@ -5,9 +5,9 @@ use Prim.Native.Nat.{ℕ}
 use native.Mathlib.Omega.{arith}
 use Rattle.limits.specs.Limits.{groupCause}
 use Rattle.plan.specs.Layout.{nIn, tIn}
-use Rattle.plan.specs.Private.{Headed, turnedAway}
-use Rattle.plan.specs.declared.Place.{Place}
-use Rattle.plan.specs.declared.Place.the-variants.{Nowhere, At}
+use Rattle.plan.specs.Private.{HeaderEnds, refused}
+use Rattle.plan.specs.declared.Offset.{Offset}
+use Rattle.plan.specs.declared.Offset.the-variants.{Nowhere, At}
 use Rattle.plan.proofs.Reading.{plan-short, plan-group, plan-over, plan-bad}
 use borrow.Author.Needs.{needs}
 use Rattle.plan.proofs.read.Statement.{statement}
@@ -22,14 +22,14 @@ cause-is c =
     c .group-cause .ensures ∙ ap₂ groupCause (c .before .before .before .wide .ensures .0) (c .before .wide2 .ensures .0)
 
 -- the answer for what stands before the books
-headed : (c : tie.After-head) → let g = c .before .before .before in (r : Place) → c .head .result ≡ r → Headed r (S g)
-headed c r q = let g = c .before .before .before in subst (λ (x : Place). Headed x (S g)) q (c .head .ensures)
+header : (c : tie.After-books-at) → let g = c .before .before .before in (r : Offset) → c .books-at .result ≡ r → HeaderEnds r (S g)
+header c r q = let g = c .before .before .before in subst (λ (x : Offset). HeaderEnds x (S g)) q (c .books-at .ensures)
 
-turned-away-requires : tie.Need-turned-away-requires
-turned-away-requires c κs = search needs
+refused-requires : tie.Need-refused-requires
+refused-requires c κs = search needs
 
 returns : tie.Need-returns
-returns c = c .turned-away .ensures ∙ sym (plan-short (c .before .before .before .args .plan .now) (omega arith))
+returns c = c .refused .ensures ∙ sym (plan-short (c .before .before .before .args .plan .now) (omega arith))
 
 shared-slice-read-wide : tie.Need-shared-slice-read-wide
 shared-slice-read-wide c = search needs
@@ -46,28 +46,28 @@ wide-requires-2 c κs = search needs
 group-cause-requires : tie.Need-group-cause-requires
 group-cause-requires c κs = search needs
 
-turned-away-requires-2 : tie.Need-turned-away-requires-2
-turned-away-requires-2 c κs = search needs
+refused-requires-2 : tie.Need-refused-requires-2
+refused-requires-2 c κs = search needs
 
 returns-2 : tie.Need-returns-2
 returns-2 c =
     let t = c .before in
     let g = t .before in
-    c .turned-away2 .ensures ∙ ap turnedAway (cause-is g)
+    c .refused2 .ensures ∙ ap refused (cause-is g)
     ∙ sym (plan-group (S g) (omega arith) (λ e. t .if2 .taken (cause-is g ∙ e)))
 
-turned-away-requires-3 : tie.Need-turned-away-requires-3
-turned-away-requires-3 c κs = search needs
+refused-requires-3 : tie.Need-refused-requires-3
+refused-requires-3 c κs = search needs
 
 returns-3 : tie.Need-returns-3
 returns-3 c =
     let t = c .before in
     let e = t .before in
     let g = e .before in
-    c .turned-away3 .ensures ∙ sym (plan-over (S g) (omega arith) (sym (cause-is g) ∙ e .if2 .left) (omega arith))
+    c .refused3 .ensures ∙ sym (plan-over (S g) (omega arith) (sym (cause-is g) ∙ e .if2 .left) (omega arith))
 
-head-requires : tie.Need-head-requires
-head-requires c κs = search needs
+books-at-requires : tie.Need-books-at-requires
+books-at-requires c κs = search needs
 
 enum-known-books : tie.Need-enum-known-books
 enum-known-books c = search needs
@@ -75,8 +75,8 @@ enum-known-books c = search needs
 enum-told : tie.Need-enum-told
 enum-told c = search needs
 
-turned-away-requires-4 : tie.Need-turned-away-requires-4
-turned-away-requires-4 c κs = search needs
+refused-requires-4 : tie.Need-refused-requires-4
+refused-requires-4 c κs = search needs
 
 returns-4 : tie.Need-returns-4
 returns-4 c =
@@ -84,8 +84,8 @@ returns-4 c =
     let h = t .before .before in
     let e = h .before .before in
     let g = e .before in
-    c .turned-away4 .ensures
-    ∙ sym (plan-bad (S g) (omega arith) (sym (cause-is g) ∙ e .if2 .left) (omega arith) (headed h Nowhere (t .enum-told .given .1)))
+    c .refused4 .ensures
+    ∙ sym (plan-bad (S g) (omega arith) (sym (cause-is g) ∙ e .if2 .left) (omega arith) (header h Nowhere (t .enum-told .given .1)))
 
 parts-requires : tie.Need-parts-requires
 parts-requires c κs =
@@ -96,7 +96,7 @@ parts-requires c κs =
     record {
       group = sym (cause-is g) ∙ e .if2 .left;
       short = omega arith;
-      head = headed h (At (b .books .given .0 .0)) (b .books .given .1);
+      header = header h (At (b .books .given .0 .0)) (b .books .given .1);
       n-is = g .before .before .before .wide .ensures .0;
       t-is = g .before .wide2 .ensures .0;
     }
@@ -108,21 +108,21 @@ pub read-spec : {M : Type 1} → statement M
 read-spec =
     tie.close
     (tie.spec
-    turned-away-requires
+    refused-requires
     returns
     shared-slice-read-wide
     wide-requires
     shared-slice-read-wide-2
     wide-requires-2
     group-cause-requires
-    turned-away-requires-2
+    refused-requires-2
     returns-2
-    turned-away-requires-3
+    refused-requires-3
     returns-3
-    head-requires
+    books-at-requires
     enum-known-books
     enum-told
-    turned-away-requires-4
+    refused-requires-4
     returns-4
     parts-requires
     returns-5)

@@ -27,7 +27,7 @@ inbox-requires : tie.Need-inbox-requires
 inbox-requires c κs =
     let b = c .before in
     let st = Entry (b .before) in
-    (st .pre .0, omega arith, st .pre .1, st .pre .2, b .blank-inbox .ensures)
+    (st .pre .0, st .pre .1, st .pre .2, b .blank-inbox .ensures)
 
 array-share-prefix-room : tie.Need-array-share-prefix-room
 array-share-prefix-room c = c .before .inbox .ensures .0

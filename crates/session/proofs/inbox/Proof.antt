@@ -8,15 +8,16 @@ use lib.ListN.{length, take, drop}
 use Rattle.limits.specs.Limits.{maxParties}
 use Rattle.buffer.proofs.Parts.{part-rest}
 use Rattle.plan.specs.Layout.{nIn, goodIn, exchangeIn, exchangeAt}
-use Rattle.plan.proofs.Accepted.{plan-length}
-use Rattle.plan.proofs.Tails.{exchange-there, exchange-short}
+use Rattle.plan.specs.Plan.{exchangeOf}
+use Rattle.plan.specs.declared.Plan.{Plan}
+use Rattle.plan.proofs.Accepted.{accepted}
+use Rattle.plan.proofs.Tails.{exchange-there, exchange-short, exchange-of}
 use Rattle.exchange.specs.Exchange.{inboxTo, slotOf, maxInbox}
 use Rattle.exchange.specs.Private.{Lawful}
 use Rattle.exchange.specs.declared.Mail.{Mail}
 use Rattle.exchange.proofs.Rooms.{inbox-filled}
 use Rattle.session.specs.Session.{maxOutbox, wholeIn}
 use Rattle.session.proofs.Rule.{Known, known}
-use Rattle.session.proofs.Inboxes.{place-is}
 use borrow.Author.Needs.{needs}
 use Rattle.session.proofs.inbox.Statement.{statement}
 use Rattle.session.proofs.inbox.Tie as tie
@@ -37,7 +38,8 @@ plan st = known (st .args .bytes .now) (st .args .parts) (st .pre .0)
 there : (k : tie.After-exchange-at) → k .exchange-at .result ≡ exchangeAt (Entry k .args .e) (Entry k .args .bytes .now)
 there k =
     let st = Entry k in
-    k .exchange-at .ensures ∙ place-is (st .args .bytes .now) (st .args .parts) (plan st) (st .args .e) (st .pre .1)
+    let s = st .args .bytes .now in
+    k .exchange-at .ensures ∙ ap (λ (x : Plan). exchangeOf x (st .args .e) s) (st .pre .0 .read) ∙ exchange-of (st .args .e) s (st .pre .0 .taken)
 
 blocks : (k : tie.After-exchange-at) → Blocks k ≡ exchangeIn (Entry k .args .e) (Entry k .args .bytes .now)
 blocks k =
@@ -52,16 +54,16 @@ lawful k =
     record {
       some = omega (arith, p .n-is, p .low);
       few = omega (arith, p .n-is, p .high);
-      first = st .pre .2;
-      last = omega (arith, p .n-is, st .pre .3);
+      first = st .pre .1;
+      last = omega (arith, p .n-is, st .pre .2);
       short = omega arith;
-      planned = omega (arith, ap length (blocks k), exchange-short (st .args .e) s, plan-length s (st .pre .0 .taken));
+      planned = omega (arith, ap length (blocks k), exchange-short (st .args .e) s, accepted s (st .pre .0 .taken) .length-fits);
     }
 
 room : (k : tie.After-exchange-at) → maxInbox (M (Entry k) .n) (M (Entry k) .size) ≤ length (Entry k .args .out .now)
 room k =
     let many : M (Entry k) .n * (maxOutbox + 2) ≤ maxParties * (maxOutbox + 2) = mul-le-mul-right (maxOutbox + 2) (lawful k .few) in
-    omega (arith, many, Entry k .pre .4)
+    omega (arith, many, Entry k .pre .3)
 
 exchange-at-requires : tie.Need-exchange-at-requires
 exchange-at-requires c κs = search needs

@@ -5,7 +5,7 @@ use lib.ListN.{length}
 use Rattle.buffer.specs.Splice.{spliced}
 use Rattle.party.specs.Steps.{Stepped}
 use Rattle.session.specs.Session.{maxOutbox, sentLength, wroteIn}
-use Rattle.session.specs.Private.{stepOf}
+use Rattle.session.specs.Private.{stepFor}
 use Rattle.session.proofs.Wrote.{step-room, wrote-short}
 use borrow.Author.Needs.{needs}
 use Rattle.session.proofs.kept.Statement.{statement}
@@ -46,7 +46,7 @@ returns c =
     let l = k .keep .ensures .0 ∙ ap length e in (
       ap (λ (r : Stepped). r .state) (d .step .ensures),
       l,
-      omega (arith, l, wrote-short (stepOf (a .turn .e) s (a .q)) maxOutbox (step-room (a .turn .e) s (a .q))),
+      omega (arith, l, wrote-short (stepFor (a .turn .e) s (a .q)) maxOutbox (step-room (a .turn .e) s (a .q))),
       k .keep .ensures .1 ∙ ap (spliced (a .slot .now) 0) e,
     )
 

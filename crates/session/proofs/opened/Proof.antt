@@ -1,6 +1,7 @@
--- `session::opened` meets its contract: the book is within its limit, so it is given, and the party opens with it. Assumes nothing.
+-- `session::opened` meets its contract: a good party's book is within its limit, so it is given, and the party opens with it; another has none.
+-- Assumes nothing.
 use mathlib.Core.Path.{_≡_, sym, ap, _∙_}
-use mathlib.Core.List.{List}
+use mathlib.Core.List.{List, []}
 use Prim.Native.Nat.{ℕ, zero, _-_, _≤_}
 use native.Mathlib.Omega.{arith}
 use lib.ListN.{length, take, drop, replicate, length-replicate, length-drop}
@@ -8,9 +9,8 @@ use lib.Seq.{length-take-le, take-all}
 use Rattle.limits.specs.Limits.{maxMessage}
 use Rattle.buffer.specs.Given.{gave}
 use Rattle.commitment.proofs.Answers.{not-done}
-use Rattle.plan.specs.Plan.{bookOf}
-use Rattle.session.specs.Session.{messageOf}
-use Rattle.session.proofs.Rule.{Known, known, books-room, open-is, book-done, book-room, book-bytes}
+use Rattle.plan.specs.Plan.{bookGiven}
+use Rattle.session.proofs.Rule.{Known, known, books-room, open-is, book-missing, book-room, book-bytes}
 use borrow.Author.Needs.{needs}
 use Rattle.sha256.specs.Sha256.{sha256}
 use Rattle.session.proofs.opened.Statement.{statement}
@@ -36,13 +36,13 @@ abbrev Zeros : List ℕ
 Zeros = replicate maxMessage 0
 
 gives : (d : tie.After-book) → let a = Entry d .args in
-    gave (d .book .result) (O d) ≡ bookOf (a .parts .n) (a .parts .good) (a .q) (drop (a .parts .books) (S (Entry d))) Zeros
+    gave (d .book .result) (O d) ≡ bookGiven (a .parts .n) (a .parts .good) (a .q) (drop (a .parts .books) (S (Entry d))) Zeros
 gives d =
     let st = Entry d in
     let a = st .args in
     let from = a .parts .books in
     d .book .ensures
-    ∙ ap (λ (l : List ℕ). bookOf (a .parts .n) (a .parts .good) (a .q) l Zeros)
+    ∙ ap (λ (l : List ℕ). bookGiven (a .parts .n) (a .parts .good) (a .q) l Zeros)
     (take-all (length (S st) - from) (drop from (S st)) (omega (arith, length-drop from (S st))))
 
 -- it gave as many bytes as the book has
@@ -85,9 +85,10 @@ returns c =
     let e = c .before .before in
     let d = e .before .before in
     let st = Entry d in
-    absurd (not-done (d .book .result) (length (messageOf (S st) (st .args .q)))
-    (book-done (S st) (st .args .parts) (plan st) (st .args .q) Zeros (length-replicate maxMessage zero) (d .book .result) (O d) (gives d))
-    (e .match .keys2))
+    c .open .ensures
+    ∙ open-is (S st) (st .args .parts) (plan st) sha256 (st .args .q) []
+    (sym (book-missing (S st) (st .args .parts) (plan st) (st .args .q) Zeros (length-replicate maxMessage zero) (d .book .result) (O d) (gives d)
+    (λ l h. not-done (d .book .result) l h (e .match .keys2))))
 
 array-share-prefix-message : tie.Need-array-share-prefix-message
 array-share-prefix-message c = inside (c .before)

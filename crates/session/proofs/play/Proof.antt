@@ -8,7 +8,7 @@ use Rattle.buffer.specs.Splice.{spliced}
 use Rattle.buffer.proofs.Splice.{length-spliced}
 use Rattle.report.specs.Output.{sentLine}
 use Rattle.sha256.specs.Sha256.{sha256}
-use Rattle.session.specs.Private.{maxLine, maxText, stepOf, stateOf, Dealt}
+use Rattle.session.specs.Private.{maxLine, maxText, stepFor, stateFor, Dealt}
 use Rattle.session.proofs.Text.{sent-short, sent-written, given-at, take-behind, output-is}
 use borrow.Author.Needs.{needs}
 use Rattle.session.proofs.play.Statement.{statement}
@@ -32,7 +32,7 @@ Entry k = k .before .before .before
 
 -- the outboxes, and the text with the lines
 outboxes : (d : tie.After-round) → Dealt (Entry (Votes d) .args .bytes .now) (d .round .last .1 .1 .1 .1 .1 .0) (d .round .last .1 .1 .1 .1 .1 .1 .0)
-unfolding stepOf
+unfolding stepFor
 outboxes d = let y = d .round .ensures in record { boxes-long = y .2; lens-long = y .3; slots = y .1 }
 
 abbrev O : tie.After-put-lines → List ℕ
@@ -100,7 +100,7 @@ slice-aggregate-relay-on-one-4 : tie.Need-slice-aggregate-relay-on-one-4
 slice-aggregate-relay-on-one-4 c = search needs
 
 relay-on-one-requires : tie.Need-relay-on-one-requires
-unfolding stepOf stateOf
+unfolding stepFor stateFor
 relay-on-one-requires c κs =
     let d = c .before .before .before .before .before .before in
     let st = Entry (Votes d) in

@@ -8,7 +8,7 @@ use Rattle.sha256.specs.Sha256.{sha256}
 use Rattle.limits.specs.Limits.{maxParties}
 use Rattle.party.specs.Steps.{Stepped}
 use Rattle.session.specs.Session.{wroteIn, step4}
-use Rattle.session.specs.Private.{stepOf, stateOf}
+use Rattle.session.specs.Private.{stepFor, stateFor}
 use Rattle.session.proofs.Rule.{Known, known}
 use Rattle.session.proofs.States.{step-second}
 use Rattle.session.proofs.Sums.{relays-none, relays-all}
@@ -42,7 +42,7 @@ round-requires c κs =
       st .pre .0,
       omega (arith, st .pre .1),
       λ h. st .pre .3 .slots,
-      λ d j a h g. st .pre .2 d j a h g ∙ ap (λ (k : ℕ). stateOf k s (j + 1)) (sym (st .pre .1)),
+      λ d j a h g. st .pre .2 d j a h g ∙ ap (λ (k : ℕ). stateFor k s (j + 1)) (sym (st .pre .1)),
       st .pre .4,
       long st,
     )
@@ -60,7 +60,7 @@ returns-2 c =
     let st = Entry (e .before) in
     let s = S st in
     let r = w .round .ensures in
-    let is : (q : ℕ) → stepOf (st .args .turn .e) s q ≡ step4 sha256 s q = (λ q. step-second (st .args .turn .e) s q (st .pre .1)) in
+    let is : (q : ℕ) → stepFor (st .args .turn .e) s q ≡ step4 sha256 s q = (λ q. step-second (st .args .turn .e) s q (st .pre .1)) in
     relays-all s (plan st .high) _ _ (r .2) _ (λ h. e .if1 .left (st .pre .0 .bit-is ∙ h)) (r .3)
     (λ d j a h g. r .0 d j a h g ∙ ap (λ (v : Stepped). v .state) (is (j + 1)))
     (λ j h g. let x = r .1 j h g in (x .0, x .1 ∙ ap wroteIn (is (j + 1))))

@@ -16,7 +16,7 @@ use Rattle.plan.specs.Layout.{nIn, goodIn}
 use Rattle.exchange.specs.Exchange.{Slots}
 use Rattle.exchange.proofs.Slots.{slots-none, slots-skip, slots-more}
 use Rattle.session.specs.Session.{maxOutbox, wroteIn, isGood}
-use Rattle.session.specs.Private.{stepOf, stateOf, States}
+use Rattle.session.specs.Private.{stepFor, stateFor, States}
 use Rattle.session.specs.declared.Turn.{Turn}
 use Rattle.session.proofs.Rule.{Known, known, good-named}
 use Rattle.session.proofs.States.{states-more, states-skip, states-later, states-past}
@@ -26,16 +26,16 @@ use Rattle.session.proofs.round.Tie as tie
 
 -- what a party wrote, and its state after that
 abbrev W : Turn → List ℕ → ℕ → List ℕ
-W turn s p = wroteIn (stepOf (turn .e) s p)
+W turn s p = wroteIn (stepFor (turn .e) s p)
 
 abbrev A : Turn → List ℕ → ℕ → Party
-A turn s p = stepOf (turn .e) s p .state
+A turn s p = stepFor (turn .e) s p .state
 
 abbrev Inv-loop : tie.InvT-loop
 Inv-loop bytes turn slots lens next₀ sizes₀ n good states₀ p₀ next sizes states p =
     (p ≤ n) × (length next ≡ length next₀) × (length sizes ≡ length sizes₀) × (length states ≡ maxParties)
     × Slots (goodIn bytes) maxOutbox (W turn bytes) p next sizes × States bytes (A turn bytes) 0 p states
-    × States bytes (stateOf (turn .e) bytes) p n states
+    × States bytes (stateFor (turn .e) bytes) p n states
 
 abbrev μ-loop : tie.MeasureT-loop
 μ-loop bytes turn slots lens next₀ sizes₀ n good states₀ p₀ next sizes states p = n - p
@@ -171,7 +171,7 @@ loop-again c =
       slots-more (goodIn s) maxOutbox (W turn s) (o .p) at (k .kept .result .len) (o .next) (o .sizes) _ _ refl (y .1) q refl (y .2)
           (omega (arith, inside d .0)) (inside d .1) (i .4),
       states-more s (A turn s) (o .p) x (o .states) _ refl (y .0) (omega (arith, few d, i .3)) (i .5),
-      states-later s (stateOf (turn .e) s) (o .p) (Entry l .args .turn .parts .n) x (o .states) _ refl (i .6),
+      states-later s (stateFor (turn .e) s) (o .p) (Entry l .args .turn .parts .n) x (o .states) _ refl (i .6),
     )
 
 loop-less-2 : tie.Need-loop-less-2 Inv-loop μ-loop
@@ -192,7 +192,7 @@ loop-again-2 c =
       i .3,
       slots-skip (goodIn s) maxOutbox (W turn s) (o .p) (o .next) (o .sizes) _ _ refl refl bad (i .4),
       states-skip s (A turn s) (o .p) (o .states) _ refl bad (i .5),
-      states-past s (stateOf (turn .e) s) (o .p) (turn .parts .n) (o .states) _ refl (i .6),
+      states-past s (stateFor (turn .e) s) (o .p) (turn .parts .n) (o .states) _ refl (i .6),
     )
 
 same-length : tie.Need-same-length Inv-loop μ-loop

@@ -49,7 +49,7 @@ inbox-requires : tie.Need-inbox-requires
 inbox-requires c κs =
     let b = c .before in
     let st = Entry (b .before .before) in
-    (st .pre .0 .ready, omega arith, st .pre .3, st .pre .4, b .blank-inbox .ensures)
+    (st .pre .0 .ready, st .pre .3, st .pre .4, b .blank-inbox .ensures)
 
 array-share-prefix-room : tie.Need-array-share-prefix-room
 array-share-prefix-room c = search needs

@@ -10,9 +10,9 @@ use lib.Dec.{eqb}
 use Rattle.merkle.specs.Shares.{same}
 use Rattle.party.specs.declared.Opened.{Opened}
 use Rattle.commitment.proofs.Shared.{same-is}
-use Rattle.plan.specs.Layout.{unnamed, nIn, tIn, goodIn, hasBit}
+use Rattle.plan.specs.Layout.{unnamed, nIn, tIn, goodIn, bitOption, hasBit}
 use Rattle.session.specs.Session.{lowestGood, opened, agreedRoot, step2, agreedBit, sameRoots, sameBits}
-use Rattle.session.proofs.Rule.{Known, known, lowest-is, unnamed-is, firstRoot, firstBit, manyBad, noBit, otherRoot, bit-beyond, bit-low, bit-none}
+use Rattle.session.proofs.Rule.{Known, known, option-named, lowest-is, unnamed-is, firstRoot, firstBit, manyBad, noBit, otherRoot, bit-beyond, bit-low, bit-none}
 use Rattle.session.proofs.Rule.{unlawful-many, unlawful-bit, unlawful-root, unlawful-vote, not-true, not-false}
 use borrow.Author.Needs.{needs}
 use Rattle.sha256.specs.Sha256.{sha256}
@@ -45,21 +45,20 @@ few-bad e =
     le-ltb (tIn s) (unnamed (nIn s) 1 (goodIn s)) (omega (arith, e .if1 .left, bad-are (e .before), plan st .t-is))
 
 -- the bit
-voted : (t : tie.Then2) → hasBit (S (Counted (t .before .before))) ≡ true
-voted t = sym (plan (Counted (t .before .before)) .voted-is) ∙ t .if2 .taken
+voted : (c : tie.After-names) → c .names .result ≡ hasBit (S (Counted (c .before .before)))
+voted c = let st = Counted (c .before .before) in option-named (S st) (st .args .parts) (plan st) bitOption (c .names .result) (c .names .ensures)
 
-bit-is : (c : tie.Joined2) → noBit (S (Counted (c .before .before))) ≡ false
+bit-is : (c : tie.Joined2) → noBit (S (Counted (c .before .before .before))) ≡ false
 bit-is c =
-    let st = Counted (c .before .before) in
-    let k = plan st in
+    let st = Counted (c .before .before .before) in
     elim (c .if2 .came) [
-      | inl w ↦ bit-low sha256 (S st) (sym (k .voted-is) ∙ w .0 .taken) (omega (arith, w .1 .left, st .pre .2))
-      | inr w ↦ bit-none (S st) (sym (k .voted-is) ∙ w .left)
+      | inl w ↦ bit-low sha256 (S st) (sym (voted (c .before)) ∙ w .0 .taken) (omega (arith, w .1 .left, st .pre .2))
+      | inr w ↦ bit-none (S st) (sym (voted (c .before)) ∙ w .left)
     ]
 
 -- the lowest-numbered good party, and its root
 abbrev Entry : tie.After-lowest-good → tie.Start
-Entry l = Counted (l .before .before .before)
+Entry l = Counted (l .before .before .before .before)
 
 first-is : (l : tie.After-lowest-good) → l .lowest-good .result ≡ lowestGood (S (Entry l))
 first-is l = let st = Entry l in l .lowest-good .ensures ∙ lowest-is (S st) (st .args .parts) (plan st)
@@ -133,16 +132,20 @@ returns c =
     sym (unlawful-many sha256 s (lt-ltb (tIn s) (unnamed (nIn s) 1 (goodIn s))
     (omega (arith, c .if1 .taken, bad-are k, plan st .t-is))))
 
+names-requires : tie.Need-names-requires
+names-requires c κs = search needs
+
 returns-2 : tie.Need-returns-2
 returns-2 c =
     let t = c .before in
-    let e = t .before in
+    let e = t .before .before in
     let st = Counted (e .before) in
-    sym (unlawful-bit sha256 (S st) (few-bad e) (bit-beyond sha256 (S st) (voted t) (omega (arith, c .if3 .taken, st .pre .2))))
+    sym (unlawful-bit sha256 (S st) (few-bad e)
+    (bit-beyond sha256 (S st) (sym (voted (t .before)) ∙ t .if2 .taken) (omega (arith, c .if3 .taken, st .pre .2))))
 
 lowest-good-requires : tie.Need-lowest-good-requires
 lowest-good-requires c κs =
-    let k = plan (Counted (c .before .before)) in
+    let k = plan (Counted (c .before .before .before)) in
     omega (arith, k .n-is, k .high)
 
 opened-requires : tie.Need-opened-requires
@@ -162,8 +165,8 @@ returns-3 c =
     let d = c .before in
     let t = Asked d in
     let j = Own (t .before) .before .before in
-    let s = S (Counted (j .before .before)) in
-    sym (unlawful-root sha256 s (few-bad (j .before)) (bit-is j)
+    let s = S (Counted (j .before .before .before)) in
+    sym (unlawful-root sha256 s (few-bad (j .before .before)) (bit-is j)
     (ap₂ (λ (x y : Bool). x && not y) (sym (all-roots (t .before)) ∙ t .if4 .taken)
     (sym (compared d) ∙ not-true (d .same .result) (c .if5 .taken))))
 
@@ -179,7 +182,7 @@ returns-4 c =
     let j = Last b .before in
     let st = Entry (Last b) in
     let s = S st in
-    sym (unlawful-vote sha256 s (few-bad (j .before)) (bit-is j) (root-is (Joined b))
+    sym (unlawful-vote sha256 s (few-bad (j .before .before)) (bit-is j) (root-is (Joined b))
     ∙ ap₂ (λ (x y : Bool). x && not y) (sym (all-bits b) ∙ c .if6 .taken) (sym (ap₂ eqb (st .pre .2) (vote-is b))))
 
 returns-5 : tie.Need-returns-5
@@ -187,7 +190,7 @@ returns-5 c =
     let b = c .before in
     let j = Last b .before in
     let s = S (Entry (Last b)) in
-    sym (unlawful-vote sha256 s (few-bad (j .before)) (bit-is j) (root-is (Joined b))
+    sym (unlawful-vote sha256 s (few-bad (j .before .before)) (bit-is j) (root-is (Joined b))
     ∙ ap (λ (x : Bool). x && not (eqb (agreedBit sha256 s) (firstBit sha256 s))) (sym (all-bits b) ∙ c .if6 .left))
 
 pub unlawful-spec : {M : Type 1} → statement M
@@ -196,6 +199,7 @@ unlawful-spec =
     (tie.spec
     unnamed-requires
     returns
+    names-requires
     returns-2
     lowest-good-requires
     opened-requires

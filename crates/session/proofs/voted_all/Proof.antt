@@ -9,7 +9,7 @@ use Rattle.limits.specs.Limits.{maxParties}
 use Rattle.party.specs.Steps.{Stepped}
 use Rattle.plan.specs.Layout.{nIn}
 use Rattle.session.specs.Session.{isGood}
-use Rattle.session.specs.Private.{stateOf, States}
+use Rattle.session.specs.Private.{stateFor, States}
 use Rattle.session.proofs.Rule.{Known, known, good-named}
 use Rattle.session.proofs.States.{states-more, states-skip, state-first}
 use borrow.Author.Needs.{needs}
@@ -17,7 +17,7 @@ use Rattle.session.proofs.voted_all.Statement.{statement}
 use Rattle.session.proofs.voted_all.Tie as tie
 
 abbrev Inv-loop : tie.InvT-loop
-Inv-loop bytes parts root n good states₀ p₀ states p = (p ≤ n) × (length states ≡ maxParties) × States bytes (stateOf 0 bytes) 0 p states
+Inv-loop bytes parts root n good states₀ p₀ states p = (p ≤ n) × (length states ≡ maxParties) × States bytes (stateFor 0 bytes) 0 p states
 
 abbrev μ-loop : tie.MeasureT-loop
 μ-loop bytes parts root n good states₀ p₀ states p = n - p
@@ -77,7 +77,7 @@ loop-again c =
     let s = S (Entry l) in (
       omega arith,
       length-set (o .states) (o .p) (w .ballot2 .result .state) ∙ o .inv .1,
-      states-more s (stateOf 0 s) (o .p) (w .ballot2 .result .state) (o .states) _ refl
+      states-more s (stateFor 0 s) (o .p) (w .ballot2 .result .state) (o .states) _ refl
           (ap (λ (v : Stepped). v .state) (w .ballot2 .ensures) ∙ sym (state-first 0 s (o .p + 1) refl))
           (omega (arith, few (g .before), o .inv .1)) (o .inv .2),
     )
@@ -91,14 +91,14 @@ loop-again-2 c =
     let l = g .before .before in
     let o = l .loop in
     let s = S (Entry l) in
-    (omega arith, o .inv .1, states-skip s (stateOf 0 s) (o .p) (o .states) _ refl (tells g _ (c .if1 .left)) (o .inv .2))
+    (omega arith, o .inv .1, states-skip s (stateFor 0 s) (o .p) (o .states) _ refl (tells g _ (c .if1 .left)) (o .inv .2))
 
 returns : tie.Need-returns Inv-loop μ-loop
 returns c =
     let l = c .before in
     let s = S (Entry l) in
     let e : l .loop .p ≡ nIn s = omega (arith, plan (Entry l) .n-is) in
-    subst (λ (k : ℕ). States s (stateOf 0 s) 0 k (l .loop .states)) e (l .loop .inv .2)
+    subst (λ (k : ℕ). States s (stateFor 0 s) 0 k (l .loop .states)) e (l .loop .inv .2)
 
 pub voted-all-spec : {M : Type 1} → statement M
 voted-all-spec =

@@ -1,4 +1,4 @@
--- `plan::behind_block` meets its contract: each return is one outcome of the definition. Assumes nothing.
+-- `plan::skip_block` meets its contract: each return is one outcome of the definition. Assumes nothing.
 use mathlib.Core.Path.{_≡_, sym, ap, subst, _∙_}
 use mathlib.Core.List.{List}
 use mathlib.Core.Option.{Option}
@@ -7,12 +7,12 @@ use native.Mathlib.Omega.{arith}
 use lib.Dec.{ltb}
 use lib.ListN.{drop}
 use Rattle.buffer.specs.Entries.{size}
-use Rattle.plan.specs.Layout.{behind, within}
+use Rattle.plan.specs.Layout.{mapWidth, within, skipEntries}
 use Rattle.plan.specs.Private.{Ends}
 use Rattle.plan.proofs.Blocks.{block-short, block-beyond, block-stray, block-good}
 use borrow.Author.Needs.{needs}
-use Rattle.plan.proofs.behind_block.Statement.{statement}
-use Rattle.plan.proofs.behind_block.Tie as tie
+use Rattle.plan.proofs.skip_block.Statement.{statement}
+use Rattle.plan.proofs.skip_block.Tie as tie
 
 -- the map is that of the block
 beyond : (c : tie.After-up-to) → let a = c .before .before .before .before .args in
@@ -22,10 +22,10 @@ beyond c =
     c .up-to .ensures ∙ ap (λ (k : ℕ). ltb k (2 ^ a .n)) (c .before .size-at .ensures)
 
 stray : (c : tie.After-within) → let a = c .before .before .before .before .before .before .args in
-    c .within .result ≡ within (a .n) 1 (size (drop (a .at) (a .s .now))) (a .good)
+    c .within .result ≡ within (a .n) (size (drop (a .at) (a .s .now))) (a .good)
 stray c =
     let a = c .before .before .before .before .before .before .args in
-    c .within .ensures ∙ ap (λ (k : ℕ). within (a .n) 1 k (a .good)) (c .before .before .before .size-at .ensures)
+    c .within .ensures ∙ ap (λ (k : ℕ). within (a .n) k (a .good)) (c .before .before .before .size-at .ensures)
 
 sub-if1 : tie.Need-sub-if1
 sub-if1 c = search needs
@@ -42,22 +42,22 @@ up-to-requires c κs = search needs
 within-requires : tie.Need-within-requires
 within-requires c κs = search needs
 
-add-behind : tie.Need-add-behind
-add-behind c = search needs
+add-skip-entries : tie.Need-add-skip-entries
+add-skip-entries c = search needs
 
-behind-requires : tie.Need-behind-requires
-behind-requires c κs = search needs
+skip-entries-requires : tie.Need-skip-entries-requires
+skip-entries-requires c κs = search needs
 
 returns-2 : tie.Need-returns-2
 returns-2 c =
     let w = c .before .before in
     let u = w .before .before in
     let a = u .before .before .before .before .args in
-    subst (λ (o : Option (List ℕ)). Ends (c .behind .result) o (a .s .now))
-    (ap (λ (k : ℕ). behind (a .n) 1 k (drop (a .at + 2) (a .s .now))) (u .before .size-at .ensures)
+    subst (λ (o : Option (List ℕ)). Ends (c .skip-entries .result) o (a .s .now))
+    (ap (λ (k : ℕ). skipEntries (a .n) k (drop (a .at + mapWidth) (a .s .now))) (u .before .size-at .ensures)
     ∙ sym (block-good (a .n) (a .good) (a .at) (a .s .now) (omega arith) (sym (beyond u) ∙ w .before .if2 .taken)
     (sym (stray w) ∙ c .before .if3 .taken)))
-    (c .behind .ensures)
+    (c .skip-entries .ensures)
 
 returns-3 : tie.Need-returns-3
 returns-3 c =
@@ -73,8 +73,8 @@ returns-4 c =
     let a = u .before .before .before .before .args in
     block-beyond (a .n) (a .good) (a .at) (a .s .now) (omega arith) (sym (beyond u) ∙ c .if2 .left)
 
-pub behind-block-spec : {M : Type 1} → statement M
-behind-block-spec =
+pub skip-block-spec : {M : Type 1} → statement M
+skip-block-spec =
     tie.close
     (tie.spec
     sub-if1
@@ -82,8 +82,8 @@ behind-block-spec =
     size-at-requires
     up-to-requires
     within-requires
-    add-behind
-    behind-requires
+    add-skip-entries
+    skip-entries-requires
     returns-2
     returns-3
     returns-4)
