@@ -32,7 +32,7 @@ use Rattle.plan.proofs.Given.{book-none, book-some}
 use Rattle.plan.proofs.Blocks.{entry-none}
 use Rattle.plan.proofs.Accepted.{accepted, books-inside, book-short}
 use Rattle.session.specs.Session.{isGood, messageOf, lowestGood, opened, agreedRoot, step2, agreedBit, sameRoots, sameBits, unlawful}
-use Rattle.session.specs.Private.{Ready, bitGiven}
+use Rattle.session.specs.Private.{Ready, ownBit}
 
 -- the parts of a plan that is taken
 pub record Known (s : List ℕ) (parts : Plan) : Type 0 where
@@ -119,8 +119,8 @@ module _ (s : List ℕ) (parts : Plan) (k : Known s parts) where
         (book-some (nIn s) (goodIn s) q (booksIn s) out (k .low) (k .high) good
         ∙ written-done (messageOf s q) out (omega (arith, long, k .short q)))
 
-    refused : member (nIn s) (goodIn s) q ≡ false → gave r o ≡ gave (Refused 3) out
-    refused bad = e ∙ rw (k .n-is, k .good-is, k .books-are) (book-none (nIn s) (goodIn s) q (booksIn s) out (k .low) (k .high) bad)
+    not-taken : member (nIn s) (goodIn s) q ≡ false → gave r o ≡ gave (Refused 3) out
+    not-taken bad = e ∙ rw (k .n-is, k .good-is, k .books-are) (book-none (nIn s) (goodIn s) q (booksIn s) out (k .low) (k .high) bad)
 
     -- one that is given is the party's message
     done : (l : ℕ) → r ≡ Done l → gave r o ≡ gave (Done (length (messageOf s q))) (spliced out 0 (messageOf s q))
@@ -128,7 +128,7 @@ module _ (s : List ℕ) (parts : Plan) (k : Known s parts) where
       where
         go : (b : Bool) → member (nIn s) (goodIn s) q ≡ b → gave r o ≡ gave (Done (length (messageOf s q))) (spliced out 0 (messageOf s q))
         go true good = given good
-        go false bad = absurd (omega (arith, ap causeOf (sym h), ap (λ (g : Given). g .cause) (refused bad)))
+        go false bad = absurd (omega (arith, ap causeOf (sym h), ap (λ (g : Given). g .cause) (not-taken bad)))
 
     pub book-room : (l : ℕ) → r ≡ Done l → l ≤ length o
     book-room l h =
@@ -173,7 +173,7 @@ module _ (H : List ℕ → List ℕ) (s : List ℕ) where
   bit-own h = bit-by false h
 
   -- the bit that a party gives in step 2
-  pub bit-told : (q : ℕ) → bitGiven (step2 H s q .answer) ≡ step2 H s q .value
+  pub bit-told : (q : ℕ) → ownBit (step2 H s q .answer) ≡ step2 H s q .value
   unfolding step2 agreeRootOf
   bit-told q = go (not (eqb (rootCause x z) 0))
     where
@@ -185,7 +185,7 @@ module _ (H : List ℕ → List ℕ) (s : List ℕ) where
 
       go : (b : Bool)
           → let r = cond b (refused x (rootCause x z) []) (gives (withRoot x z) (Happy (happy H (withRoot x z))) []) in
-          bitGiven (r .answer) ≡ r .value
+          ownBit (r .answer) ≡ r .value
       go true = refl
       go false = refl
 

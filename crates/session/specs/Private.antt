@@ -93,10 +93,10 @@ messageLength Nothing = 0
 messageLength (Message l) = l
 
 -- the bit that a party gave; 0 where it gave none
-abbrev pub bitGiven : Answer → ℕ
-bitGiven (Refused k) = 0
-bitGiven (Short l) = 0
-bitGiven (Happy b) = cond b 1 0
-bitGiven (Sent l) = 0
-bitGiven Nothing = 0
-bitGiven (Message l) = 0
+abbrev pub ownBit : Answer → ℕ
+ownBit (Refused k) = 0
+ownBit (Short l) = 0
+ownBit (Happy b) = cond b 1 0
+ownBit (Sent l) = 0
+ownBit Nothing = 0
+ownBit (Message l) = 0

@@ -18,7 +18,7 @@ ghost use Rattle.report.specs.Output.{line};
 ghost use Rattle.session.specs.Session.{maxOutbox, sentLength, wroteIn, orNothing, lineWith, wholeIn, isGood, opened, agreedRoot, step2, agreedBit};
 ghost use Rattle.session.specs.Session.{sameRoots, sameBits, unlawful, step4};
 ghost use Rattle.session.specs.Session.{step5, endsWith, sentOf, linesFrom, sentFrom, output, rehearseOf, printOf};
-ghost use Rattle.session.specs.Private.{Ready, Turned, stepFor, stateFor, States, Behind, inboxRoom, maxLine, maxText, Dealt, Relayed, Sizes, Finishing, messageLength, bitGiven};
+ghost use Rattle.session.specs.Private.{Ready, Turned, stepFor, stateFor, States, Behind, inboxRoom, maxLine, maxText, Dealt, Relayed, Sizes, Finishing, messageLength, ownBit};
 use buffer::Written;
 use commitment::MAX_OUTBOX;
 use exchange::Mail;
@@ -339,7 +339,7 @@ fn ballot(bytes: &[u8], parts: Plan, root: &Hash, q: usize) -> Reply
 
 // The bit of an answer; 0 if the step was refused.
 fn bit_of(answer: Answer) -> u8
-    ensures { λ r. ⌜ r ≡ bitGiven answer ⌝ }
+    ensures { λ r. ⌜ r ≡ ownBit answer ⌝ }
 {
     match answer {
         Answer::Refused(_) => 0,
