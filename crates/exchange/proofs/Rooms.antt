@@ -1,4 +1,4 @@
--- How long packets and inboxes are: a good party's packet is no longer than its slot, and those of bad ones stand in the plan, one behind the
+-- How long packets and inboxes are: a good party's packet is no longer than its slot, and those of bad ones stand in the plan, one after the
 -- other. So an inbox of n entries has at most the exchange's bytes, and a slot and a length for each sender. By adding up along the
 -- senders. Assumes nothing.
 use mathlib.Core.Path.{_≡_, refl, ap, ap₂, _∙_}
@@ -58,7 +58,7 @@ inbox-length F (suc k) =
     )
 
 -- what is in a slot
-pub slot-short : (size : ℕ) (slots lens : List ℕ) (p : ℕ) → length (slotOf size slots lens p) ≤ size
+slot-short : (size : ℕ) (slots lens : List ℕ) (p : ℕ) → length (slotOf size slots lens p) ≤ size
 unfolding slotOf
 slot-short size slots lens p = omega (arith, length-take (min (getD lens (p - 1) 0) size) (drop ((p - 1) * size) slots))
 
@@ -99,7 +99,7 @@ module _ (m : Mail) (slots lens blocks : List ℕ) (i : ℕ) where
       go w false true false h k l = omega arith
       go w false false c h k l = l
 
-  -- an inbox, and the place behind its first k + 1 entries
+  -- an inbox, and the offset behind its first k + 1 entries
   pub inbox-short : length (inboxBy m slots lens blocks i) ≤ length blocks + m .n * (m .size + 2)
   unfolding inboxTo
   inbox-short =

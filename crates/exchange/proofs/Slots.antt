@@ -19,7 +19,7 @@ part-front : (p x : List ℕ) (a l : ℕ) → a + l ≤ length p → take l (dro
 part-front p x a l h =
     ap (take l) (drop-append-le a p x (omega arith)) ∙ take-append-le l (drop a p) x (omega (arith, length-drop a p))
 
--- what stands before a place that is written to, and what is written there
+-- what stands before an offset that is written to, and what is written there
 module _ (d : List ℕ) (at : ℕ) (w : List ℕ) (inside : at ≤ length d) where
   part-before : (a l : ℕ) → a + l ≤ at → take l (drop a (spliced d at w)) ≡ take l (drop a d)
   unfolding spliced

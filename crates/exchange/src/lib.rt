@@ -55,7 +55,7 @@ pub fn fill(
     Written::Done(entries(mail, slots, lens, blocks, i, out))
 }
 
-// The entries of all senders, one behind the other; their length.
+// The entries of all senders, concatenated; their length.
 fn entries(
     mail: Mail,
     slots: &[u8],

@@ -61,7 +61,7 @@ module _ (s : List ℕ) (l : laidOut s ≡ true) (k : ℕ) (known : k < length f
   pub field-there : fieldAt (optionsIn s) (k + 1) + getD fields k 0 ≤ length s
   field-there = omega (arith, books-inside s l, field-inside (optionsIn s) k known given)
 
-  pub field-length : length (fieldIn (k + 1) s) ≡ getD fields k 0
+  field-length : length (fieldIn (k + 1) s) ≡ getD fields k 0
   field-length =
       let o : ℕ = optionsIn s in
       let e : getD fields (k + 1 - 1) 0 ≡ getD fields k 0 = let z : k + 1 - 1 ≡ k = omega arith in ap (λ (j : ℕ). getD fields j 0) z in

@@ -67,7 +67,7 @@ module _ (takes : ℕ → Bool) (step : List ℕ → Option (List ℕ)) (f : Lis
       go false o h = omega (arith, h)
 
   -- one of them, with what is left
-  pub part-within : (n q : ℕ) → 1 ≤ q → q ≤ n → part q + length (orEmpty (walk takes step n s)) ≤ length s
+  part-within : (n q : ℕ) → 1 ≤ q → q ≤ n → part q + length (orEmpty (walk takes step n s)) ≤ length s
   part-within n q l h = omega (arith, parts-within n, one-term n 1 q part l (omega arith))
 
 -- an entry and what stands behind it

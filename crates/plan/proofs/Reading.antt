@@ -1,5 +1,5 @@
 -- Laws of a plan's reading: one for each cause, and for a plan that is taken. Assumes nothing.
-use mathlib.Core.Path.{_≡_, sym, ap, _∙_}
+use mathlib.Core.Path.{_≡_, ap}
 use mathlib.Core.Bool.{true, false}
 use mathlib.Core.List.{List}
 use mathlib.Core.Option.{none, some}
@@ -11,8 +11,8 @@ use lib.ListN.{length, drop, length-drop}
 use Rattle.limits.specs.Limits.{maxPlan, groupCause}
 use Rattle.plan.specs.Layout.{mapWidth, andThen, orEmpty, skipEntries, booksFit, fields, nIn, tIn, optionsIn, goodAt, goodIn, booksIn, walk}
 use Rattle.plan.specs.Layout.{exchanges, skipExchanges, exchangeIn, exchangeAt, endOf, laidOut}
-use Rattle.plan.specs.Plan.{planCause, planOf}
-use Rattle.plan.specs.Private.{Header, refused}
+use Rattle.plan.specs.Plan.{planCause, refused, planOf}
+use Rattle.plan.specs.Private.{Header}
 
 module _ (s : List ℕ) where
   -- what stands before the books is not in order

@@ -2,7 +2,7 @@
 -- nothing.
 use mathlib.Core.Path.{_≡_, refl, sym, ap, _∙_}
 use mathlib.Core.Bool.{Bool, true, false, cond, not, _||_}
-use mathlib.Core.List.{List, [], _∷_}
+use mathlib.Core.List.{List, []}
 use mathlib.Core.Option.{Option, none, some}
 use Prim.Native.Nat.{ℕ, zero, suc, _+_, _-_, _≤_, _^_, min}
 use native.Mathlib.Omega.{arith}
@@ -26,16 +26,16 @@ tail-none s = record { at = length s; is = sym (drop-length s) }
 tail-drop : (k : ℕ) (x s : List ℕ) → Tail x s → Tail (drop k x) s
 tail-drop k x s t = record { at = t .at + k; is = ap (drop k) (t .is) ∙ drop-drop k (t .at) s }
 
-pub tail-short : (x s : List ℕ) → Tail x s → length x ≤ length s
+tail-short : (x s : List ℕ) → Tail x s → length x ≤ length s
 tail-short x s t = omega (arith, ap length (t .is), length-drop (t .at) s)
 
-pub tail-offset : (x s : List ℕ) → Tail x s → drop (length s - length x) s ≡ x
+tail-offset : (x s : List ℕ) → Tail x s → drop (length s - length x) s ≡ x
 tail-offset x s t =
     let e : length s - length x ≡ min (t .at) (length s) = omega (arith, ap length (t .is), length-drop (t .at) s) in
     ap (λ (k : ℕ). drop k s) e ∙ drop-min (t .at) s ∙ sym (t .is)
 
 -- what stands behind a walk whose steps leave such an end
-pub tail-walk : (takes : ℕ → Bool) (step : List ℕ → Option (List ℕ)) (s : List ℕ)
+tail-walk : (takes : ℕ → Bool) (step : List ℕ → Option (List ℕ)) (s : List ℕ)
     → ((y : List ℕ) → Tail y s → Tail (orEmpty (step y)) s) → (k : ℕ) (x : List ℕ) → Tail x s → Tail (orEmpty (walk takes step k x)) s
 unfolding walk
 tail-walk takes step s h zero x t = t

@@ -87,7 +87,7 @@ skipExchange n g s = skipBlocks n n g s
 unfoldable pub packetFrom : ℕ → ℕ → ℕ → ℕ → List ℕ → List ℕ
 packetFrom n g q i s = cond (numbered n q && not (names g q)) (blockEntry n i (orEmpty (skipBlocks (q - 1) n g s))) []
 
--- Options are numbered from 1 and named by the option map, as parties are by theirs. The table: how many bytes the field of each has.
+-- Options are numbered from 1 and named by the option map, as parties are by theirs: a root, then a bit. The bytes of the field of each, in this order.
 abbrev pub fields : List ℕ
 fields = 32 ∷ 1 ∷ []
 

@@ -21,11 +21,15 @@ planCause s =
     (cond (not (booksFit (nIn s) (goodIn s) (booksIn s))) 4
     0)))
 
--- the parts, the books and exchanges by where they start; nothing is told of a plan that is refused
+-- nothing is told of a plan that is refused
+abbrev pub refused : ℕ → Plan
+refused k =
+    record { cause = k; n = 0; t = 0; options = 0; good = 0; books = 0; exchanges = 0 }
+
+-- the parts, the books and exchanges by where they start
 unfoldable pub planOf : List ℕ → Plan
 planOf s =
-    cond (not (eqb (planCause s) 0))
-    (record { cause = planCause s; n = 0; t = 0; options = 0; good = 0; books = 0; exchanges = 0 })
+    cond (not (eqb (planCause s) 0)) (refused (planCause s))
     (record {
       cause = 0;
       n = nIn s;

@@ -7,7 +7,6 @@ use Prim.Native.Nat.{ℕ, _+_, _-_, _≤_, _<_, _^_}
 use lib.ListN.{length, take, drop}
 use Rattle.limits.specs.Limits.{maxPlan, groupCause}
 use Rattle.plan.specs.Layout.{mapWidth, fields, nIn, tIn, optionsIn, goodAt, goodIn, laidOut}
-use Rattle.plan.specs.declared.Plan.{Plan}
 use Rattle.plan.specs.declared.Offset.{Offset}
 use Rattle.plan.specs.declared.Offset.the-variants.{Nowhere, At}
 use Rattle.plan.specs.declared.Span.{Span}
@@ -46,8 +45,3 @@ pub record Rest (n t books : ℕ) (s : List ℕ) : Type 0 where
   pub header : Header books s
   pub n-is : n ≡ nIn s
   pub t-is : t ≡ tIn s
-
--- a plan that is refused
-abbrev pub refused : ℕ → Plan
-refused k =
-    record { cause = k; n = 0; t = 0; options = 0; good = 0; books = 0; exchanges = 0 }

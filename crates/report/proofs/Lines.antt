@@ -1,4 +1,4 @@
--- Laws of the lines: the endings of a party's line, the outcomes of its definition, and parts that are written one behind the other.
+-- Laws of the lines: the endings of a party's line, the outcomes of its definition, and parts that are written one after the other.
 -- Assumes nothing.
 use mathlib.Core.Path.{_≡_, refl, sym, ap, _∙_}
 use mathlib.Core.Bool.{Bool, true, false, not, true≢false}

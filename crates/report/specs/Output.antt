@@ -23,7 +23,7 @@ digits (suc k) x = cond (ltb x 10) [] (digits k (x / 10)) ++ ((0x30 + x % 10) �
 abbrev pub decimal : ℕ → List ℕ
 decimal x = digits 20 x
 
--- a byte as two lower-case hexadecimal digits, and bytes one behind the other
+-- a byte as two lower-case hexadecimal digits, and bytes, concatenated
 abbrev pub hexDigit : ℕ → ℕ
 hexDigit x = cond (ltb x 10) (0x30 + x) (0x61 + (x - 10))
 

@@ -63,7 +63,7 @@ fn worded(word: &[u8], x: usize, out: &mut [u8]) -> Written
     buffer::give(&text[..end], out)
 }
 
-// A number in decimal at a place; the place behind it.
+// A number in decimal at an offset; the offset behind it.
 fn put_decimal(x: usize, text: &mut [u8], at: usize) -> usize
     requires { ⌜ at + 20 ≤ length (now text) ⌝ }
     ensures { λ r. ⌜ (r ≡ at + length (decimal x)) × (length (decimal x) ≤ 20)
@@ -90,7 +90,7 @@ fn digits_of(x: usize) -> Digits
     Digits { bytes, from }
 }
 
-// A space, the sign, the message if there is one, and a newline, from a place on; the place behind them.
+// A space, the sign, the message if there is one, and a newline, from an offset on; the offset behind them.
 fn put_result(some: bool, message: &[u8], text: &mut [u8], at: usize) -> usize
     requires { ⌜ (length (now message) ≤ maxMessage) × (at + 4 + 2 * length (now message) ≤ length (now text)) ⌝ }
     ensures { λ r. ⌜ (r ≤ length (now (text .entry))) × (r ≡ at + length (ending some (now (message .entry))))
@@ -110,7 +110,7 @@ fn put_result(some: bool, message: &[u8], text: &mut [u8], at: usize) -> usize
     end + 1
 }
 
-// Bytes as pairs of hexadecimal digits at a place; the place behind them.
+// Bytes as pairs of hexadecimal digits at an offset; the offset behind them.
 fn put_hex(message: &[u8], text: &mut [u8], at: usize) -> usize
     requires { ⌜ (length (now message) ≤ maxMessage) × (at + 2 * length (now message) ≤ length (now text)) ⌝ }
     ensures { λ r. ⌜ (r ≡ at + 2 * length (now (message .entry)))
@@ -121,9 +121,9 @@ fn put_hex(message: &[u8], text: &mut [u8], at: usize) -> usize
         let byte = message[i];
         let high = hex_digit(byte / 16);
         let low = hex_digit(byte % 16);
-        let place = at + 2 * i;
-        text[place] = high;
-        text[place + 1] = low;
+        let offset = at + 2 * i;
+        text[offset] = high;
+        text[offset + 1] = low;
         i += 1;
     }
     at + 2 * i

@@ -1,4 +1,4 @@
--- `exchange::entries` meets its contract: after p turns the entries of the first p senders are written, one behind the other. Assumes nothing.
+-- `exchange::entries` meets its contract: after p turns the entries of the first p senders are written, one after the other. Assumes nothing.
 use mathlib.Core.Path.{_≡_, refl, sym, ap, _∙_}
 use mathlib.Core.List.{List, _++_}
 use Prim.Native.Nat.{ℕ, _+_, _-_, _*_, _≤_}
@@ -40,7 +40,7 @@ Entry l = l .before .before .before .before .before
 abbrev G : tie.At-loop Inv-loop μ-loop → ℕ → List ℕ
 G l = let a = Entry l .args in F (a .mail) (a .slots .now) (a .lens .now) (a .blocks .now) (a .i)
 
--- there is room for the entry of a turn, and all places are small
+-- there is room for the entry of a turn, and all offsets are small
 fits : (d : tie.In-loop Inv-loop μ-loop) → let l = d .before in
     l .loop .at + (2 + length (G l (l .loop .p))) ≤ maxInbox (Entry l .args .mail .n) (Entry l .args .mail .size)
 fits d =

@@ -1,4 +1,4 @@
--- `exchange::entry` meets its contract: the packet behind the place of its length, and the length before it. Assumes nothing.
+-- `exchange::entry` meets its contract: the packet behind two bytes, and then its length in these. Assumes nothing.
 use mathlib.Core.Path.{refl, ap, _∙_}
 use mathlib.Core.List.{List, [], _∷_, _++_}
 use Prim.Native.Nat.{ℕ, _+_, _-_, _/_, _%_, _<_}

@@ -1,5 +1,5 @@
 -- `plan::member` meets its contract: a test of two tests. Assumes nothing.
-use mathlib.Core.Path.{_≡_, sym, ap, ap₂, _∙_}
+use mathlib.Core.Path.{sym, ap, _∙_}
 use mathlib.Core.Bool.{Bool, _&&_}
 use Rattle.plan.specs.Layout.{names}
 use borrow.Author.Needs.{needs}

@@ -11,8 +11,8 @@ use lib.ListN.{length, drop, length-drop}
 use Rattle.limits.proofs.Booleans.{denied}
 use Rattle.buffer.specs.Entries.{size}
 use Rattle.plan.specs.Layout.{mapWidth, skipEntries, booksFit, nIn, goodAt, goodIn, booksIn, exchanges, skipExchanges, laidOut}
-use Rattle.plan.specs.Plan.{planOf}
-use Rattle.plan.specs.Private.{Ends, refused}
+use Rattle.plan.specs.Plan.{refused, planOf}
+use Rattle.plan.specs.Private.{Ends}
 use Rattle.plan.specs.declared.Offset.{Offset}
 use Rattle.plan.specs.declared.Offset.the-variants.{Nowhere, At}
 use Rattle.plan.proofs.Reading.{books-none, first-is, end-none, end-at}

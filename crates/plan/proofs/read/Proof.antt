@@ -5,7 +5,8 @@ use Prim.Native.Nat.{ℕ}
 use native.Mathlib.Omega.{arith}
 use Rattle.limits.specs.Limits.{groupCause}
 use Rattle.plan.specs.Layout.{nIn, tIn}
-use Rattle.plan.specs.Private.{HeaderEnds, refused}
+use Rattle.plan.specs.Plan.{refused}
+use Rattle.plan.specs.Private.{HeaderEnds}
 use Rattle.plan.specs.declared.Offset.{Offset}
 use Rattle.plan.specs.declared.Offset.the-variants.{Nowhere, At}
 use Rattle.plan.proofs.Reading.{plan-short, plan-group, plan-over, plan-bad}

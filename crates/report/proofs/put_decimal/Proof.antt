@@ -1,4 +1,4 @@
--- `report::put_decimal` meets its contract: the digits are the rest of the array, from the place of the first. Assumes nothing.
+-- `report::put_decimal` meets its contract: the digits are the rest of the array, from the offset of the first. Assumes nothing.
 use mathlib.Core.Path.{_≡_, sym, ap, _∙_}
 use Prim.Native.Nat.{ℕ, _+_, _-_}
 use native.Mathlib.Omega.{arith}

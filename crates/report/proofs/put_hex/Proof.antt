@@ -34,11 +34,11 @@ hex-digit-requires c κs = omega (arith, c .shared-slice-known2 .given (c .befor
 hex-digit-requires-2 : tie.Need-hex-digit-requires-2 Inv-loop μ-loop
 hex-digit-requires-2 c κs = search needs
 
-mul-place : tie.Need-mul-place Inv-loop μ-loop
-mul-place c = search needs
+mul-offset : tie.Need-mul-offset Inv-loop μ-loop
+mul-offset c = search needs
 
-add-place : tie.Need-add-place Inv-loop μ-loop
-add-place c = search needs
+add-offset : tie.Need-add-offset Inv-loop μ-loop
+add-offset c = search needs
 
 slice-write-text : tie.Need-slice-write-text Inv-loop μ-loop
 slice-write-text c = search needs
@@ -49,8 +49,8 @@ add-text c = search needs
 slice-write-text-2 : tie.Need-slice-write-text-2 Inv-loop μ-loop
 slice-write-text-2 c =
     let l = c .before .before .before .before in
-    let place : ℕ = l .before .before .before .args .at + 2 * l .loop .i in
-    omega (arith, length-set (l .loop .text) place (c .before .hex-digit .result))
+    let offset : ℕ = l .before .before .before .args .at + 2 * l .loop .i in
+    omega (arith, length-set (l .loop .text) offset (c .before .hex-digit .result))
 
 add-i : tie.Need-add-i Inv-loop μ-loop
 add-i c = search needs
@@ -64,11 +64,11 @@ loop-again c =
     let l = h .before .before .before in
     let st = l .before .before .before in
     let a = st .args in
-    let place : ℕ = a .at + 2 * l .loop .i in (
+    let offset : ℕ = a .at + 2 * l .loop .i in (
       omega arith,
       simp length-set (l .loop .inv .1),
-      ap (λ (d : List ℕ). set (set d place (h .hex-digit .result)) (place + 1) (c .hex-digit2 .result)) (l .loop .inv .2)
-          ∙ ap₂ (λ (x y : ℕ). set (set (spliced (a .text .now) (a .at) (hex (take (l .loop .i) (a .message .now)))) place x) (place + 1) y)
+      ap (λ (d : List ℕ). set (set d offset (h .hex-digit .result)) (offset + 1) (c .hex-digit2 .result)) (l .loop .inv .2)
+          ∙ ap₂ (λ (x y : ℕ). set (set (spliced (a .text .now) (a .at) (hex (take (l .loop .i) (a .message .now)))) offset x) (offset + 1) y)
           (h .hex-digit .ensures) (c .hex-digit2 .ensures)
           ∙ hex-put (a .text .now) (a .message .now) (a .at) (l .loop .i) (omega arith) (st .pre .1),
     )
@@ -102,8 +102,8 @@ put-hex-spec =
     shared-slice-read-byte
     hex-digit-requires
     hex-digit-requires-2
-    mul-place
-    add-place
+    mul-offset
+    add-offset
     slice-write-text
     add-text
     slice-write-text-2

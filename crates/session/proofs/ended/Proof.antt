@@ -2,7 +2,6 @@
 use mathlib.Core.Path.{sym, ap, ap₂, _∙_}
 use mathlib.Core.List.{List}
 use Prim.Native.Nat.{ℕ}
-use native.Mathlib.Omega.{arith}
 use lib.Seq.{length-take-le}
 use Rattle.sha256.specs.Sha256.{sha256}
 use Rattle.party.specs.Steps.{takeRelaysOf}
