@@ -3,18 +3,17 @@
 use mathlib.Core.Path.{_≡_, refl, sym, ap, _∙_}
 use mathlib.Core.Bool.{true≢false}
 use mathlib.Core.List.{List, [], _∷_, _++_}
-use Prim.Native.Nat.{ℕ, zero, suc, _+_, _-_, _*_, _<_, _≤_}
+use Prim.Native.Nat.{ℕ, zero, suc, _+_, _-_, _*_, _≤_}
 use native.Mathlib.Nat.{add-zero, zero-add}
 use native.Mathlib.Decide.{ℕ-discrete}
 use native.Mathlib.Numerals.{add-one}
 use native.Mathlib.Omega.{arith}
 use borrow.Author.Tests.{eq-eqb, ne-eqb}
-use lib.ListN.{length, take, drop, set, replicate, length-append, length-replicate}
-use lib.ListN.{replicate-append-replicate}
+use lib.ListN.{length, take, length-append}
 use Rattle.limits.specs.Limits.{maxParties, maxPath, maxShare}
 use Rattle.limits.proofs.Ranges.{numbered-within}
 use Rattle.buffer.specs.Splice.{spliced}
-use Rattle.buffer.proofs.Splice.{spliced-set, spliced-more}
+use Rattle.buffer.proofs.Splice.{spliced-more}
 use Rattle.buffer.specs.Given.{gave, written}
 use Rattle.buffer.specs.declared.Written.the-variants as given
 use Rattle.buffer.proofs.Given.{written-done}

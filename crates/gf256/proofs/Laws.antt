@@ -138,19 +138,6 @@ inverse-product a b p ha hb =
     sym (product-assoc (inverse a) a b hi ha) ∙ ap (λ (x : ℕ). product x b) (product-comm (inverse a) a hi ha ∙ product-inverse a p ha)
     ∙ one-product b hb
 
-positive : (n : ℕ) → (n ≡ 0 → ⊥) → 0 < n
-positive zero f = absurd (f refl)
-positive (suc n) f = omega arith
-
--- no zero divisors
-pub product-nonzero : (a b : ℕ) → 0 < a → 0 < b → a < 256 → b < 256 → 0 < product a b
-product-nonzero a b pa pb ha hb = positive (product a b) never
-  where
-    never : product a b ≡ 0 → ⊥
-    never e =
-        let z : b ≡ 0 = sym (inverse-product a b pa ha hb) ∙ ap (product (inverse a)) e ∙ product-zero (inverse a) in
-        omega arith
-
 -- exponents count modulo 255
 pub power-mod : (a k : ℕ) → 0 < a → a < 256 → power a (k % 255) ≡ power a k
 power-mod a k p h =

@@ -3,7 +3,7 @@ use mathlib.Core.Path.{_≡_, refl, sym, ap, ap₂, _∙_}
 use Prim.Native.Nat.{ℕ, zero, suc, _+_, _*_, _/_, _%_, _<_}
 use native.Mathlib.Omega.{arith}
 use lib.Arith.{bin-ind}
-use lib.Bits.{bitXor, xor-step, xor-shr, xor-mod, xor-comm, xor-self, xor-zero-r, differ}
+use lib.Bits.{bitXor, xor-step, xor-shr, xor-mod, xor-comm, differ}
 
 -- a binary digit
 pub data Digit : ℕ → Type 0 where
@@ -46,8 +46,3 @@ xor-swap a b c d =
     xor-assoc a b (bitXor c d)
     ∙ ap (bitXor a) (sym (xor-assoc b c d) ∙ ap (λ (x : ℕ). bitXor x d) (xor-comm b c) ∙ xor-assoc c b d)
     ∙ sym (xor-assoc a c (bitXor b d))
-
--- a + b = 0 only where a = b
-pub xor-eq : (a b : ℕ) → bitXor a b ≡ 0 → a ≡ b
-xor-eq a b e =
-    sym (xor-zero-r a) ∙ ap (bitXor a) (sym (xor-self b)) ∙ sym (xor-assoc a b b) ∙ ap (λ (x : ℕ). bitXor x b) e

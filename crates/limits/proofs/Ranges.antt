@@ -20,9 +20,6 @@ module _ (n : ℕ) where
   pub parties-some : 1 ≤ n → n ≤ maxParties → parties n ≡ true
   parties-some low high = parties-low low ∙ le-leb n maxParties high
 
-  pub parties-many : 1 ≤ n → maxParties < n → parties n ≡ false
-  parties-many low h = parties-low low ∙ lt-leb n maxParties h
-
   pub parties-range : parties n ≡ true → (1 ≤ n) × (n ≤ maxParties)
   unfolding parties
   parties-range e = let h = both (leb 1 n) (leb n maxParties) e in (leb-true 1 n (h .0), leb-true n maxParties (h .1))
@@ -41,9 +38,6 @@ module _ (n : ℕ) where
 
     pub numbered-within : 1 ≤ j → j ≤ n → numbered n j ≡ true
     numbered-within low high = numbered-low low ∙ le-leb j n high
-
-    pub numbered-past : 1 ≤ j → n < j → numbered n j ≡ false
-    numbered-past low h = numbered-low low ∙ lt-leb j n h
 
     pub numbered-range : numbered n j ≡ true → (1 ≤ j) × (j ≤ n)
     unfolding numbered

@@ -16,7 +16,7 @@ use Rattle.limits.proofs.Ranges.{parties-some, parties-range, numbered-within}
 use Rattle.limits.proofs.Booleans.{both}
 use Rattle.merkle.specs.Tree.{folded}
 use Rattle.merkle.specs.Shares.{leafString, leafStrings, blank, sharesCause, leavesOf, sidesOf, same, passes, answerOf, checkOf}
-use Rattle.merkle.specs.declared.Checked.the-variants.{Refused, No, Yes}
+use Rattle.merkle.specs.declared.Checked.the-variants.{Refused}
 
 -- n equal shares of len bytes together, within the limits
 pub record Even (n len : ℕ) : Type 0 where
@@ -165,26 +165,3 @@ passes-true H n j share path count root e =
     let top : List ℕ = folded H (sidesOf n j) (take count path) (H (leafString j share)) in
     let h = both (eqb count (length (sidesOf n j))) (same top root) e in
     (eqb-true count (length (sidesOf n j)) (h .0), same-true top root (h .1))
-
--- a path check says yes only of a path that passes
-refused-yes : (k : ℕ) → Refused k ≡ Yes → ⊥
-refused-yes k q = let z : _≡_ {A = ℕ} 0 1 = cc in omega arith
-
-no-yes : No ≡ Yes → ⊥
-no-yes q = let z : _≡_ {A = ℕ} 0 1 = cc in omega arith
-
-yes-only : (a b c d p : Bool)
-    → cond a (Refused 1) (cond b (Refused 3) (cond c (Refused 4) (cond d (Refused 7) (answerOf p)))) ≡ Yes → p ≡ true
-yes-only true b c d p e = absurd (refused-yes 1 e)
-yes-only false true c d p e = absurd (refused-yes 3 e)
-yes-only false false true d p e = absurd (refused-yes 4 e)
-yes-only false false false true p e = absurd (refused-yes 7 e)
-yes-only false false false false true e = refl
-yes-only false false false false false e = absurd (no-yes e)
-
-pub check-yes : (H : List ℕ → List ℕ) (n j : ℕ) (share : List ℕ) (path : List (List ℕ)) (count : ℕ) (root : List ℕ)
-    → checkOf H n j share path count root ≡ Yes → passes H n j share path count root ≡ true
-unfolding checkOf
-check-yes H n j share path count root e =
-    yes-only (not (parties n)) (not (numbered n j)) (ltb maxHashed (2 + length share)) (not (eqb (length root) 32))
-    (passes H n j share path count root) e

@@ -1,7 +1,7 @@
 -- The outcomes of the opening and of steps 2 to 5, for any hash: a refusal with the lowest cause, or what the step gives where none
 -- applies, by whether the party is happy. What is sent goes by the answer of the writer, and what ends by the room for the message. By
 -- the tests of the definitions. Assumes nothing.
-use mathlib.Core.Path.{_≡_, refl, sym, ap, subst, _∙_}
+use mathlib.Core.Path.{_≡_, refl, ap, subst, _∙_}
 use mathlib.Core.Bool.{Bool, true, false, cond}
 use mathlib.Core.List.{List, []}
 use Prim.Native.Nat.{ℕ, _-_, _<_, _≤_}

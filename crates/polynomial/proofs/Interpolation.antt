@@ -154,11 +154,6 @@ module _ {A : Type 0} (F : Operations A) (L : Laws F) where
       (λ i l ne. ap (λ (t : A). F .mul t (y i)) (basis-other n x i j l h ne) ∙ nought-mul F L (y i))
       ∙ ap (λ (t : A). F .mul t (y j)) (basis-own n x j d h) ∙ L .mul-comm (F .one) (y j) ∙ L .mul-one (y j)
 
-  -- the values at n distinct points give the n coefficients back
-  pub recovers : (n : ℕ) (x p : ℕ → A) → Distinct n x → (k : ℕ) → k < n → through F n x (λ j. value F n p (x j)) k ≡ p k
-  recovers n x p d =
-      unique F L n x (through F n x (λ j. value F n p (x j))) p d (through-value n x (λ j. value F n p (x j)) d)
-
 -- ---- equal points and values give equal polynomials
 
 module _ {A : Type 0} (F : Operations A) where

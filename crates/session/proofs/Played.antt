@@ -29,7 +29,7 @@ use Rattle.merkle.proofs.Trees.{length-root}
 use Rattle.packet.specs.Inbox.{inboxOf}
 use Rattle.packet.proofs.Inbox.{inbox-fills, inbox-bodies}
 use Rattle.party.specs.State.{seatOf, Result, nothing, resultBytes, atRoot, atBit, atFirst, atSecond, atEnd, resultIn, messageRoot, happy}
-use Rattle.party.specs.Steps.{turnOf, openCause, withRoot, Stepped, gives, valueOf, outboxOf, heldOf, relayOf}
+use Rattle.party.specs.Steps.{turnOf, openCause, withRoot, Stepped, gives, outboxOf, heldOf, relayOf}
 use Rattle.party.specs.Steps as steps
 use Rattle.party.specs.declared.Party.{Party}
 use Rattle.party.specs.declared.Opened.{Opened}
@@ -465,9 +465,6 @@ module _ (H : List ℕ → List ℕ) (wide : (x : List ℕ) → length (H x) ≡
 
   chief : (isGood s (lowestGood s) ≡ true) × (1 ≤ lowestGood s) × (lowestGood s < 1 + n)
   chief = lowest-named n 1 (goodIn s) (omega (arith, few-bad, group-of n t (plan .group) .faults))
-
-  chief-in : List·Memᴰ (goodParty H s (lowestGood s)) good
-  chief-in = member (lowestGood s) (chief .1) (omega (arith, chief .2)) (chief .0)
 
   -- the rule
   all-roots : (w : List ℕ) (k p : ℕ) → ((q : ℕ) → p ≤ q → q < p + k → isGood s q ≡ true → opened H s q .root ≡ w) → sameRoots H s k p w ≡ true

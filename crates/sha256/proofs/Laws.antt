@@ -4,7 +4,7 @@ use mathlib.Core.List.{List, [], _∷_}
 use Prim.Native.Nat.{ℕ, zero, suc, _+_, _*_, _/_, _%_, _≤_, _<_}
 use native.Mathlib.Omega.{arith}
 use borrow.Author.Tests.{lt-ltb, le-ltb}
-use lib.ListN.{length, getD, replicate, length-append}
+use lib.ListN.{length, replicate, length-append}
 use Rattle.limits.specs.Limits.{maxHashed}
 use Rattle.sha256.specs.Sha256.{zeroBits, bigEndian, padding, pad, initial, sums, compress, hashValue, digestOf, sha256, hashOf}
 use Rattle.sha256.proofs.Blocks.{length-padding}
@@ -25,20 +25,6 @@ unfolding sha256
 sha256-length m =
     let n = length (pad m) / 64 in
     length-digest (hashValue initial n (pad m)) ∙ ap (λ (k : ℕ). 4 * k) (length-hash-value n (pad m))
-
-digest-bytes : (H : List ℕ) (i : ℕ) → getD (digestOf H) i 0 < 256
-unfolding digestOf bigEndian
-digest-bytes [] i = omega arith
-digest-bytes (x ∷ H) zero = omega arith
-digest-bytes (x ∷ H) (suc zero) = omega arith
-digest-bytes (x ∷ H) (suc (suc zero)) = omega arith
-digest-bytes (x ∷ H) (suc (suc (suc zero))) = omega arith
-digest-bytes (x ∷ H) (suc (suc (suc (suc i)))) = digest-bytes H i
-
--- each of them below 256; past the end 0 is read
-pub sha256-bytes : (m : List ℕ) (i : ℕ) → getD (sha256 m) i 0 < 256
-unfolding sha256
-sha256-bytes m i = digest-bytes (hashValue initial (length (pad m) / 64) (pad m)) i
 
 -- 5.1.1: the number of zero bits is the least that solves l + 1 + k ≡ 448 modulo 512
 pub zero-bits : (l : ℕ) → ((l + 1 + zeroBits l) % 512 ≡ 448) × (zeroBits l < 512)

@@ -1,13 +1,13 @@
 -- `commitment::put_outbox` meets its contract: the length is counted first, and the entries are written where they fit. Assumes nothing.
 use mathlib.Core.Path.{_≡_, sym, ap, ap₂, _∙_}
 use mathlib.Core.List.{List}
-use Prim.Native.Nat.{ℕ, _≤_}
+use Prim.Native.Nat.{ℕ}
 use native.Mathlib.Omega.{arith}
 use borrow.Author.Needs.{needs}
 use lib.ListN.{length}
 use Rattle.sha256.specs.Sha256.{sha256}
 use Rattle.sha256.proofs.Laws.{sha256-length}
-use Rattle.buffer.specs.Given.{Given, gave}
+use Rattle.buffer.specs.Given.{gave}
 use Rattle.buffer.specs.declared.Written.the-variants.{Short, Done}
 use Rattle.buffer.proofs.Given.{written-short, written-done}
 use Rattle.commitment.specs.Private.{outboxUpTo}

@@ -20,7 +20,7 @@ use Rattle.commitment.specs.Commitment.{openCause, leavesFor, messageRoo
 use Rattle.commitment.specs.Rooms.{maxShares}
 use Rattle.commitment.specs.Private.{Coded, relayFor, outboxUpTo}
 use Rattle.commitment.proofs.Opening.{open-bounds, open-coded}
-use Rattle.commitment.proofs.Shared.{length-shares, same-is}
+use Rattle.commitment.proofs.Shared.{same-is}
 use Rattle.commitment.proofs.Messages.{share-some, share-fits}
 use Rattle.commitment.proofs.Sending.{outbox-sent, relay-sent}
 use Rattle.commitment.proofs.Outcomes.{send-refused, send-other, send-own}

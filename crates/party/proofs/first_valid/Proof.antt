@@ -10,7 +10,6 @@ use lib.ListN.{length, drop}
 use Rattle.buffer.specs.Entries.{size, fills, bodies}
 use Rattle.packet.specs.Answer.{nextAt}
 use Rattle.packet.specs.declared.Entry.{Entry}
-use Rattle.packet.specs.declared.Packet.{Packet}
 use Rattle.packet.specs.Answer.{placed}
 use Rattle.packet.specs.Format.{readOf}
 use Rattle.packet.specs.Private.{bodyAt}

@@ -4,12 +4,11 @@ use mathlib.Core.List.{List, _++_}
 use Prim.Native.Nat.{ℕ, _+_, _-_, _≤_}
 use native.Mathlib.Omega.{arith}
 use borrow.Author.Needs.{needs}
-use lib.ListN.{length, take, drop, length-append}
+use lib.ListN.{length, take, drop}
 use lib.Seq.{take-all, length-take-le}
 use Rattle.sha256.specs.Sha256.{sha256}
 use Rattle.limits.specs.Limits.{maxParties, maxShare}
 use Rattle.buffer.specs.Entries.{size, bodies}
-use Rattle.erasure.specs.Rebuild.{lies}
 use Rattle.erasure.proofs.Placed.{in-one-lies, part-first, part-second}
 use Rattle.packet.specs.Format.{readOf}
 use Rattle.packet.specs.Class.{classOf}

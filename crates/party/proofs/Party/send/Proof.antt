@@ -12,7 +12,7 @@ use Rattle.limits.specs.Limits.{maxMessage}
 use Rattle.buffer.specs.Given.{gave, written}
 use Rattle.buffer.specs.declared.Written.the-variants.{Done}
 use Rattle.merkle.specs.Shares.{same}
-use Rattle.commitment.specs.Commitment.{messageRoot, mailWith, Sending, sending, sent, sendOf}
+use Rattle.commitment.specs.Commitment.{messageRoot, mailWith, Sending, sending, sent}
 use Rattle.commitment.proofs.Outcomes.{send-other, send-own}
 use Rattle.party.specs.State.{messageIn, happy}
 use Rattle.party.specs.Steps.{stepped}

@@ -14,7 +14,7 @@ use Rattle.merkle.specs.Shares.{blank}
 use Rattle.packet.specs.Format.{hashes, packetOf}
 use Rattle.packet.specs.Answer.{writeOf}
 use Rattle.packet.proofs.Path.{padded as path-padded, path-there, length-hashes}
-use Rattle.party.specs.State.{messageIn, atSecond, happy}
+use Rattle.party.specs.State.{messageIn, atSecond}
 use Rattle.party.specs.Steps.{inboxCause, Taken, takenBy, shareTaken, packetTaken, Stepped, gives, stepped, refused}
 use Rattle.party.specs.Steps.{writes, takeSharesOf}
 use Rattle.party.specs.Private.{Fit, TakenIs}
