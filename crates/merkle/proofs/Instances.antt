@@ -72,7 +72,7 @@ pub abc-root : (K : List ℕ → List ℕ) → Agree sha256 K (codingStrings sha
 abc-root = root-hashed sha256 sha256-length 3 abc fine
 
 pub second-path : (K : List ℕ → List ℕ) → Agree sha256 K (codingStrings sha256 3 abc)
-    → made ≡ path K (shape 3) 1 (leafStrings 3 abc) ++ replicate 2 blank
+    → made ≡ path K (shape 3) 1 (leafStrings 3 abc) ++ replicate (maxPath - 2) blank
 second-path K f =
     path-hashed sha256 sha256-length 3 abc fine 2 (lit≤ tt) (lit≤ tt) K f
     ∙ ap (λ (count : ℕ). path K (shape 3) 1 (leafStrings 3 abc) ++ replicate (maxPath - count) blank) two

@@ -2,9 +2,9 @@
 -- causes. By computation. Assumes nothing.
 use mathlib.Core.Path.{_≡_, refl}
 use mathlib.Core.List.{List, [], _∷_, _++_}
-use Prim.Native.Nat.{ℕ}
+use Prim.Native.Nat.{ℕ, _+_, _/_, _%_}
 use lib.ListN.{take, drop, replicate}
-use Rattle.limits.specs.Limits.{parties, numbered, groupCause}
+use Rattle.limits.specs.Limits.{maxMessage, parties, numbered, groupCause}
 use Rattle.buffer.specs.Entries.{size, body, rest}
 use Rattle.plan.specs.Layout.{every, walk, skipEntry, partyEntry, skipBlock, packetFrom, fieldBytes, rootIn, bitIn, goodIn, exchangeIn, endOf, laidOut}
 use Rattle.plan.specs.Plan.{planCause, planOf}
@@ -53,15 +53,18 @@ pub bad-receiver : planCause (take 13 worked ++ (0x00 ∷ 0x04 ∷ 0x00 ∷ 0x00
 unfolding parties groupCause size rest skipEntry skipBlock every walk fieldBytes endOf laidOut planCause
 bad-receiver = refl
 
--- one party with a book of 1,025 bytes is cause 4; with a byte left over it is cause 13, with t 1 cause 2
-pub long-book : planCause (0x01 ∷ 0x00 ∷ 0x00 ∷ 0x00 ∷ 0x01 ∷ 0x04 ∷ 0x01 ∷ replicate 1025 0) ≡ 4
+abbrev over : ℕ
+over = maxMessage + 1
+
+-- one party with a book of a byte more than may be is cause 4; with a byte left over it is cause 13, with t 1 cause 2
+pub long-book : planCause (0x01 ∷ 0x00 ∷ 0x00 ∷ 0x00 ∷ 0x01 ∷ over / 256 ∷ over % 256 ∷ replicate over 0) ≡ 4
 unfolding parties groupCause size rest skipEntry skipBlock every numbered body partyEntry walk fieldBytes endOf laidOut planCause
 long-book = refl
 
-pub long-left-over : planCause (0x01 ∷ 0x00 ∷ 0x00 ∷ 0x00 ∷ 0x01 ∷ 0x04 ∷ 0x01 ∷ replicate 1026 0) ≡ 13
+pub long-left-over : planCause (0x01 ∷ 0x00 ∷ 0x00 ∷ 0x00 ∷ 0x01 ∷ over / 256 ∷ over % 256 ∷ replicate (over + 1) 0) ≡ 13
 unfolding parties groupCause size rest skipEntry skipBlock every numbered body partyEntry walk fieldBytes endOf laidOut planCause
 long-left-over = refl
 
-pub long-faults : planCause (0x01 ∷ 0x01 ∷ 0x00 ∷ 0x00 ∷ 0x01 ∷ 0x04 ∷ 0x01 ∷ replicate 1025 0) ≡ 2
+pub long-faults : planCause (0x01 ∷ 0x01 ∷ 0x00 ∷ 0x00 ∷ 0x01 ∷ over / 256 ∷ over % 256 ∷ replicate over 0) ≡ 2
 unfolding parties groupCause planCause
 long-faults = refl
