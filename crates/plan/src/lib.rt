@@ -13,7 +13,7 @@ use limits::MAX_MESSAGE;
 use limits::MAX_PLAN;
 
 // The bytes of a map of parties.
-pub const MAP: usize = 2;
+const MAP: usize = 2;
 
 // n, t and the option map stand first.
 const HEAD: usize = 3;
@@ -101,8 +101,8 @@ pub fn packet(exchange: &[u8], n: usize, good: usize, q: usize, i: usize, out: &
     give(exchange, found, out)
 }
 
-// The offset of option k's field, which stands behind those of the lower options that the map names; behind the fields of all options for a
-// k that is none of them.
+// The offset of option k's field, which stands behind those of the lower options that the map names; past the last option, the offset behind
+// all fields.
 pub fn field_at(options: usize, k: usize) -> usize
     ensures { λ r. ⌜ r ≡ fieldAt options k ⌝ }
 {
@@ -131,7 +131,7 @@ pub fn exchange_at(plan: &[u8], parts: Plan, e: usize) -> usize
     )
 }
 
-// Whether a map names party p.
+// Whether a map names party p, or the option map option p.
 pub fn names(map: usize, p: usize) -> bool
     ensures { λ r. ⌜ r ≡ names map p ⌝ }
 {
