@@ -131,10 +131,10 @@ sent-all-requires c κs =
     (Entry (Votes d) .pre .0, outboxes d, r .relay-on-one .ensures .1)
 
 sub-sent-line : tie.Need-sub-sent-line
-sub-sent-line c = search needs
+sub-sent-line c = let p = Lines (c .before) in omega (arith, p .put-lines .ensures .0)
 
 part-sent-line-start : tie.Need-part-sent-line-start
-part-sent-line-start c = search needs
+part-sent-line-start c = let p = Lines (c .before) in omega (arith, p .put-lines .ensures .0)
 
 part-sent-line-end : tie.Need-part-sent-line-end
 part-sent-line-end c = search needs
@@ -151,7 +151,10 @@ add-result c =
     omega (arith, last c .0, p .put-lines .ensures .0, long p)
 
 same-length : tie.Need-same-length
-same-length c = search needs
+same-length c =
+    let w = c .before .before .before in
+    let p = Lines (w .before .before .before) in
+    search (needs, w .sent-line .kept .1 .0, p .put-lines .kept .1 .1 .1 .1 .1 .0)
 
 returns : tie.Need-returns
 returns c =
