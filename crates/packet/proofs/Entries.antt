@@ -58,3 +58,13 @@ entry-stands n m k at s low high e h =
     let t = whole m k at s e h in
     let inside : nextAt s at ≤ length s = omega (arith, t .inside) in
     record { inside = inside; read = entry-read n s at low high inside; tail = t .tail }
+
+-- what the reader gave of it: the packet, by its place, and where the next entry begins
+pub record Reads (n at : ℕ) (s : List ℕ) (e : Entry) : Type 0 where
+  pub packet-is : e .packet ≡ placed (at + 2) (readOf n (bodyAt at s))
+  pub next-is : e .next ≡ nextAt s at
+
+pub entry-reads : (n m at : ℕ) (s : List ℕ) → Stands n m at s → (e : Entry) → toldEntry e ≡ toldEntry (entryRead n s at) → Reads n at s e
+entry-reads n m at s h e q =
+    let r = entry-one q ∙ h .read in
+    record { packet-is = ap (λ (x : Entry). x .packet) r; next-is = ap (λ (x : Entry). x .next) r }

@@ -1,6 +1,6 @@
 -- `party::first_valid` meets its contract: what the search says of the whole inbox is what it says of the entries still to
 -- come. Assumes nothing.
-use mathlib.Core.Path.{_≡_, refl, sym, ap, subst, _∙_}
+use mathlib.Core.Path.{_≡_, refl, sym, subst, _∙_}
 use mathlib.Core.Bool.{true}
 use mathlib.Core.List.{List}
 use Prim.Native.Nat.{ℕ, _+_, _-_, _≤_}
@@ -8,12 +8,7 @@ use native.Mathlib.Nat.{sub-zero}
 use native.Mathlib.Omega.{arith}
 use lib.ListN.{length, drop}
 use Rattle.buffer.specs.Entries.{size, fills, bodies}
-use Rattle.packet.specs.Answer.{nextAt}
-use Rattle.packet.specs.declared.Entry.{Entry}
-use Rattle.packet.specs.Answer.{placed}
-use Rattle.packet.specs.Format.{readOf}
-use Rattle.packet.specs.Private.{bodyAt}
-use Rattle.packet.proofs.Entries.{entry-one, Stands, entry-stands}
+use Rattle.packet.proofs.Entries.{Stands, entry-stands, Reads, entry-reads}
 use Rattle.packet.proofs.Verdict.{verdict-one, class-unread, class-passed-over, class-taken}
 use Rattle.party.specs.Steps.{Taken, firstValid}
 use Rattle.party.specs.Private.{TakenIs}
@@ -57,16 +52,8 @@ stands c =
     let p = c .before .before .before .pre in
     entry-stands (N c) (N c - (J c + 1)) (N c - J c) (At c) (S c) (p .0) (p .1) (omega arith) (c .before .loop .inv .2)
 
-read : (r : tie.After-read-entry Inv-loop μ-loop) → let d = r .before in
-    r .read-entry .result ≡ record { packet = placed (At d + 2) (readOf (N d) (bodyAt (At d) (S d))); next = nextAt (S d) (At d) }
-read r = entry-one (r .read-entry .ensures) ∙ stands (r .before) .read
-
-next : (r : tie.After-read-entry Inv-loop μ-loop) → let d = r .before in r .read-entry .result .next ≡ nextAt (S d) (At d)
-next r = ap (λ (e : Entry). e .next) (read r)
-
-packet : (r : tie.After-read-entry Inv-loop μ-loop) → let d = r .before in
-    r .read-entry .result .packet ≡ placed (At d + 2) (readOf (N d) (bodyAt (At d) (S d)))
-packet r = ap (λ (e : Entry). e .packet) (read r)
+read : (r : tie.After-read-entry Inv-loop μ-loop) → let d = r .before in Reads (N d) (At d) (S d) (r .read-entry .result)
+read r = let d = r .before in entry-reads (N d) (N d - (J d + 1)) (At d) (S d) (stands d) (r .read-entry .result) (r .read-entry .ensures)
 
 room : (d : tie.In-loop Inv-loop μ-loop) → At d + 2 + size (drop (At d) (S d)) ≤ length (S d)
 room d = stands d .inside
@@ -87,10 +74,10 @@ loop-again : tie.Need-loop-again Inv-loop μ-loop
 loop-again c =
     let r = c .before in
     let d = r .before in (
-      omega (arith, next r, room d),
+      omega (arith, read r .next-is, room d),
       omega arith,
-      rw (next r) (stands d .tail),
-      rw (next r) (d .before .loop .inv .3 ∙ first-own sha256 (N d) (Own d) (Z d) (N d - (J d + 1)) (N d - J d) (J d + 1) (At d) (S d)
+      rw (read r .next-is) (stands d .tail),
+      rw (read r .next-is) (d .before .loop .inv .3 ∙ first-own sha256 (N d) (Own d) (Z d) (N d - (J d + 1)) (N d - J d) (J d + 1) (At d) (S d)
           (omega arith) (c .if1 .taken)),
     )
 
@@ -105,12 +92,12 @@ loop-again-2 c =
     let e = c .before in
     let r = e .before in
     let d = r .before in (
-      omega (arith, next r, room d),
+      omega (arith, read r .next-is, room d),
       omega arith,
-      rw (next r) (stands d .tail),
-      rw (next r) (d .before .loop .inv .3 ∙ first-later sha256 (N d) (Own d) (Z d) (N d - (J d + 1)) (N d - J d) (J d + 1) (At d) (S d)
+      rw (read r .next-is) (stands d .tail),
+      rw (read r .next-is) (d .before .loop .inv .3 ∙ first-later sha256 (N d) (Own d) (Z d) (N d - (J d + 1)) (N d - J d) (J d + 1) (At d) (S d)
           (omega arith) (e .if1 .left)
-          (class-unread sha256 (N d) (Own d) (Z d) (S d) (At d + 2) (size (drop (At d) (S d))) (room d) _ (packet r) (c .match .keys2))),
+          (class-unread sha256 (N d) (Own d) (Z d) (S d) (At d + 2) (size (drop (At d) (S d))) (room d) _ (read r .packet-is) (c .match .keys2))),
     )
 
 judge-requires : tie.Need-judge-requires Inv-loop μ-loop
@@ -130,13 +117,13 @@ loop-again-3 c =
     let r = e .before in
     let d = r .before in
     let p = d .before .before .before .pre in (
-      omega (arith, next r, room d),
+      omega (arith, read r .next-is, room d),
       omega arith,
-      rw (next r) (stands d .tail),
-      rw (next r) (d .before .loop .inv .3 ∙ first-later sha256 (N d) (Own d) (Z d) (N d - (J d + 1)) (N d - J d) (J d + 1) (At d) (S d)
+      rw (read r .next-is) (stands d .tail),
+      rw (read r .next-is) (d .before .loop .inv .3 ∙ first-later sha256 (N d) (Own d) (Z d) (N d - (J d + 1)) (N d - J d) (J d + 1) (At d) (S d)
           (omega arith) (e .if1 .left)
           (class-passed-over sha256 (N d) (Own d) (Z d) (S d) (At d + 2) (size (drop (At d) (S d))) (room d) _
-          (sym (k .packet .given .1) ∙ packet r) (p .0) (p .1) (p .2) (p .3) (p .5) (j .judge .result) (verdict-one (j .judge .ensures)) (c .match2 .keys2))),
+          (sym (k .packet .given .1) ∙ read r .packet-is) (p .0) (p .1) (p .2) (p .3) (p .5) (j .judge .result) (verdict-one (j .judge .ensures)) (c .match2 .keys2))),
     )
 
 returns : tie.Need-returns Inv-loop μ-loop
@@ -153,7 +140,7 @@ returns c =
     let count = g .1 .1 .1 .0 in
     subst (λ (t : Taken). TakenIs (Found from len count) t (S d)) (sym (d .before .loop .inv .3))
     (first-taken sha256 (N d) (Own d) (Z d) (N d - (J d + 1)) (N d - J d) (J d + 1) (At d) (S d) (omega arith) (e .if1 .left) from len count
-    (class-taken sha256 (N d) (Own d) (Z d) (S d) (At d + 2) (size (drop (At d) (S d))) (room d) _ (sym (k .packet .given .1) ∙ packet r)
+    (class-taken sha256 (N d) (Own d) (Z d) (S d) (At d + 2) (size (drop (At d) (S d))) (room d) _ (sym (k .packet .given .1) ∙ read r .packet-is)
     (p .0) (p .1) (p .2) (p .3) (p .5) (j .judge .result) (verdict-one (j .judge .ensures)) (g .0) from len count refl
     (c .enum-told .given .1)))
 

@@ -10,12 +10,9 @@ use Rattle.sha256.specs.Sha256.{sha256}
 use Rattle.limits.specs.Limits.{maxParties, maxShare}
 use Rattle.buffer.specs.Entries.{size, bodies}
 use Rattle.erasure.proofs.Placed.{in-one-lies, part-first, part-second}
-use Rattle.packet.specs.Format.{readOf}
 use Rattle.packet.specs.Class.{classOf}
-use Rattle.packet.specs.Answer.{placed, nextAt}
 use Rattle.packet.specs.Private.{bodyAt, TakenAt}
-use Rattle.packet.specs.declared.Entry.{Entry}
-use Rattle.packet.proofs.Entries.{entry-one, Stands, entry-stands}
+use Rattle.packet.proofs.Entries.{Stands, entry-stands, Reads, entry-reads}
 use Rattle.packet.proofs.Verdict.{verdict-one, class-unread, class-passed-over, class-taken}
 use Rattle.party.specs.State.{shareHeld}
 use Rattle.party.specs.Private.{Gathered}
@@ -74,16 +71,8 @@ stands c =
     let f = Start c .pre .0 in
     entry-stands (N c) (N c - (J c + 1)) (N c - J c) (At c) (S c) (f .low) (f .high) (omega arith) (c .before .loop .inv .filled)
 
-read : (r : tie.After-read-entry Inv-loop μ-loop) → let d = r .before in
-    r .read-entry .result ≡ record { packet = placed (At d + 2) (readOf (N d) (bodyAt (At d) (S d))); next = nextAt (S d) (At d) }
-read r = entry-one (r .read-entry .ensures) ∙ stands (r .before) .read
-
-next : (r : tie.After-read-entry Inv-loop μ-loop) → let d = r .before in r .read-entry .result .next ≡ nextAt (S d) (At d)
-next r = ap (λ (e : Entry). e .next) (read r)
-
-packet : (r : tie.After-read-entry Inv-loop μ-loop) → let d = r .before in
-    r .read-entry .result .packet ≡ placed (At d + 2) (readOf (N d) (bodyAt (At d) (S d)))
-packet r = ap (λ (e : Entry). e .packet) (read r)
+read : (r : tie.After-read-entry Inv-loop μ-loop) → let d = r .before in Reads (N d) (At d) (S d) (r .read-entry .result)
+read r = let d = r .before in entry-reads (N d) (N d - (J d + 1)) (At d) (S d) (stands d) (r .read-entry .result) (r .read-entry .ensures)
 
 room : (d : tie.In-loop Inv-loop μ-loop) → At d + 2 + size (drop (At d) (S d)) ≤ length (S d)
 room d = stands d .inside
@@ -130,7 +119,7 @@ loop-again c =
     let here : take (X d .held) (drop (length s) (s ++ y)) ≡ y = part-second s y (length s) (X d .held) (omega arith)
     ∙ ap (λ (k : ℕ). take (X d .held) (drop k y)) (let e : length s - length s ≡ 0 = omega arith in e)
     ∙ take-all (X d .held) y (omega (arith, held d)) in
-    rw (next r) (gathering-placed sha256 (N d) (Own d) (Z d) y s (J d) (At d) (o .from) (o .len) y (o .inv) (omega arith) (f .high) (stands d)
+    rw (read r .next-is) (gathering-placed sha256 (N d) (Own d) (Z d) y s (J d) (At d) (o .from) (o .len) y (o .inv) (omega arith) (f .high) (stands d)
     (picked-own sha256 (N d) (Own d) (Z d) y (N d - (J d + 1)) (N d - J d) (J d + 1) (At d) s (omega arith) (c .if1 .taken))
     (length s) (X d .held)
     (in-one-lies (length s) (length y) (length s) (X d .held) (omega (arith, f .few)) (λ h. absurd (omega arith), omega (arith, held d))) here)
@@ -147,10 +136,10 @@ loop-again-2 c =
     let r = e .before in
     let d = r .before in
     let o = d .before .loop in
-    rw (next r) (gathering-missed sha256 (N d) (Own d) (Z d) (Y d) (S d) (J d) (At d) (o .from) (o .len) _ (o .inv) (omega arith)
+    rw (read r .next-is) (gathering-missed sha256 (N d) (Own d) (Z d) (Y d) (S d) (J d) (At d) (o .from) (o .len) _ (o .inv) (omega arith)
     (Start d .pre .0 .high) (stands d)
     (picked-missed sha256 (N d) (Own d) (Z d) (Y d) (N d - (J d + 1)) (N d - J d) (J d + 1) (At d) (S d) (omega arith) (e .if1 .left)
-    (class-unread sha256 (N d) (J d + 1) (Z d) (S d) (At d + 2) (size (drop (At d) (S d))) (room d) _ (packet r) (c .match .keys2))) refl)
+    (class-unread sha256 (N d) (J d + 1) (Z d) (S d) (At d + 2) (size (drop (At d) (S d))) (room d) _ (read r .packet-is) (c .match .keys2))) refl)
 
 slice-aggregate-judge : tie.Need-slice-aggregate-judge Inv-loop μ-loop
 slice-aggregate-judge c = search needs
@@ -179,10 +168,10 @@ loop-again-3 c =
     let d = r .before in
     let o = d .before .loop in
     let f = Start d .pre .0 in
-    rw (next r) (gathering-missed sha256 (N d) (Own d) (Z d) (Y d) (S d) (J d) (At d) (o .from) (o .len) _ (o .inv) (omega arith)
+    rw (read r .next-is) (gathering-missed sha256 (N d) (Own d) (Z d) (Y d) (S d) (J d) (At d) (o .from) (o .len) _ (o .inv) (omega arith)
     (f .high) (stands d)
     (picked-missed sha256 (N d) (Own d) (Z d) (Y d) (N d - (J d + 1)) (N d - J d) (J d + 1) (At d) (S d) (omega arith) (k .before .before .if1 .left)
-    (class-passed-over sha256 (N d) (J d + 1) (Z d) (S d) (At d + 2) (size (drop (At d) (S d))) (room d) _ (sym (k .packet .given .1) ∙ packet r)
+    (class-passed-over sha256 (N d) (J d + 1) (Z d) (S d) (At d + 2) (size (drop (At d) (S d))) (room d) _ (sym (k .packet .given .1) ∙ read r .packet-is)
     (f .low) (f .high) (omega arith) (omega arith) (root-long (Start d)) (j .judge .result) (verdict-one (j .judge .ensures)) (c .match2 .keys2)))
     refl)
 
@@ -216,10 +205,10 @@ loop-again-4 c =
     let count = g .1 .1 .1 .0 in
     let p = classOf sha256 (N d) (J d + 1) (Z d) (bodyAt (At d) s) in
     let t : TakenAt s from len count p = class-taken sha256 (N d) (J d + 1) (Z d) s (At d + 2) (size (drop (At d) s)) (room d) _
-    (sym (k .packet .given .1) ∙ packet r) (f .low) (f .high) (omega arith) (omega arith) (root-long (Start d)) (j .judge .result)
+    (sym (k .packet .given .1) ∙ read r .packet-is) (f .low) (f .high) (omega arith) (omega arith) (root-long (Start d)) (j .judge .result)
     (verdict-one (j .judge .ensures)) (g .0) from len count refl (c .enum-told .given .1) in
     let b = taken-bounds p s from len count t in
-    rw (next r) (gathering-placed sha256 (N d) (Own d) (Z d) (Y d) s (J d) (At d) (o .from) (o .len) _ (o .inv) (omega arith) (f .high) (stands d)
+    rw (read r .next-is) (gathering-placed sha256 (N d) (Own d) (Z d) (Y d) s (J d) (At d) (o .from) (o .len) _ (o .inv) (omega arith) (f .high) (stands d)
     (picked-held sha256 (N d) (Own d) (Z d) (Y d) (N d - (J d + 1)) (N d - J d) (J d + 1) (At d) s (omega arith) (k .before .before .if1 .left)
     from len count t)
     from len
