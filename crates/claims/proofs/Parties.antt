@@ -1,0 +1,225 @@
+-- All good boxes end with one result, parties with their lists of calls: from agreement at SHA-256, whose premises and conclusions are told there by
+-- events. What is seen of an event is what the claim says of it. Assumes nothing.
+use mathlib.Core.Path.{_≡_, refl, sym, ap, _∙_, subst}
+use mathlib.Core.Logic.{_⊎_, inl, inr, _≢_}
+use mathlib.Core.Bool.{Bool, true, false, cond}
+use mathlib.Core.List.{List, [], _∷_, map, List·Memᴰ}
+use mathlib.Core.Option.{Option, none, some}
+use Prim.Native.Nat.{ℕ, _+_, _-_, _*_, _≤_}
+use native.Mathlib.Omega.{arith}
+use lib.Dec.{eqb}
+use lib.ListN.{length, take, length-map}
+use Rattle.sha256.specs.Sha256.{sha256}
+use Rattle.erasure.specs.Coding.{shareLength}
+use Rattle.merkle.specs.Height.{height}
+use Rattle.party.specs.State.{Result, nothing, settled}
+use Rattle.party.specs.Steps.{Stepped}
+use Rattle.agreement.specs.Calls.{Call, agreeRoot, agreeBit, takeShares, takeRelays, stepOf, Event, entry, inboxIn, writtenBy, heard, wrote, packetTo}
+use Rattle.agreement.specs.Calls.{bitGiven, resultShown, sentIn, sentOver, did, sentBy}
+use Rattle.agreement.specs.Calls as calls
+use Rattle.agreement.specs.Agreement.{Good, absent, different, sumOver, joinOver, step, Premises, sent as allSent, Conclusions}
+use Rattle.agreement.proofs.Lists.{same-some}
+use Rattle.agreement.proofs.Agreement.{agreement-sha256}
+use Rattle.claims.specs.Terms.{Done, rooted, sent, relayed, ended, stepIn, first, bytesIn, Box, doneBy, partyBox}
+use Rattle.claims.specs.Claims.{Sitting, OneResult, bytesSent, AllGoodBoxesEndWithOneResult}
+use Rattle.claims.proofs.Lists.{in-map, all-map, map-map, sum-map, join-map}
+
+-- what is seen of an event
+abbrev pub view : Event → Done
+view e = doneBy (e .call) (e .reply)
+
+abbrev seen : Option Event → Option Done
+seen none = none
+seen (some e) = some (view e)
+
+view-step : (c : Call) (r : Stepped) → stepIn (doneBy c r) ≡ stepOf c
+view-step (agreeRoot z) r = refl
+view-step (agreeBit bit out) r = refl
+view-step (takeShares inbox out) r = refl
+view-step (takeRelays inbox out) r = refl
+
+view-first : (k : ℕ) (es : List Event) → first k (map view es) ≡ seen (calls.first k es)
+unfolding first calls.first
+view-first k [] = refl
+view-first k (e ∷ es) = rw (view-step (e .call) (e .reply)) (go (eqb (stepOf (e .call)) k) (view-first k es))
+  where
+    go : (b : Bool) → first k (map view es) ≡ seen (calls.first k es)
+        → cond b (some (view e)) (first k (map view es)) ≡ seen (cond b (some e) (calls.first k es))
+    go true r = refl
+    go false r = r
+
+unseen : (o : Option Event) (d : Done) → seen o ≡ some d → (e : Event) × (o ≡ some e) × (view e ≡ d)
+unseen none d q = absurd (let z : _≡_ {A = ℕ} 0 1 = cc in omega arith)
+unseen (some e) d q = (e, refl, same-some q)
+
+-- and what an event was, of which that is seen
+was-rooted : (c : Call) (r : Stepped) (z : List ℕ) (b : ℕ) → doneBy c r ≡ rooted z b → (c ≡ agreeRoot z) × (r .value ≡ b)
+was-rooted (agreeRoot y) r z b q = (cc, cc)
+was-rooted (agreeBit bit out) r z b q = absurd (let k : _≡_ {A = ℕ} 0 1 = cc in omega arith)
+was-rooted (takeShares inbox out) r z b q = absurd (let k : _≡_ {A = ℕ} 0 1 = cc in omega arith)
+was-rooted (takeRelays inbox out) r z b q = absurd (let k : _≡_ {A = ℕ} 0 1 = cc in omega arith)
+
+was-sent : (c : Call) (r : Stepped) (bit : ℕ) (w : List ℕ) → doneBy c r ≡ sent bit w
+    → (out : List ℕ) × (c ≡ agreeBit bit out) × (take (r .value) (r .buffer) ≡ w)
+was-sent (agreeRoot y) r bit w q = absurd (let k : _≡_ {A = ℕ} 0 1 = cc in omega arith)
+was-sent (agreeBit b out) r bit w q = (out, cc, cc)
+was-sent (takeShares inbox out) r bit w q = absurd (let k : _≡_ {A = ℕ} 0 1 = cc in omega arith)
+was-sent (takeRelays inbox out) r bit w q = absurd (let k : _≡_ {A = ℕ} 0 1 = cc in omega arith)
+
+was-relayed : (c : Call) (r : Stepped) (inbox w : List ℕ) → doneBy c r ≡ relayed inbox w
+    → (inboxIn c ≡ inbox) × (take (r .value) (r .buffer) ≡ w)
+was-relayed (agreeRoot y) r inbox w q = absurd (let k : _≡_ {A = ℕ} 0 1 = cc in omega arith)
+was-relayed (agreeBit b out) r inbox w q = absurd (let k : _≡_ {A = ℕ} 0 1 = cc in omega arith)
+was-relayed (takeShares i out) r inbox w q = (cc, cc)
+was-relayed (takeRelays i out) r inbox w q = absurd (let k : _≡_ {A = ℕ} 0 1 = cc in omega arith)
+
+was-ended : (c : Call) (r : Stepped) (inbox : List ℕ) (R : Option Result) → doneBy c r ≡ ended inbox R
+    → (inboxIn c ≡ inbox) × (r .result ≡ R)
+was-ended (agreeRoot y) r inbox R q = absurd (let k : _≡_ {A = ℕ} 0 1 = cc in omega arith)
+was-ended (agreeBit b out) r inbox R q = absurd (let k : _≡_ {A = ℕ} 0 1 = cc in omega arith)
+was-ended (takeShares i out) r inbox R q = absurd (let k : _≡_ {A = ℕ} 0 1 = cc in omega arith)
+was-ended (takeRelays i out) r inbox R q = (cc, cc)
+
+-- the bytes sent
+view-bytes : (n : ℕ) (c : Call) (r : Stepped) → bytesIn n (doneBy c r) ≡ sentIn n c (take (r .value) (r .buffer))
+view-bytes n (agreeRoot z) r = refl
+view-bytes n (agreeBit bit out) r = refl
+view-bytes n (takeShares inbox out) r = refl
+view-bytes n (takeRelays inbox out) r = refl
+
+view-sent : (n : ℕ) (es : List Event) → sumOver (bytesIn n) (map view es) ≡ sentOver n es
+unfolding sumOver sentOver
+view-sent n [] = refl
+view-sent n (e ∷ es) = rw (view-bytes n (e .call) (e .reply), view-sent n es)
+
+module _ (n t : ℕ) (good : List Good) (z : List ℕ) (bit : ℕ) where
+  abbrev box : Good → Box
+  box = partyBox n t
+
+  abbrev In : Good → Type 0
+  In A = List·Memᴰ A good
+
+  -- a party's first event of step k
+  event : (k : ℕ) (A : Good) (d : Done) → first k (box A .done) ≡ some d
+      → (e : Event) × (step sha256 n t good k A ≡ some e) × (view e ≡ d)
+  event k A d q = unseen (step sha256 n t good k A) d (sym (view-first k (did sha256 n t (A .own) (A .message) (A .calls))) ∙ q)
+
+  module _ (P : Sitting n t (map box good) z bit) where
+    premises : Premises sha256 n t good z bit
+    premises =
+        record {
+          opened = record {
+            bytes = λ A h. P .opened (box A) (in-map box h) .1;
+            accepted = λ A h. P .opened (box A) (in-map box h) .0;
+            apart = rw (sym (map-map box (λ (B : Box). B .own) good)) (P .numbers);
+            bad = rw (sym (map-map box (λ (B : Box). B .own) good)) (P .bad);
+          };
+          called = record {
+            step2 = second;
+            step3 = third;
+            step4 = λ b1 A h. fourth b1 A h;
+            step5 = λ b1 A h. fifth b1 A h;
+          };
+          ruled = record {
+            root = λ v f. P .root-rule v (all-map box (λ (B : Box). B .root ≡ v) good (λ A h. same-some (f A h)));
+            vote = λ v f. P .bit-rule v (all-map box (λ (B : Box). first 2 (B .done) ≡ some (rooted z v)) good (voted v f));
+          };
+          delivered = λ b1. record { firstInbox = came b1; secondInbox = relay-came b1 };
+          clean = λ x y h k. P .clean x y (rw (join-map box (λ (B : Box). B .hashed) good) h) (rw (join-map box (λ (B : Box). B .hashed) good) k);
+        }
+      where
+        second : (A : Good) → In A → (e : Event) × (step sha256 n t good 2 A ≡ some e) × (e .call ≡ agreeRoot z)
+        second A h =
+            let s = P .step2 (box A) (in-map box h) in
+            let e = event 2 A (rooted z (s .0)) (s .1) in
+            (e .0, e .1, was-rooted (e .0 .call) (e .0 .reply) z (s .0) (e .2) .0)
+
+        third : (A : Good) → In A → (e : Event) × (out : List ℕ) × (step sha256 n t good 3 A ≡ some e) × (e .call ≡ agreeBit bit out)
+        third A h =
+            let s = P .step3 (box A) (in-map box h) in
+            let e = event 3 A (sent bit (s .0)) (s .1) in
+            let w = was-sent (e .0 .call) (e .0 .reply) bit (s .0) (e .2) in
+            (e .0, w .0, e .1, w .1)
+
+        fourth : bit ≡ 1 → (A : Good) → In A → (e : Event) × (step sha256 n t good 4 A ≡ some e)
+        fourth b1 A h =
+            let s = P .step4 b1 (box A) (in-map box h) in
+            let e = event 4 A (relayed (s .0) (s .1)) (s .2) in
+            (e .0, e .1)
+
+        fifth : bit ≡ 1 → (A : Good) → In A → (e : Event) × (step sha256 n t good 5 A ≡ some e)
+        fifth b1 A h =
+            let s = P .step5 b1 (box A) (in-map box h) in
+            let e = event 5 A (ended (s .0) (s .1)) (s .2) in
+            (e .0, e .1)
+
+        voted : (v : ℕ) → ((A : Good) → In A → bitGiven (step sha256 n t good 2 A) ≡ some v) → (A : Good) → In A
+            → first 2 (box A .done) ≡ some (rooted z v)
+        voted v f A h =
+            let s = P .step2 (box A) (in-map box h) in
+            let e = event 2 A (rooted z (s .0)) (s .1) in
+            let b : e .0 .reply .value ≡ s .0 = was-rooted (e .0 .call) (e .0 .reply) z (s .0) (e .2) .1 in
+            let q : e .0 .reply .value ≡ v = same-some (sym (ap bitGiven (e .1)) ∙ f A h) in
+            s .1 ∙ ap (λ (k : ℕ). some (rooted z k)) (sym b ∙ q)
+
+        came : bit ≡ 1 → (A : Good) → In A → (B : Good) → In B → A .own ≢ B .own
+            → heard n (B .own) (step sha256 n t good 4 A) ≡ packetTo n (A .own) (step sha256 n t good 3 B)
+        came b1 A hA B hB d =
+            let s = P .step4 b1 (box A) (in-map box hA) in
+            let e = event 4 A (relayed (s .0) (s .1)) (s .2) in
+            let i = was-relayed (e .0 .call) (e .0 .reply) (s .0) (s .1) (e .2) .0 in
+            let o = P .step3 (box B) (in-map box hB) in
+            let f = event 3 B (sent bit (o .0)) (o .1) in
+            let w = was-sent (f .0 .call) (f .0 .reply) bit (o .0) (f .2) .2 in
+            ap (heard n (B .own)) (e .1) ∙ ap (entry n (B .own)) i
+            ∙ P .first-inbox b1 (box A) (in-map box hA) (box B) (in-map box hB) d (s .0) (s .1) (o .0) (s .2) (o .1)
+            ∙ sym (ap (packetTo n (A .own)) (f .1) ∙ ap (entry n (A .own)) w)
+
+        relay-came : bit ≡ 1 → (A : Good) → In A → (B : Good) → In B → A .own ≢ B .own
+            → heard n (B .own) (step sha256 n t good 5 A) ≡ wrote (step sha256 n t good 4 B)
+        relay-came b1 A hA B hB d =
+            let s = P .step5 b1 (box A) (in-map box hA) in
+            let e = event 5 A (ended (s .0) (s .1)) (s .2) in
+            let i = was-ended (e .0 .call) (e .0 .reply) (s .0) (s .1) (e .2) .0 in
+            let o = P .step4 b1 (box B) (in-map box hB) in
+            let f = event 4 B (relayed (o .0) (o .1)) (o .2) in
+            let w = was-relayed (f .0 .call) (f .0 .reply) (o .0) (o .1) (f .2) .1 in
+            ap (heard n (B .own)) (e .1) ∙ ap (entry n (B .own)) i
+            ∙ P .second-inbox b1 (box A) (in-map box hA) (box B) (in-map box hB) d (s .0) (o .0) (o .1) (s .1) (s .2) (o .2)
+            ∙ sym (ap wrote (f .1) ∙ w)
+
+    bytes : bytesSent n t (map box good) z bit ≡ allSent sha256 n t good
+    unfolding sentBy
+    bytes =
+        sum-map box (λ (B : Box). sumOver (bytesIn n) (B .done)) (λ (A : Good). sentBy sha256 n t (A .own) (A .message) (A .calls))
+        (λ A. view-sent n (did sha256 n t (A .own) (A .message) (A .calls))) good
+
+    shown : (R : Result) → bit ≡ 1 → (A : Good) → In A → resultShown (step sha256 n t good 5 A) ≡ some R
+        → (inbox : List ℕ) × (first 5 (box A .done) ≡ some (ended inbox (some R)))
+    shown R b1 A h q =
+        let s = P .step5 b1 (box A) (in-map box h) in
+        let e = event 5 A (ended (s .0) (s .1)) (s .2) in
+        let r = was-ended (e .0 .call) (e .0 .reply) (s .0) (s .1) (e .2) .1 in
+        (s .0, s .2 ∙ ap (λ (k : Option Result). some (ended (s .0) k)) (sym r ∙ sym (ap resultShown (e .1)) ∙ q))
+
+    conclusions : (R : Result) → Conclusions sha256 n t good bit R → OneResult n t (map box good) z bit R
+    conclusions R C =
+        record {
+          held = all-map box (λ (B : Box). B .result ≡ some R) good (C .holds);
+          given = λ b1. all-map box (λ (B : Box). (inbox : List ℕ) × (first 5 (B .done) ≡ some (ended inbox (some R)))) good
+              (λ A h. shown R b1 A h (C .gives b1 A h));
+          somebodys = whose (C .somebodys);
+          common = λ m f. C .common m (λ A h. f (box A) (in-map box h));
+          bound = λ m e. rw (bytes, length-map good box) (C .bound m e);
+          free = λ e. bytes ∙ C .free e;
+        }
+      where
+        whose : (R ≡ nothing) ⊎ ((A : Good) × List·Memᴰ A good × (R ≡ settled (A .message)))
+            → (R ≡ nothing) ⊎ ((B : Box) × List·Memᴰ B (map box good) × (R ≡ settled (B .book)))
+        whose (inl e) = inl e
+        whose (inr a) = inr (box (a .0), in-map box (a .1), a .2)
+
+pub all-good-boxes-end-with-one-result : AllGoodBoxesEndWithOneResult
+all-good-boxes-end-with-one-result n t good z bit P =
+    let r = agreement-sha256 n t good z bit (premises n t good z bit P) in
+    (r .0, conclusions n t good z bit P (r .0) (r .1))
