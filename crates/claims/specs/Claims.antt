@@ -13,7 +13,7 @@ use Rattle.limits.specs.Limits.{maxParties, maxMessage, parties, numbered, grou
 use Rattle.buffer.specs.Bounds.{Bytes}
 use Rattle.buffer.specs.Splice.{spliced}
 use Rattle.buffer.specs.Entries.{fills, bodies}
-use Rattle.buffer.specs.Given.{written}
+use Rattle.buffer.specs.Given.{gave, written}
 use Rattle.buffer.specs.declared.Written.the-variants as given
 use Rattle.erasure.specs.Coding.{shareLength, share, shares}
 use Rattle.erasure.specs.Rebuild.{present, point, rebuildOf}
@@ -72,7 +72,7 @@ pub record BooksComeBackFromTheirShares : Type 0 where
   pub complete : (n t : ℕ) (m entries out : List ℕ) → Book n t m → fills n entries ≡ true → Used n t entries m
       → rebuildOf n t entries out ≡ written m out
   pub sound : (n t l : ℕ) (entries out : List ℕ) → Bytes entries → rebuildOf n t entries out .answer ≡ given.Done l
-      → (m : List ℕ) × Book n t m × Used n t entries m × (rebuildOf n t entries out ≡ written m out)
+      → (m : List ℕ) × Book n t m × Used n t entries m × (rebuildOf n t entries out ≡ gave (given.Done (length m)) (spliced out 0 m))
 
 pub record RootsAndPathsAreRFC6962s : Type 0 where
   -- section 2.1: the tree over one leaf, and over n from the trees over the first k and over the others, k the largest power of two below n

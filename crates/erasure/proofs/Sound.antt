@@ -99,7 +99,7 @@ module _ (b : ℕ) (m : List ℕ) (es : List (List ℕ)) (low : 1 ≤ b) (few : 
   unfolding us s recovered joined
   passed = both-pass _ _ _ m e
 
-  enough : b ≤ length (present 1 es)
+  pub enough : b ≤ length (present 1 es)
   enough = ltb-false (length (present 1 es)) b (passed .0)
 
   used-count : length us ≡ b
@@ -147,6 +147,8 @@ module _ (b : ℕ) (m : List ℕ) (es : List (List ℕ)) (low : 1 ≤ b) (few : 
 
 pub record Rebuilt (n t : ℕ) (entries out : List ℕ) : Type 0 where
   pub text : List ℕ
+  pub group : groupCause n t ≡ 0
+  pub there : n - t ≤ length (present 1 (bodies n entries))
   pub within : length text ≤ maxMessage
   pub small : Bytes text
   pub own : (i : ℕ) → i < n - t
@@ -187,6 +189,8 @@ rebuild-sound n t l entries out h e =
     let f = sound (n - t) (g .0) es low few bs (g .1) in
     record {
       text = g .0;
+      group = c;
+      there = enough (n - t) (g .0) es low few bs (g .1);
       within = f .0;
       small = sound-bytes (n - t) (g .0) es low few bs (g .1);
       own = f .1;

@@ -142,23 +142,23 @@ module _ (H : List ℕ → List ℕ) (wide : (s : List ℕ) → length (H s) ≡
         (omega (arith, row-inside n (j - 1) s (omega arith), even-whole n (length shares) even, length-drop ((j - 1) * s) shares))
 
     -- the path made, without its blanks
-    made : take (length (sidesOf n j)) (pathOf H n j (leavesOf H n shares)) ≡ path H (shape n) (j - 1) (leafStrings n shares)
-    made =
+    pub path-made : take (length (sidesOf n j)) (pathOf H n j (leavesOf H n shares)) ≡ path H (shape n) (j - 1) (leafStrings n shares)
+    path-made =
         ap (take (length (sidesOf n j))) (tree-path H n shares fine (even .low) (even .high) j one last)
         ∙ take-at (path H (shape n) (j - 1) (leafStrings n shares)) (replicate (maxPath - length (sidesOf n j)) blank)
         (length (sidesOf n j)) (sym (length-path H (shape n) (j - 1) (leafStrings n shares)))
 
     -- it has a hash for each side, of 32 bytes
     pub path-counted : length (take (length (sidesOf n j)) (pathOf H n j (leavesOf H n shares))) ≡ length (sidesOf n j)
-    path-counted = ap length made ∙ sym (length-path H (shape n) (j - 1) (leafStrings n shares))
+    path-counted = ap length path-made ∙ sym (length-path H (shape n) (j - 1) (leafStrings n shares))
 
     pub path-hashes-wide : Wide 32 (take (length (sidesOf n j)) (pathOf H n j (leavesOf H n shares)))
-    path-hashes-wide = subst (Wide 32) (sym made) (wide-path H 32 wide (shape n) (j - 1) (leafStrings n shares))
+    path-hashes-wide = subst (Wide 32) (sym path-made) (wide-path H 32 wide (shape n) (j - 1) (leafStrings n shares))
 
     pub path-wide : (i : ℕ) → i < length (sidesOf n j) → length (getD (pathOf H n j (leavesOf H n shares)) i []) ≡ 32
     path-wide i h =
         ap length (sym (getD-take (length (sidesOf n j)) (pathOf H n j (leavesOf H n shares)) i [] h)
-        ∙ ap (λ (p : List (List ℕ)). getD p i []) made)
+        ∙ ap (λ (p : List (List ℕ)). getD p i []) path-made)
         ∙ wide-path H 32 wide (shape n) (j - 1) (leafStrings n shares) i
         (omega (arith, length-path H (shape n) (j - 1) (leafStrings n shares)))
 
@@ -170,7 +170,7 @@ module _ (H : List ℕ → List ℕ) (wide : (s : List ℕ) → length (H s) ≡
         let top : List ℕ = rootOf H n (leavesOf H n shares) in
         let leads : folded H (sidesOf n j) (take (length (sidesOf n j)) (pathOf H n j (leavesOf H n shares)))
         (H (leafString j share)) ≡ top =
-        ap₂ (λ (p : List (List ℕ)) (x : List ℕ). folded H (sidesOf n j) p (H x)) made (sym own-leaf)
+        ap₂ (λ (p : List (List ℕ)) (x : List ℕ). folded H (sidesOf n j) p (H x)) path-made (sym own-leaf)
         ∙ complete H (shape n) (j - 1) (leafStrings n shares) inside-tree
         ∙ sym (tree-root H n shares fine (even .low) (even .high)) in
         passes-same H n j share (pathOf H n j (leavesOf H n shares)) (length (sidesOf n j)) top refl
