@@ -32,6 +32,11 @@ const MINOR: u32 = 0;
 
 const PATCH: u32 = 0;
 
+// The values of step 5: whether it ends with nothing or with a message.
+const NOTHING: usize = 0;
+
+const MESSAGE: usize = 1;
+
 // The version of the library that is linked, as one number.
 #[no_mangle]
 pub extern "C" fn cipangohu_version() -> u32
@@ -283,8 +288,8 @@ fn value_of(answer: Answer) -> usize
             0
         }
         Answer::Sent(len) => len,
-        Answer::Nothing => 0,
-        Answer::Message(_) => 1,
+        Answer::Nothing => NOTHING,
+        Answer::Message(_) => MESSAGE,
     }
 }
 
