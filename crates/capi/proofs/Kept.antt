@@ -69,7 +69,7 @@ module _ (H : List ℕ → List ℕ) (x : Party) (root : length (x .root) ≡ 32
 
 module _ (H : List ℕ → List ℕ) where
   -- one call: the buffer then says the state that the step gave back
-  call-kept : (s : List ℕ) (c : Call) → stateOf (called H s c .state) ≡ made H (stateOf s) c .state
+  pub call-kept : (s : List ℕ) (c : Call) → stateOf (called H s c .state) ≡ made H (stateOf s) c .state
   unfolding called
   call-kept s c =
       let r = made H (stateOf s) c in

@@ -6,7 +6,7 @@ use mathlib.Core.Logic.{_⊎_, _≢_}
 use mathlib.Core.Bool.{true, false, cond, not}
 use mathlib.Core.List.{List, [], _∷_, _++_, map, List·Memᴰ}
 use mathlib.Core.Option.{Option, some}
-use Prim.Native.Nat.{ℕ, _+_, _-_, _*_, _^_, _≤_, _<_}
+use Prim.Native.Nat.{ℕ, _+_, _-_, _*_, _/_, _^_, _≤_, _<_}
 use lib.Dec.{leb, ltb, eqb}
 use lib.ListN.{length, getD, take, drop}
 use Rattle.limits.specs.Limits.{maxParties, maxMessage, parties, numbered, groupCause}
@@ -30,8 +30,10 @@ use Rattle.party.specs.State.{Result, nothing, settled, broken}
 use Rattle.party.specs.Steps.{turnOf, openOf}
 use Rattle.party.specs.declared.Party.{Party}
 use Rattle.agreement.specs.Calls.{Call, stepOf, made, entry}
+use Rattle.state_bytes.specs.Layout.{stateLength, stateOf}
+use Rattle.capi.specs.Calls.{packed, valueShown, openCall, called}
 use Rattle.agreement.specs.Agreement.{Good, different, absent, sumOver, joinOver}
-use Rattle.claims.specs.Terms.{when, lowest, lent, due, wrong, leaves, rooted, sent, relayed, ended, first, bytesIn, Box, partyBox}
+use Rattle.claims.specs.Terms.{when, lowest, lent, due, wrong, leaves, rooted, sent, relayed, ended, first, bytesIn, Box, partyBox, Host, hostBox}
 
 -- DEMAND 1
 pub record EveryStepTellsItsOutcome : Type 0 where
@@ -54,6 +56,23 @@ pub record EveryStepTellsItsOutcome : Type 0 where
       → openOf sha256 n t own m .cause ≡ 0
   pub lawful-step : (x : Party) (c : Call) → broken x ≡ false → turnOf (x .stage) ≡ stepOf c → wrong x c ≡ 0
       → length (due x c) ≤ length (lent c) → made sha256 x c .cause ≡ 0
+
+pub record EveryCallOfAHostTellsItsOutcome : Type 0 where
+  -- the cause stands above the value, which is the step's; of step 5, 1 for a message and 0 for nothing
+  pub opening : (n t own : ℕ) (m s z : List ℕ) → openCall sha256 n t own m s z .number / 2 ^ 32
+      ≡ lowest (openOf sha256 n t own m .cause ∷ when 9 (ltb (length s) stateLength) ∷ when 9 (ltb (length z) 32) ∷ [])
+  pub step : (s : List ℕ) (c : Call) → called sha256 s c .number
+      ≡ packed (made sha256 (stateOf s) c .cause) (valueShown (made sha256 (stateOf s) c .result) (made sha256 (stateOf s) c .value))
+  -- a refusal keeps every byte
+  pub opening-refused : (n t own : ℕ) (m s z : List ℕ) → openCall sha256 n t own m s z .number / 2 ^ 32 ≢ 0
+      → (openCall sha256 n t own m s z .state ≡ s) × (openCall sha256 n t own m s z .out ≡ z)
+  pub refused : (s : List ℕ) (c : Call) → made sha256 (stateOf s) c .cause ≢ 0 → (called sha256 s c .state ≡ s) × (called sha256 s c .out ≡ lent c)
+  -- the bytes then say the state that the step gave back, and the buffer is the step's
+  pub opened : (n t own : ℕ) (m s z : List ℕ) → openCall sha256 n t own m s z .number / 2 ^ 32 ≡ 0
+      → (stateOf (openCall sha256 n t own m s z .state) ≡ openOf sha256 n t own m .state)
+      × (openCall sha256 n t own m s z .out ≡ spliced z 0 (openOf sha256 n t own m .root))
+  pub accepted : (s : List ℕ) (c : Call) → (stateOf (called sha256 s c .state) ≡ made sha256 (stateOf s) c .state)
+      × (called sha256 s c .out ≡ made sha256 (stateOf s) c .buffer)
 
 -- DEMAND 2. A book among n boxes of which t may be bad, within the limits
 pub record Book (n t : ℕ) (m : List ℕ) : Type 0 where
@@ -153,6 +172,11 @@ module _ (n t : ℕ) (good : List Box) (z : List ℕ) (bit : ℕ) where
         → bytesSent ≤ 2 * length good * (n - 1) * (4 + shareLength (n - t) (length m) + 32 * height n)
     pub free : R ≡ nothing → bytesSent ≡ 0
 
+-- for parties, each with its list of calls on states; and for hosts, each with its calls on bytes
 abbrev pub AllGoodBoxesEndWithOneResult : Type 0
 AllGoodBoxesEndWithOneResult = (n t : ℕ) (parties : List Good) (z : List ℕ) (bit : ℕ) → Sitting n t (map (partyBox n t) parties) z bit
     → (R : Result) × OneResult n t (map (partyBox n t) parties) z bit R
+
+abbrev pub AllGoodHostsEndWithOneResult : Type 0
+AllGoodHostsEndWithOneResult = (n t : ℕ) (hosts : List Host) (z : List ℕ) (bit : ℕ) → Sitting n t (map (hostBox n t) hosts) z bit
+    → (R : Result) × OneResult n t (map (hostBox n t) hosts) z bit R

@@ -3,18 +3,21 @@
 use mathlib.Core.Bool.{Bool, cond, not}
 use mathlib.Core.List.{List, [], _∷_, map}
 use mathlib.Core.Option.{Option, none, some}
-use Prim.Native.Nat.{ℕ, _+_, _-_, _*_}
+use Prim.Native.Nat.{ℕ, _+_, _-_, _*_, _/_, _^_}
 use lib.Dec.{ltb, eqb}
 use lib.ListN.{length, take}
 use Rattle.buffer.specs.Splice.{tabulate}
 use Rattle.buffer.specs.Entries.{fills, bodies}
 use Rattle.erasure.specs.Coding.{share}
 use Rattle.sha256.specs.Sha256.{sha256}
-use Rattle.party.specs.State.{Result, resultBytes}
+use Rattle.party.specs.State.{Result, nothing, settled, resultBytes, resultIn}
 use Rattle.party.specs.Steps.{openOf, Stepped, outboxOf, relayOf, resultOf}
 use Rattle.party.specs.declared.Party.{Party}
 use Rattle.agreement.specs.Calls.{Call, agreeRoot, agreeBit, takeShares, takeRelays, Event, did, hashed, lengths, resultAfter}
 use Rattle.agreement.specs.Agreement.{Good}
+use Rattle.state_bytes.specs.Layout.{stateOf}
+use Rattle.capi.specs.Calls.{Replies, openCall, called, resultLengthCall}
+use Rattle.capi.specs.Lists.{left}
 
 -- a cause where it applies, and of causes in the order in which they are given the first that does; 0: none
 abbrev pub when : ℕ → Bool → ℕ
@@ -103,3 +106,37 @@ partyBox n t A =
       hashed = hashed sha256 n t (A .own) (A .message) (A .calls);
     }
 
+
+-- a host of the C interface, as a box: its number and book, the buffers that it lends to the opening for the state and for the root, and the calls that it
+-- makes on the bytes of the state
+pub record Host : Type 0 where
+  pub own : ℕ
+  pub book : List ℕ
+  pub state : List ℕ
+  pub root : List ℕ
+  pub calls : List Call
+
+-- a call was accepted where its number is below 2^32, which is then its value; after step 5 the length of a message is asked of the state
+abbrev pub seenBy : Call → Replies → Done
+seenBy (agreeRoot z) r = rooted z (r .number)
+seenBy (agreeBit bit out) r = sent bit (take (r .number) (r .out))
+seenBy (takeShares inbox out) r = relayed inbox (take (r .number) (r .out))
+seenBy (takeRelays inbox out) r = ended inbox (some (cond (eqb (r .number) 0) nothing (settled (take (resultLengthCall (r .state)) (r .out)))))
+
+unfoldable pub seen : List ℕ → List Call → List Done
+seen s [] = []
+seen s (c ∷ cs) =
+    let r = called sha256 s c in cond (ltb (r .number) (2 ^ 32)) (seenBy c r ∷ seen (r .state) cs) (seen (r .state) cs)
+
+abbrev pub hostBox : ℕ → ℕ → Host → Box
+hostBox n t h =
+    let r = openCall sha256 n t (h .own) (h .book) (h .state) (h .root) in
+    record {
+      own = h .own;
+      book = h .book;
+      cause = r .number / 2 ^ 32;
+      root = take 32 (r .out);
+      done = seen (r .state) (h .calls);
+      result = resultIn (stateOf (left sha256 (r .state) (h .calls)));
+      hashed = hashed sha256 n t (h .own) (h .book) (h .calls);
+    }
