@@ -183,7 +183,6 @@ refusal-keeps x c = go (way (eqb k 0))
     go (on e) = rw (D .is, e) (D .keeps)
     go (off e) = rw (D .is, e) refusal
 
-
 -- an accepted opening and an accepted step
 opened-told : (n t own : ℕ) (m : List ℕ) → openOf sha256 n t own m .cause ≡ 0
     → (openOf sha256 n t own m .root ≡ messageRoot sha256 n t m) × (broken (openOf sha256 n t own m .state) ≡ false)

@@ -106,7 +106,6 @@ partyBox n t A =
       hashed = hashed sha256 n t (A .own) (A .message) (A .calls);
     }
 
-
 -- a host of the C interface, as a box: its number and book, the buffers that it lends to the opening for the state and for the root, and the calls that it
 -- makes on the bytes of the state
 pub record Host : Type 0 where

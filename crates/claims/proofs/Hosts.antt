@@ -1,0 +1,269 @@
+-- What holds of parties holds of hosts: a call on bytes is the step on the state that they say, so that what is seen of a host is what is seen of the party
+-- with its number, book and calls. From the laws of the C interface. Assumes nothing.
+use mathlib.Core.Path.{_≡_, refl, sym, ap, ap₂, _∙_, subst}
+use mathlib.Core.Logic.{_≢_}
+use mathlib.Core.Bool.{Bool, true, false, cond, not}
+use mathlib.Core.List.{List, [], _∷_, map, List·Memᴰ}
+use mathlib.Core.Option.{Option, none, some}
+use Prim.Native.Nat.{ℕ, _+_, _-_, _*_, _/_, _^_, _≤_, _<_}
+use native.Mathlib.Decide.{ℕ-discrete, decLt}
+use native.Mathlib.Omega.{arith}
+use borrow.Author.Tests.{lt-ltb, le-ltb, eq-eqb, ne-eqb, eqb-true, eqb-false}
+use lib.Dec.{ltb, eqb}
+use lib.ListN.{length, take}
+use Rattle.buffer.specs.Splice.{spliced}
+use Rattle.buffer.specs.Given.{Given, written}
+use Rattle.buffer.proofs.Splice.{take-spliced}
+use Rattle.sha256.specs.Sha256.{sha256}
+use Rattle.sha256.proofs.Laws.{sha256-length}
+use Rattle.commitment.specs.Commitment.{messageRoot}
+use Rattle.merkle.proofs.Trees.{length-root}
+use Rattle.commitment.proofs.Opening.{open-coded}
+use Rattle.commitment.proofs.Messages.{fine}
+use Rattle.erasure.specs.Coding.{shares}
+use Rattle.party.specs.State.{Result, nothing, settled, resultIn}
+use Rattle.party.specs.Steps.{openOf, Stepped, resultOf}
+use Rattle.party.specs.declared.Party.{Party}
+use Rattle.party.specs.declared.Opened.{Opened}
+use Rattle.party.proofs.Ways.{Way, on, off, way}
+use Rattle.agreement.specs.Calls.{Call, agreeRoot, agreeBit, takeShares, takeRelays, Event, made, events, accepted, final, did}
+use Rattle.agreement.specs.Agreement.{Good}
+use Rattle.agreement.proofs.Run.{endedWith, did2, did3, did4, did5, event}
+use Rattle.agreement.proofs.Ran.{opened-is}
+use Rattle.state_bytes.specs.Layout.{stateLength, stateOf}
+use Rattle.capi.specs.Calls.{packed, Replies, valueShown, numberOf, openCall, called, resultLengthCall}
+use Rattle.capi.specs.Lists.{left, lengthOf}
+use Rattle.capi.proofs.Answers.{over-written, over-left, open-refused, open-state, open-root, open-done}
+use Rattle.capi.proofs.Small.{call-small, call-halves}
+use Rattle.capi.proofs.Kept.{call-kept, calls-kept, length-kept, open-kept}
+use Rattle.claims.specs.Terms.{when, lowest, lent, Done, ended, doneBy, Box, partyBox, Host, seenBy, seen, hostBox}
+use Rattle.claims.specs.Claims.{EveryCallOfAHostTellsItsOutcome, AllGoodHostsEndWithOneResult, Sitting, OneResult}
+use Rattle.claims.proofs.Lists.{in-map, map-map, map-same}
+use Rattle.claims.proofs.Steps.{every-step-tells-its-outcome}
+use Rattle.claims.proofs.Parties.{view, all-good-boxes-end-with-one-result}
+
+-- a call: its number, and the buffer
+called-number : (s : List ℕ) (c : Call) → called sha256 s c .number ≡ numberOf (made sha256 (stateOf s) c)
+unfolding called
+called-number s c = refl
+
+called-out : (s : List ℕ) (c : Call) → called sha256 s c .out ≡ made sha256 (stateOf s) c .buffer
+unfolding called
+called-out s c = refl
+
+refused-bytes : (s : List ℕ) (c : Call) → made sha256 (stateOf s) c .cause ≢ 0 → (called sha256 s c .state ≡ s) × (called sha256 s c .out ≡ lent c)
+unfolding called
+refused-bytes s c d = (
+  ap (λ (r : Replies). r .state) (over-left s (made sha256 (stateOf s) c) d),
+  every-step-tells-its-outcome .refused (stateOf s) c d .1,
+)
+
+-- the opening: its outcomes
+data Outcome (n t own : ℕ) (m s z : List ℕ) : Type 0 where
+  turned : openOf sha256 n t own m .cause ≢ 0 → Outcome n t own m s z
+  short-state : openOf sha256 n t own m .cause ≡ 0 → length s < stateLength → Outcome n t own m s z
+  short-root : openOf sha256 n t own m .cause ≡ 0 → stateLength ≤ length s → length z < 32 → Outcome n t own m s z
+  taken : openOf sha256 n t own m .cause ≡ 0 → stateLength ≤ length s → 32 ≤ length z → Outcome n t own m s z
+
+outcome : (n t own : ℕ) (m s z : List ℕ) → Outcome n t own m s z
+outcome n t own m s z = go (ℕ-discrete (openOf sha256 n t own m .cause) 0) (decLt (length s) stateLength) (decLt (length z) 32)
+  where
+    go : Dec (openOf sha256 n t own m .cause ≡ 0) → Dec (length s < stateLength) → Dec (length z < 32) → Outcome n t own m s z
+    go (no d) a b = turned d
+    go (yes e) (yes a) b = short-state e a
+    go (yes e) (no a) (yes b) = short-root e (omega arith) b
+    go (yes e) (no a) (no b) = taken e (omega arith) (omega arith)
+
+upper : (k v : ℕ) → v < 2 ^ 32 → packed k v / 2 ^ 32 ≡ k
+unfolding packed
+upper k v h = omega (arith, h)
+
+module _ (n t own : ℕ) (m s z : List ℕ) where
+  opening-told : openCall sha256 n t own m s z .number / 2 ^ 32
+      ≡ lowest (openOf sha256 n t own m .cause ∷ when 9 (ltb (length s) stateLength) ∷ when 9 (ltb (length z) 32) ∷ [])
+  unfolding lowest
+  opening-told = go (outcome n t own m s z)
+    where
+      go : Outcome n t own m s z → openCall sha256 n t own m s z .number / 2 ^ 32
+          ≡ lowest (openOf sha256 n t own m .cause ∷ when 9 (ltb (length s) stateLength) ∷ when 9 (ltb (length z) 32) ∷ [])
+      go (turned d) =
+          rw (open-refused sha256 n t own m s z d, ne-eqb (openOf sha256 n t own m .cause) 0 d) (upper (openOf sha256 n t own m .cause) 0 (omega arith))
+      go (short-state e a) =
+          rw (open-state sha256 n t own m s z e a, eq-eqb (openOf sha256 n t own m .cause) 0 e, lt-ltb (length s) stateLength a)
+          (upper 9 stateLength (omega arith))
+      go (short-root e a b) =
+          rw (open-root sha256 n t own m s z e a b, eq-eqb (openOf sha256 n t own m .cause) 0 e, le-ltb (length s) stateLength a, lt-ltb (length z) 32 b)
+          (upper 9 32 (omega arith))
+      go (taken e a b) =
+          rw (open-done sha256 n t own m s z e a b, eq-eqb (openOf sha256 n t own m .cause) 0 e, le-ltb (length s) stateLength a, le-ltb (length z) 32 b)
+          (upper 0 32 (omega arith))
+
+  -- an opening that was taken
+  opening-taken : openCall sha256 n t own m s z .number / 2 ^ 32 ≡ 0
+      → (openOf sha256 n t own m .cause ≡ 0) × (stateLength ≤ length s) × (32 ≤ length z)
+  unfolding lowest
+  opening-taken e = go (outcome n t own m s z) (sym opening-told ∙ e)
+    where
+      go : Outcome n t own m s z
+          → lowest (openOf sha256 n t own m .cause ∷ when 9 (ltb (length s) stateLength) ∷ when 9 (ltb (length z) 32) ∷ []) ≡ 0
+          → (openOf sha256 n t own m .cause ≡ 0) × (stateLength ≤ length s) × (32 ≤ length z)
+      go (turned d) q = absurd (d (rw (ne-eqb (openOf sha256 n t own m .cause) 0 d) at q))
+      go (short-state c a) q =
+          let nine : _≡_ {A = ℕ} 9 0 = rw (eq-eqb (openOf sha256 n t own m .cause) 0 c, lt-ltb (length s) stateLength a) at q in absurd (omega arith)
+      go (short-root c a b) q =
+          let nine : _≡_ {A = ℕ} 9 0 =
+          rw (eq-eqb (openOf sha256 n t own m .cause) 0 c, le-ltb (length s) stateLength a, lt-ltb (length z) 32 b) at q in absurd (omega arith)
+      go (taken c a b) q = (c, a, b)
+
+  opening-kept : openCall sha256 n t own m s z .number / 2 ^ 32 ≢ 0
+      → (openCall sha256 n t own m s z .state ≡ s) × (openCall sha256 n t own m s z .out ≡ z)
+  opening-kept d = go (outcome n t own m s z)
+    where
+      go : Outcome n t own m s z → (openCall sha256 n t own m s z .state ≡ s) × (openCall sha256 n t own m s z .out ≡ z)
+      go (turned c) = rw (open-refused sha256 n t own m s z c) (refl, refl)
+      go (short-state c a) = rw (open-state sha256 n t own m s z c a) (refl, refl)
+      go (short-root c a b) = rw (open-root sha256 n t own m s z c a b) (refl, refl)
+      go (taken c a b) = absurd (d (ap (λ (r : Replies). r .number / 2 ^ 32) (open-done sha256 n t own m s z c a b) ∙ upper 0 32 (omega arith)))
+
+  root-length : openOf sha256 n t own m .cause ≡ 0 → length (openOf sha256 n t own m .root) ≡ 32
+  unfolding messageRoot
+  root-length c =
+      let o = opened-is sha256 n t own m c in
+      ap (λ (r : Opened). length (r .root)) (o .1)
+      ∙ length-root sha256 sha256-length n (shares n (n - t) m) (fine n t m (open-coded n t own m (o .0)))
+
+  room-written : (bs out : List ℕ) → length bs ≤ length out → written bs out .buffer ≡ spliced out 0 bs
+  unfolding written
+  room-written bs out h = rw (le-ltb (length out) (length bs) h)
+
+  opening-gives : openCall sha256 n t own m s z .number / 2 ^ 32 ≡ 0
+      → (stateOf (openCall sha256 n t own m s z .state) ≡ openOf sha256 n t own m .state)
+      × (openCall sha256 n t own m s z .out ≡ spliced z 0 (openOf sha256 n t own m .root))
+  opening-gives e =
+      let a = opening-taken e in (
+        open-kept sha256 n t own m s z (a .0) (a .1) (a .2),
+        ap (λ (r : Replies). r .out) (open-done sha256 n t own m s z (a .0) (a .1) (a .2))
+            ∙ room-written (openOf sha256 n t own m .root) z (omega (arith, root-length (a .0), a .2)),
+      )
+
+pub every-call-of-a-host-tells-its-outcome : EveryCallOfAHostTellsItsOutcome
+every-call-of-a-host-tells-its-outcome =
+    record {
+      opening = opening-told;
+      step = called-number;
+      opening-refused = opening-kept;
+      refused = refused-bytes;
+      opened = opening-gives;
+      accepted = λ s c. (call-kept sha256 s c, called-out s c);
+    }
+
+-- an accepted call, as a host sees it
+module _ (s : List ℕ) where
+  abbrev x : Party
+  x = stateOf s
+
+  -- its number is its value
+  number-value : (r : Stepped) → r .cause ≡ 0 → numberOf r ≡ valueShown (r .result) (r .value)
+  unfolding packed
+  number-value r e = rw e (omega arith)
+
+  number-plain : (c : Call) → made sha256 x c .cause ≡ 0 → made sha256 x c .result ≡ none → called sha256 s c .number ≡ made sha256 x c .value
+  number-plain c e q =
+      called-number s c ∙ number-value (made sha256 x c) e ∙ ap (λ (r : Option Result). valueShown r (made sha256 x c .value)) q
+
+  ended-seen : (inbox out : List ℕ) (R : Result) (r : Replies) → r .number ≡ valueShown (some R) 0 → resultLengthCall (r .state) ≡ lengthOf R
+      → r .out ≡ endedWith (x .seat) R out .buffer
+      → cond (eqb (r .number) 0) nothing (settled (take (resultLengthCall (r .state)) (r .out))) ≡ R
+  unfolding packed
+  ended-seen inbox out nothing r a b c = rw a
+  ended-seen inbox out (settled m) r a b c =
+      let l : resultLengthCall (r .state) ≡ length m = b ∙ omega arith in
+      rw (a, l, c) (ap settled (take-spliced out m))
+
+  seen-view : (c : Call) → made sha256 x c .cause ≡ 0 → seenBy c (called sha256 s c) ≡ view (event sha256 x c)
+  seen-view (agreeRoot z) e =
+      rw (number-plain (agreeRoot z) e (ap (λ (r : Stepped). r .result) (did2 sha256 x z e .1)))
+  seen-view (agreeBit bit out) e =
+      rw (number-plain (agreeBit bit out) e (ap (λ (r : Stepped). r .result) (did3 sha256 x bit out e .2)), called-out s (agreeBit bit out))
+  seen-view (takeShares inbox out) e =
+      rw (number-plain (takeShares inbox out) e (ap (λ (r : Stepped). r .result) (did4 sha256 x inbox out e .1)), called-out s (takeShares inbox out))
+  seen-view (takeRelays inbox out) e =
+      let R = resultOf sha256 x inbox in
+      let c = takeRelays inbox out in
+      let d = did5 sha256 x inbox out e .1 in
+      let shown : made sha256 x c .result ≡ some R = ap (λ (r : Stepped). r .result) d in
+      ap {B = Done} (λ (q : Result). ended inbox (some q))
+      (ended-seen inbox out R (called sha256 s c)
+      (called-number s c ∙ number-value (made sha256 x c) e ∙ told R (made sha256 x c .result) (made sha256 x c .value) shown)
+      (length-kept sha256 s inbox out e) (called-out s c ∙ ap (λ (r : Stepped). r .buffer) d))
+      ∙ ap {B = Done} (ended inbox) (sym shown)
+    where
+      told : (R : Result) (o : Option Result) (v : ℕ) → o ≡ some R → valueShown o v ≡ valueShown (some R) 0
+      told nothing o v q = ap (λ (r : Option Result). valueShown r v) q
+      told (settled m) o v q = ap (λ (r : Option Result). valueShown r v) q
+
+-- and a list of calls
+seen-all : (s : List ℕ) (cs : List Call) → seen s cs ≡ map view (accepted (events sha256 (stateOf s) cs))
+unfolding seen accepted events
+seen-all s [] = refl
+seen-all s (c ∷ cs) =
+    go (way (eqb (made sha256 (stateOf s) c .cause) 0))
+    (seen-all (called sha256 s c .state) cs ∙ ap (λ (y : Party). map view (accepted (events sha256 y cs))) (call-kept sha256 s c))
+  where
+    rest : List Event
+    rest = accepted (events sha256 (made sha256 (stateOf s) c .state) cs)
+
+    below : made sha256 (stateOf s) c .cause ≡ 0 → ltb (called sha256 s c .number) (2 ^ 32) ≡ true
+    below e =
+        lt-ltb (called sha256 s c .number) (2 ^ 32)
+        (omega (arith, e, called-number s c, call-halves sha256 sha256-length (stateOf s) c .0))
+
+    above : made sha256 (stateOf s) c .cause ≢ 0 → ltb (called sha256 s c .number) (2 ^ 32) ≡ false
+    above d =
+        le-ltb (called sha256 s c .number) (2 ^ 32)
+        (omega (arith, d, called-number s c, call-halves sha256 sha256-length (stateOf s) c .0))
+
+    go : Way (eqb (made sha256 (stateOf s) c .cause) 0)
+        → seen (called sha256 s c .state) cs ≡ map view (accepted (events sha256 (made sha256 (stateOf s) c .state) cs))
+        → cond (ltb (called sha256 s c .number) (2 ^ 32)) (seenBy c (called sha256 s c) ∷ seen (called sha256 s c .state) cs)
+        (seen (called sha256 s c .state) cs)
+        ≡ map view (cond (eqb (made sha256 (stateOf s) c .cause) 0)
+        (event sha256 (stateOf s) c ∷ accepted (events sha256 (made sha256 (stateOf s) c .state) cs))
+        (accepted (events sha256 (made sha256 (stateOf s) c .state) cs)))
+    go (on y) r =
+        let e = eqb-true (made sha256 (stateOf s) c .cause) 0 y in
+        rw (y, below e) (ap₂ (λ (d : Done) (ds : List Done). d ∷ ds) (seen-view s c e) r)
+    go (off y) r = rw (y, above (eqb-false (made sha256 (stateOf s) c .cause) 0 y)) r
+
+-- the party with a host's number, book and calls
+abbrev partyOf : Host → Good
+partyOf h = record { own = h .own; message = h .book; calls = h .calls }
+
+box-same : (n t : ℕ) (h : Host) → hostBox n t h .cause ≡ 0 → hostBox n t h ≡ partyBox n t (partyOf h)
+unfolding did
+box-same n t h e =
+    let own = h .own in
+    let m = h .book in
+    let r = openCall sha256 n t own m (h .state) (h .root) in
+    let o = opening-gives n t own m (h .state) (h .root) e in
+    let c = opening-taken n t own m (h .state) (h .root) e in
+    let width = root-length n t own m (h .state) (h .root) (c .0) in
+    boxes (e ∙ sym (c .0))
+    (ap (take 32) (o .1) ∙ ap (λ (k : ℕ). take k (spliced (h .root) 0 (openOf sha256 n t own m .root))) (sym width)
+    ∙ take-spliced (h .root) (openOf sha256 n t own m .root))
+    (seen-all (r .state) (h .calls) ∙ ap (λ (y : Party). map view (accepted (events sha256 y (h .calls)))) (o .0))
+    (ap resultIn (calls-kept sha256 (r .state) (h .calls) ∙ ap (λ (y : Party). final sha256 y (h .calls)) (o .0)))
+  where
+    boxes : {i : ℕ} {b : List ℕ} {k l : ℕ} {z y : List ℕ} {ds es : List Done} {q r : Option Result} {ss : List (List ℕ)} → k ≡ l → z ≡ y
+        → ds ≡ es → q ≡ r
+        → _≡_ {A = Box} (record { own = i; book = b; cause = k; root = z; done = ds; result = q; hashed = ss })
+        (record { own = i; book = b; cause = l; root = y; done = es; result = r; hashed = ss })
+    boxes a b c d = rw (a, b, c, d)
+
+pub all-good-hosts-end-with-one-result : AllGoodHostsEndWithOneResult
+all-good-hosts-end-with-one-result n t hosts z bit P =
+    let same : map (hostBox n t) hosts ≡ map (partyBox n t) (map partyOf hosts) =
+    map-same (hostBox n t) (λ (h : Host). partyBox n t (partyOf h)) hosts (λ h i. box-same n t h (P .opened (hostBox n t h) (in-map (hostBox n t) i) .0))
+    ∙ sym (map-map partyOf (partyBox n t) hosts) in
+    subst (λ (boxes : List Box). (R : Result) × OneResult n t boxes z bit R) (sym same)
+    (all-good-boxes-end-with-one-result n t (map partyOf hosts) z bit (subst (λ (boxes : List Box). Sitting n t boxes z bit) same P))
