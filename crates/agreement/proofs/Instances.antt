@@ -254,6 +254,10 @@ pub record Computed : Type 0 where
   -- in the second, party 1 hashes the five strings of its message's tree; party 2 those of its own, and three in each exchange
   pub first-hashes : length (hashed toy 3 1 1 (0x41 ∷ []) calls1) ≡ 5
   pub second-hashes : length (hashed toy 3 1 2 (0x42 ∷ []) calls2) ≡ 5 + 3 + 3
+  -- refused calls hash nothing: of the first session party 2 hashes the five strings of its own message's tree, three of the share that it took, three of the
+  -- forged relay and two of party 3's, though it was handed its inboxes again and again
+  pub refused-unhashed : length (hashed toy 3 1 2 (0x43 ∷ []) (P2 .calls)) ≡ 5 + 3 + 3 + 2
+  pub idle-unhashed : length (hashed toy 3 1 2 (0x43 ∷ []) (Q2 .calls)) ≡ 5
   pub second-ends : resultAfter toy 3 1 2 (0x42 ∷ []) calls2 ≡ some (settled (0x41 ∷ []))
 
 pub computed : Computed
@@ -320,6 +324,8 @@ computed = record {
   two-books-sent = refl;
   first-hashes = refl;
   second-hashes = refl;
+  refused-unhashed = refl;
+  idle-unhashed = refl;
   second-ends = refl;
 }
 
