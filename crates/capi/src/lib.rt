@@ -2,14 +2,16 @@
 // pointer and a length. Every function answers one number, the cause in its upper 32 bits (0: accepted) and the value in its lower; a
 // refused call leaves every lent byte.
 ghost use mathlib.Core.Path.{_≡_};
+ghost use mathlib.Core.Bool.{false};
 ghost use mathlib.Core.List.{List, []};
 ghost use Prim.Native.Nat.{ℕ, _<_, _^_};
 ghost use Rattle.sha256.specs.Sha256.{sha256};
 ghost use Rattle.buffer.specs.Given.{gave};
+ghost use Rattle.merkle.specs.Answer.{checked};
 ghost use Rattle.party.specs.Steps.{causeOf, valueOf, resultGiven, stepped};
 ghost use Rattle.agreement.specs.Calls.{agreeRoot, agreeBit, takeShares, takeRelays};
 ghost use Rattle.capi.specs.Calls.{packed, returned, replies, nothingValue, valueShown, over, openCall, called, readPacketCall, checkAnswer};
-ghost use Rattle.capi.specs.Calls.{denied, checkPathCall, filled, sharesCall, rebuildCall, hashCall};
+ghost use Rattle.capi.specs.Calls.{checkPathCall, filled, sharesCall, rebuildCall, hashCall};
 use buffer::Written;
 use merkle::Checked;
 use packet::Packet;
@@ -243,7 +245,7 @@ fn written_cause(answer: Written) -> u8
 
 // A path that is not of whole hashes never passes.
 fn denied(answer: Checked) -> Checked
-    ensures { λ r. ⌜ r ≡ denied answer ⌝ }
+    ensures { λ r. ⌜ (checked r .cause ≡ checked answer .cause) × (checked r .passed ≡ false) ⌝ }
 {
     match answer {
         Checked::Refused(cause) => Checked::Refused(cause),
@@ -253,7 +255,7 @@ fn denied(answer: Checked) -> Checked
 }
 
 fn check_answer(answer: Checked) -> u64
-    ensures { λ r. ⌜ r ≡ checkAnswer answer ⌝ }
+    ensures { λ r. ⌜ r ≡ checkAnswer (checked answer .cause) (checked answer .passed) ⌝ }
 {
     match answer {
         Checked::Refused(cause) => pack(cause, 0),
