@@ -15,9 +15,8 @@ use lib.ListN.{length, drop, replicate}
 use Rattle.limits.specs.Limits.{maxParties, maxPath, maxShare, maxHashed, parties, numbered}
 use Rattle.limits.proofs.Ranges.{parties-range, numbered-range}
 use Rattle.sha256.specs.Sha256.{sha256}
-use Rattle.merkle.specs.Shares.{blank, sidesOf, answerOf, passes, checkOf}
-use Rattle.merkle.specs.declared.Checked.{Checked}
-use Rattle.merkle.specs.declared.Checked.the-variants as checked
+use Rattle.merkle.specs.Answer.{Check, notChecked, answerOf}
+use Rattle.merkle.specs.Shares.{blank, sidesOf, passes, checkOf}
 use Rattle.merkle.proofs.Descend.{sides-fit}
 use Rattle.packet.specs.Format.{hashes, readOf}
 use Rattle.packet.specs.Answer.{placed, readAt, pathAt}
@@ -27,7 +26,7 @@ use Rattle.packet.proofs.Packet.{the-type}
 use Rattle.packet.proofs.Path.{length-hashes, path-there}
 use Rattle.packet.proofs.Reading.{lies-of}
 use Rattle.packet.proofs.Verdict.{passes-take}
-use Rattle.capi.specs.Calls.{packed, readAnswer, checkAnswer, denied, checkPathCall}
+use Rattle.capi.specs.Calls.{packed, readAnswer, checkAnswer, checkPathCall}
 
 -- a packet that was read, and is no share: silence
 pub read-silent : (r : Packet) → OneOf (1 ∷ 2 ∷ []) (tagOf the-type r) → OneOf (0 ∷ 1 ∷ []) (tagOf the-type r) → readAnswer r ≡ packed 0 0
@@ -84,22 +83,23 @@ module _ (n j : ℕ) (share path root : List ℕ) where
   unfolding checkOf
   path-checked = go (parties n) refl (numbered n j) refl
     where
-      after : Bool → Checked
-      after t = cond (ltb maxHashed (2 + length share)) (checked.Refused 4) (cond (not (eqb (length root) 32)) (checked.Refused 7) (answerOf t))
+      after : Bool → Check
+      after t = cond (ltb maxHashed (2 + length share)) (notChecked 4) (cond (not (eqb (length root) 32)) (notChecked 7) (answerOf t))
 
       go : (a : Bool) → parties n ≡ a → (b : Bool) → numbered n j ≡ b
-          → cond (not a) (checked.Refused 1) (cond (not b) (checked.Refused 3) (after (passes sha256 n j share (pathAt path 0 Count) Count root)))
-          ≡ cond (not a) (checked.Refused 1) (cond (not b) (checked.Refused 3) (after (passes sha256 n j share (hashes Count path) Count root)))
+          → cond (not a) (notChecked 1) (cond (not b) (notChecked 3) (after (passes sha256 n j share (pathAt path 0 Count) Count root)))
+          ≡ cond (not a) (notChecked 1) (cond (not b) (notChecked 3) (after (passes sha256 n j share (hashes Count path) Count root)))
       go false p b q = refl
       go true p false q = refl
       go true p true q = ap after (same-passes p q)
 
   pub check-uneven : (length path % 32 ≡ 0 → ⊥)
-      → checkPathCall sha256 n j share path root ≡ checkAnswer (denied (checkOf sha256 n j share (hashes Count path) Count root))
+      → checkPathCall sha256 n j share path root ≡ checkAnswer (checkOf sha256 n j share (hashes Count path) Count root .cause) false
   unfolding checkPathCall
   check-uneven h = rw (ne-eqb (length path % 32) 0 h)
 
   pub check-whole : length path % 32 ≡ 0
-      → checkPathCall sha256 n j share path root ≡ checkAnswer (checkOf sha256 n j share (hashes Count path) Count root)
+      → checkPathCall sha256 n j share path root
+      ≡ (let r = checkOf sha256 n j share (hashes Count path) Count root in checkAnswer (r .cause) (r .passed))
   unfolding checkPathCall
   check-whole h = rw (eq-eqb (length path % 32) 0 h)

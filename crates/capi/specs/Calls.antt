@@ -1,7 +1,7 @@
 -- What each exported function gives back: its number, with the cause in the upper half and the value in the lower, and the bytes of the lent
 -- buffers. Every one is the definition of the party, the coder, the tree or the packets, on what the bytes say. The hash is a parameter H.
 -- Assumes nothing.
-use mathlib.Core.Bool.{cond, not}
+use mathlib.Core.Bool.{Bool, cond, not, _&&_}
 use mathlib.Core.List.{List}
 use mathlib.Core.Option.{Option, none, some}
 use Prim.Native.Nat.{ℕ, _+_, _*_, _/_, _%_, _^_}
@@ -12,8 +12,6 @@ use Rattle.erasure.specs.Coding.{encodeOf}
 use Rattle.erasure.specs.Rebuild.{rebuildOf}
 use Rattle.sha256.specs.Sha256.{hashOf}
 use Rattle.merkle.specs.Shares.{checkOf}
-use Rattle.merkle.specs.declared.Checked.{Checked}
-use Rattle.merkle.specs.declared.Checked.the-variants as checked
 use Rattle.packet.specs.Format.{hashes}
 use Rattle.packet.specs.Answer.{readAt}
 use Rattle.packet.specs.declared.Packet.{Packet}
@@ -116,21 +114,14 @@ unfoldable pub readPacketCall : ℕ → List ℕ → ℕ
 readPacketCall n p = readAnswer (readAt n p 0)
 
 -- the path check: 1 yes, 0 no. No path that is not of whole hashes passes; of one that is, all hashes count
-abbrev pub checkAnswer : Checked → ℕ
-checkAnswer (checked.Refused k) = packed k 0
-checkAnswer checked.No = packed 0 0
-checkAnswer checked.Yes = packed 0 1
-
-abbrev pub denied : Checked → Checked
-denied (checked.Refused k) = checked.Refused k
-denied checked.No = checked.No
-denied checked.Yes = checked.No
+abbrev pub checkAnswer : ℕ → Bool → ℕ
+checkAnswer cause passed = packed cause (cond passed 1 0)
 
 module _ (H : List ℕ → List ℕ) where
   unfoldable pub checkPathCall : ℕ → ℕ → List ℕ → List ℕ → List ℕ → ℕ
   checkPathCall n j share path root =
       let r = checkOf H n j share (hashes (length path / 32) path) (length path / 32) root in
-      checkAnswer (cond (eqb (length path % 32) 0) r (denied r))
+      checkAnswer (r .cause) (eqb (length path % 32) 0 && r .passed)
 
 -- what a function that writes into a lent buffer gives back, as one number
 abbrev pub filled : Given → Returned

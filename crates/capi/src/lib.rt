@@ -7,13 +7,14 @@ ghost use mathlib.Core.List.{List, []};
 ghost use Prim.Native.Nat.{ℕ, _<_, _^_};
 ghost use Rattle.sha256.specs.Sha256.{sha256};
 ghost use Rattle.buffer.specs.Given.{gave};
+ghost use Rattle.merkle.specs.Answer.{checked};
 ghost use Rattle.party.specs.State.{overlong};
 ghost use Rattle.party.specs.Steps.{causeOf, valueOf, resultGiven, stepped};
 ghost use Rattle.state_bytes.specs.Layout.{stateLength};
 ghost use Rattle.agreement.specs.Calls.{agreeRoot, agreeBit, takeShares, takeRelays};
 ghost use Rattle.capi.specs.Calls.{libraryVersion, packed, returned, replies, valueShown, over, openCall, called, readPacketCall, checkAnswer};
 ghost use Rattle.capi.specs.Calls.{stageCall, ownCall, lengthAnswer, resultLengthCall};
-ghost use Rattle.capi.specs.Calls.{denied, checkPathCall, filled, sharesCall, rebuildCall, hashCall};
+ghost use Rattle.capi.specs.Calls.{checkPathCall, filled, sharesCall, rebuildCall, hashCall};
 use buffer::Written;
 use merkle::Checked;
 use packet::Packet;
@@ -327,7 +328,7 @@ fn written_cause(answer: Written) -> u8
 
 // A path that is not of whole hashes never passes.
 fn denied(answer: Checked) -> Checked
-    ensures { λ r. ⌜ r ≡ denied answer ⌝ }
+    ensures { λ r. ⌜ (checked r .cause ≡ checked answer .cause) × (checked r .passed ≡ false) ⌝ }
 {
     match answer {
         Checked::Refused(cause) => Checked::Refused(cause),
@@ -337,7 +338,7 @@ fn denied(answer: Checked) -> Checked
 }
 
 fn check_answer(answer: Checked) -> u64
-    ensures { λ r. ⌜ r ≡ checkAnswer answer ⌝ }
+    ensures { λ r. ⌜ r ≡ checkAnswer (checked answer .cause) (checked answer .passed) ⌝ }
 {
     match answer {
         Checked::Refused(cause) => pack(cause, 0),

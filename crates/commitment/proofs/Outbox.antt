@@ -18,6 +18,8 @@ use Rattle.buffer.specs.Given.{gave, written}
 use Rattle.buffer.specs.declared.Written.the-variants as given
 use Rattle.buffer.proofs.Given.{written-done}
 use Rattle.merkle.specs.Shares.{sidesOf, pathOf, pathLengthOf}
+use Rattle.merkle.specs.Answer.{counted}
+use Rattle.merkle.specs.declared.Counted.{Counted}
 use Rattle.merkle.specs.declared.Counted.the-variants.{Refused}
 use Rattle.merkle.proofs.Descend.{sides-fit}
 use Rattle.packet.specs.Format.{packetOf, entryOf}
@@ -44,9 +46,10 @@ module _ (n own s j : ℕ) where
       ]
 
 -- a party's number is never refused a path
-pub never-refused : (n j : ℕ) → 1 ≤ n → n ≤ maxParties → 1 ≤ j → j ≤ n → (k : ℕ) → pathLengthOf n j ≡ Refused k → ⊥
-never-refused n j low high first last k e =
-    true≢false (sym (numbered-within n j first last) ∙ count-refused n j low high k e)
+pub never-refused : (n j : ℕ) → 1 ≤ n → n ≤ maxParties → 1 ≤ j → j ≤ n
+    → (r : Counted) → counted r ≡ pathLengthOf n j → (k : ℕ) → r ≡ Refused k → ⊥
+never-refused n j low high first last r told k e =
+    true≢false (sym (numbered-within n j first last) ∙ count-refused n j low high r told k e)
 
 -- the length of the outbox
 module _ (n own s : ℕ) where

@@ -13,7 +13,7 @@ use Rattle.merkle.specs.Shares.{blank, sidesOf, pathOf, same}
 use Rattle.packet.specs.Format.{packetOf}
 use Rattle.commitment.specs.Commitment.{openCause, messageRoot, rootedOf, sending, mailWith, sendOf}
 use Rattle.commitment.specs.Private.{relayFor}
-use Rattle.commitment.specs.declared.Rooted.{Rooted}
+use Rattle.merkle.specs.declared.Rooted.{Rooted}
 
 module _ (H : List ℕ → List ℕ) where
   module _ (n t own : ℕ) (m : List ℕ) where

@@ -13,7 +13,7 @@ use Rattle.erasure.specs.Coding.{share, shares}
 use Rattle.merkle.specs.Shares.{blank, sidesOf, leavesOf, rootOf, pathOf, same}
 use Rattle.packet.specs.Format.{packetOf}
 use Rattle.packet.specs.Inbox.{inboxOf}
-use Rattle.commitment.specs.declared.Rooted.{Rooted}
+use Rattle.merkle.specs.declared.Rooted.{Rooted}
 use Rattle.commitment.specs.declared.Sent.{Sent}
 
 -- causes 1, 2, 3, 4 of n, t, a party's own number and its message's length; 0: none

@@ -19,6 +19,7 @@ use limits::MAX_PATH;
 use limits::MAX_SHARE;
 use merkle::Counted;
 use merkle::Hash;
+use merkle::Rooted;
 
 // The greatest length of all shares of a message together: n is less than 2·b, and b·s less than the message with its length and b.
 const MAX_SHARES: usize = 2 * (MAX_SHARE + MAX_PARTIES);
@@ -28,12 +29,6 @@ const MAX_SHARES: usize = 2 * (MAX_SHARE + MAX_PARTIES);
 pub const MAX_PACKET: usize = 4 + MAX_SHARE + 32 * MAX_PATH;
 
 pub const MAX_OUTBOX: usize = MAX_SHARES + MAX_PARTIES * (6 + 32 * MAX_PATH);
-
-// The root of a message's shares, or the cause for which there is none.
-pub struct Rooted {
-    pub cause: u8,
-    pub root: [u8; 32],
-}
 
 // What a party sends once a root is agreed: whether its message has that root, and how many bytes were written.
 pub struct Sent {
@@ -48,7 +43,7 @@ struct Shares {
     len: usize,
 }
 
-// The root that a party with this number and message puts into the short agreement.
+// The root that a party with this number and message puts into the short agreement, or the cause for which there is none.
 pub fn root(n: usize, t: usize, own: usize, message: &[u8]) -> Rooted
     ensures { λ r. ⌜ r ≡ rootedOf sha256 n t own (now (message .entry)) ⌝ }
 {
@@ -63,10 +58,7 @@ pub fn root(n: usize, t: usize, own: usize, message: &[u8]) -> Rooted
     let size = coded.size;
     let bytes = coded.bytes;
     let leaves = merkle::leaves(n, &bytes[..size]);
-    Rooted {
-        cause: 0,
-        root: merkle::root(n, &leaves),
-    }
+    merkle::root(n, &leaves)
 }
 
 // What a party sends whose message has the agreed root: in step 4 its relay, the packet with its own share, but none where it is alone; or else, in
@@ -96,7 +88,7 @@ pub fn send(
     let bytes = coded.bytes;
     let leaves = merkle::leaves(n, &bytes[..size]);
     let nodes = merkle::nodes(n, &leaves);
-    let top = merkle::root_in(n, &leaves, &nodes);
+    let top = merkle::root_in(n, &leaves, &nodes).root;
     if !check::same(&top, root) {
         return Sent {
             happy: false,

@@ -15,6 +15,7 @@ use Rattle.merkle.specs.Tree.{splitFrom, split, shapeOf, shape, size, si
 use Rattle.merkle.specs.Strings.{Collision}
 use Rattle.merkle.specs.Shares.{leafString, leafStrings, blank, sharesCause, leavesOf, rootOf, sidesOf, pathOf, passes}
 use Rattle.merkle.specs.Shares.{codingStrings, stringsOf, checkOf}
+use Rattle.merkle.specs.Answer.{checked}
 use Rattle.merkle.specs.declared.Checked.the-variants.{Yes}
 use Rattle.merkle.proofs.Depends.{Agree}
 use Rattle.merkle.proofs.Trees.{roots-differ, path-wide, path-passes, path-checks, passes-sound}
@@ -45,7 +46,7 @@ pub second-passes : passes sha256 3 2 second made 2 top ≡ true
 second-passes =
     ap (λ (count : ℕ). passes sha256 3 2 second made count top) (sym two) ∙ path-passes sha256 sha256-length 3 abc fine 2 (lit≤ tt) (lit≤ tt)
 
-pub second-checks : checkOf sha256 3 2 second made 2 top ≡ Yes
+pub second-checks : checkOf sha256 3 2 second made 2 top ≡ checked Yes
 second-checks =
     ap (λ (count : ℕ). checkOf sha256 3 2 second made count top) (sym two) ∙ path-checks sha256 sha256-length 3 abc fine 2 (lit≤ tt) (lit≤ tt)
 

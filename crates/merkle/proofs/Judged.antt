@@ -15,8 +15,8 @@ use Rattle.limits.specs.Limits.{maxParties, maxHashed, parties, numbered}
 use Rattle.limits.proofs.Ranges.{parties-some, parties-range, numbered-within}
 use Rattle.limits.proofs.Booleans.{both}
 use Rattle.merkle.specs.Tree.{folded}
-use Rattle.merkle.specs.Shares.{leafString, leafStrings, blank, sharesCause, leavesOf, sidesOf, same, passes, answerOf, checkOf}
-use Rattle.merkle.specs.declared.Checked.the-variants.{Refused}
+use Rattle.merkle.specs.Shares.{leafString, leafStrings, blank, sharesCause, leavesOf, sidesOf, same, passes, checkOf}
+use Rattle.merkle.specs.Answer.{notChecked, answerOf}
 
 -- n equal shares of len bytes together, within the limits
 pub record Even (n len : ℕ) : Type 0 where
@@ -73,23 +73,23 @@ module _ (H : List ℕ → List ℕ) (n : ℕ) (shares : List ℕ) where
   leaves-fine h = rw (eq-eqb (sharesCause n (length shares)) 0 h)
 
 module _ (H : List ℕ → List ℕ) (n j : ℕ) (share : List ℕ) (path : List (List ℕ)) (count : ℕ) (root : List ℕ) where
-  pub check-parties : parties n ≡ false → checkOf H n j share path count root ≡ Refused 1
+  pub check-parties : parties n ≡ false → checkOf H n j share path count root ≡ notChecked 1
   unfolding checkOf
   check-parties h = rw h
 
   module _ (low : 1 ≤ n) (high : n ≤ maxParties) where
-    pub check-number : numbered n j ≡ false → checkOf H n j share path count root ≡ Refused 3
+    pub check-number : numbered n j ≡ false → checkOf H n j share path count root ≡ notChecked 3
     unfolding checkOf
     check-number h = rw (parties-some n low high, h)
 
     module _ (first : 1 ≤ j) (last : j ≤ n) where
-      pub check-long : maxHashed < 2 + length share → checkOf H n j share path count root ≡ Refused 4
+      pub check-long : maxHashed < 2 + length share → checkOf H n j share path count root ≡ notChecked 4
       unfolding checkOf
       check-long h =
           rw (parties-some n low high, numbered-within n j first last, lt-ltb maxHashed (2 + length share) h)
 
       module _ (short : 2 + length share ≤ maxHashed) where
-        pub check-root : (length root ≡ 32 → ⊥) → checkOf H n j share path count root ≡ Refused 7
+        pub check-root : (length root ≡ 32 → ⊥) → checkOf H n j share path count root ≡ notChecked 7
         unfolding checkOf
         check-root h =
             rw (

@@ -8,9 +8,9 @@ use lib.ListN.{length, replicate}
 use Rattle.limits.specs.Limits.{maxParties, maxPath, parties, numbered}
 use Rattle.limits.proofs.Ranges.{parties-some, numbered-within}
 use Rattle.merkle.specs.Tree.{shape, sides}
-use Rattle.merkle.specs.Hashes.{topHash, pathHashes, nodeHashes, topAt, pathAt}
-use Rattle.merkle.specs.Shares.{blank, nodesOf, rootIn, rootOf, pathLengthOf, pathIn, pathOf}
-use Rattle.merkle.specs.declared.Counted.the-variants.{Refused, Hashes}
+use Rattle.merkle.specs.Hashes.{pathHashes, nodeHashes, topAt, pathAt}
+use Rattle.merkle.specs.Answer.{notCounted, countOf}
+use Rattle.merkle.specs.Shares.{blank, nodesOf, rooted, rootedIn, rootOf, rootedOf, pathLengthOf, pathIn, pathOf}
 
 module _ (H : List ℕ → List ℕ) (n : ℕ) (leaves : List (List ℕ)) where
   pub nodes-parties : parties n ≡ false → nodesOf H n leaves ≡ replicate maxParties blank
@@ -22,30 +22,40 @@ module _ (H : List ℕ → List ℕ) (n : ℕ) (leaves : List (List ℕ)) where
   unfolding nodesOf
   nodes-all low high = rw (parties-some n low high)
 
-  pub root-top : 1 ≤ n → n ≤ maxParties → rootOf H n leaves ≡ topHash H (shape n) 0 leaves
-  unfolding rootOf
-  root-top low high = rw (parties-some n low high)
+module _ (n : ℕ) (top : List ℕ) where
+  pub rooted-parties : parties n ≡ false → rooted n top ≡ record { cause = 1; root = blank }
+  unfolding rooted
+  rooted-parties h = rw h
+
+  pub rooted-some : 1 ≤ n → n ≤ maxParties → rooted n top ≡ record { cause = 0; root = top }
+  unfolding rooted
+  rooted-some low high = rw (parties-some n low high)
+
+pub root-made : (H : List ℕ → List ℕ) (n : ℕ) (leaves : List (List ℕ)) → 1 ≤ n → n ≤ maxParties
+    → rootedOf H n leaves ≡ record { cause = 0; root = rootOf H n leaves }
+unfolding rootedOf
+root-made H n leaves low high = rooted-some n (rootOf H n leaves) low high
 
 module _ (n : ℕ) (leaves nodes : List (List ℕ)) where
-  pub root-parties : parties n ≡ false → rootIn n leaves nodes ≡ blank
-  unfolding rootIn
-  root-parties h = rw h
+  pub root-parties : parties n ≡ false → rootedIn n leaves nodes ≡ record { cause = 1; root = blank }
+  unfolding rootedIn
+  root-parties h = rooted-parties n (topAt (shape n) 0 leaves nodes) h
 
-  pub root-at : 1 ≤ n → n ≤ maxParties → rootIn n leaves nodes ≡ topAt (shape n) 0 leaves nodes
-  unfolding rootIn
-  root-at low high = rw (parties-some n low high)
+  pub root-at : 1 ≤ n → n ≤ maxParties → rootedIn n leaves nodes ≡ record { cause = 0; root = topAt (shape n) 0 leaves nodes }
+  unfolding rootedIn
+  root-at low high = rooted-some n (topAt (shape n) 0 leaves nodes) low high
 
 module _ (n j : ℕ) where
-  pub count-parties : parties n ≡ false → pathLengthOf n j ≡ Refused 1
+  pub count-parties : parties n ≡ false → pathLengthOf n j ≡ notCounted 1
   unfolding pathLengthOf
   count-parties h = rw h
 
   module _ (low : 1 ≤ n) (high : n ≤ maxParties) where
-    pub count-number : numbered n j ≡ false → pathLengthOf n j ≡ Refused 3
+    pub count-number : numbered n j ≡ false → pathLengthOf n j ≡ notCounted 3
     unfolding pathLengthOf
     count-number h = rw (parties-some n low high, h)
 
-    pub count-told : 1 ≤ j → j ≤ n → pathLengthOf n j ≡ Hashes (length (sides (shape n) (j - 1)))
+    pub count-told : 1 ≤ j → j ≤ n → pathLengthOf n j ≡ countOf (length (sides (shape n) (j - 1)))
     unfolding pathLengthOf
     count-told first last = rw (parties-some n low high, numbered-within n j first last)
 

@@ -13,7 +13,7 @@ use Rattle.merkle.specs.Shares.{leafString, leafStrings, blank, sharesCa
 use Rattle.merkle.proofs.Shape.{size-shape}
 use Rattle.merkle.proofs.Judged.{leaves-fine}
 use Rattle.merkle.proofs.Hashes.{Hashed, topHash-root, pathHashes-path}
-use Rattle.merkle.proofs.Outcomes.{root-top, path-hashes}
+use Rattle.merkle.proofs.Outcomes.{path-hashes}
 
 -- a leaf string tells the share's number and the share
 pub leafString-injective : {j k : ℕ} {a b : List ℕ} → leafString j a ≡ leafString k b → (j ≡ k) × (a ≡ b)
@@ -55,8 +55,8 @@ module _ (H : List ℕ → List ℕ) (n : ℕ) (shares : List ℕ) (fine : share
 
     -- the root
     pub tree-root : rootOf H n (leavesOf H n shares) ≡ root H (shape n) (leafStrings n shares)
-    tree-root =
-        root-top H n (leavesOf H n shares) some few ∙ topHash-root H (shape n) 0 (leavesOf H n shares) (leafStrings n shares) hashed
+    unfolding rootOf
+    tree-root = topHash-root H (shape n) 0 (leavesOf H n shares) (leafStrings n shares) hashed
 
     -- the audit path of share j, and blanks
     pub tree-path : (j : ℕ) → 1 ≤ j → j ≤ n → pathOf H n j (leavesOf H n shares)

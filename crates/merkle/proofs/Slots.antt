@@ -11,7 +11,7 @@ use lib.Seq.{length-take-le, drop-cons, drop-drop, append-snoc, take-at, drop-ap
 use Rattle.limits.specs.Limits.{maxParties, parties}
 use Rattle.merkle.specs.Tree.{Shape, leaf, node, split, shape, size, nodeString}
 use Rattle.merkle.specs.Hashes.{topHash, pathHashes, nodeHashes, topAt, pathAt}
-use Rattle.merkle.specs.Shares.{blank, nodesOf, rootIn, rootOf, pathIn, pathOf}
+use Rattle.merkle.specs.Shares.{blank, nodesOf, rooted, rootedIn, rootOf, rootedOf, pathIn, pathOf}
 use Rattle.merkle.proofs.Way.{Way, left, right, way}
 use Rattle.merkle.proofs.Shape.{split-largest, shape-leaf, shape-node, size-shape}
 use Rattle.merkle.proofs.Descend.{drop-replicate}
@@ -98,12 +98,12 @@ module _ (H : List ℕ → List ℕ) where
   lie-all : (n : ℕ) (leaves back : List (List ℕ)) → Lie (shape n) 0 leaves (blank ∷ (nodeHashes H (shape n) 0 leaves ++ back))
   lie-all n leaves back = record { front = blank ∷ []; back = back; start = refl; whole = refl }
 
-  pub root-read : (n : ℕ) (leaves : List (List ℕ)) → rootIn n leaves (nodesOf H n leaves) ≡ rootOf H n leaves
-  unfolding rootIn rootOf nodesOf
+  pub root-read : (n : ℕ) (leaves : List (List ℕ)) → rootedIn n leaves (nodesOf H n leaves) ≡ rootedOf H n leaves
+  unfolding rooted rootedIn rootOf rootedOf nodesOf
   root-read n leaves = go (parties n) refl
     where
-      go : (b : Bool) → parties n ≡ b → rootIn n leaves (nodesOf H n leaves) ≡ rootOf H n leaves
-      go true e = rw e (topAt-read (shape n) 0 leaves _ (lie-all n leaves (replicate (maxParties - n) blank)))
+      go : (b : Bool) → parties n ≡ b → rootedIn n leaves (nodesOf H n leaves) ≡ rootedOf H n leaves
+      go true e = rw (e, topAt-read (shape n) 0 leaves _ (lie-all n leaves (replicate (maxParties - n) blank)))
       go false e = rw e
 
   pub path-read : (n j : ℕ) (leaves : List (List ℕ)) → pathIn n j leaves (nodesOf H n leaves) ≡ pathOf H n j leaves

@@ -10,10 +10,8 @@ use Rattle.buffer.specs.Splice.{tabulate}
 use Rattle.merkle.specs.Tree.{Side, shape, sides, folded}
 use Rattle.merkle.specs.Strings.{treeStrings, checkStrings}
 use Rattle.merkle.specs.Hashes.{topHash, pathHashes, nodeHashes, topAt, pathAt}
-use Rattle.merkle.specs.declared.Counted.{Counted}
-use Rattle.merkle.specs.declared.Counted.the-variants as counted
-use Rattle.merkle.specs.declared.Checked.{Checked}
-use Rattle.merkle.specs.declared.Checked.the-variants as checked
+use Rattle.merkle.specs.Answer.{Count, notCounted, countOf, Check, notChecked, answerOf}
+use Rattle.merkle.specs.declared.Rooted.{Rooted}
 
 -- leaf string: 0x00, the share's number in one byte, the share
 unfoldable pub leafString : ℕ → List ℕ → List ℕ
@@ -41,14 +39,17 @@ abbrev pub sidesOf : ℕ → ℕ → List Side
 sidesOf n j = sides (shape n) (j - 1)
 
 -- how many hashes the audit path of share j of n has: causes 1 and 3
-unfoldable pub pathLengthOf : ℕ → ℕ → Counted
-pathLengthOf n j =
-    cond (not (parties n)) (counted.Refused 1) (cond (not (numbered n j)) (counted.Refused 3) (counted.Hashes (length (sidesOf n j))))
+unfoldable pub pathLengthOf : ℕ → ℕ → Count
+pathLengthOf n j = cond (not (parties n)) (notCounted 1) (cond (not (numbered n j)) (notCounted 3) (countOf (length (sidesOf n j))))
+
+-- a root over n leaf hashes in an answer: cause 1, and a blank, where n is out of its range
+unfoldable pub rooted : ℕ → List ℕ → Rooted
+rooted n top = cond (not (parties n)) (record { cause = 1; root = blank }) (record { cause = 0; root = top })
 
 -- where the root over the first n leaf hashes stands among them and the hashes of their nodes (nodesOf, below: then it is the root, proved in
--- `Slots`); blank where n is out of its range
-unfoldable pub rootIn : ℕ → List (List ℕ) → List (List ℕ) → List ℕ
-rootIn n leaves nodes = cond (parties n) (topAt (shape n) 0 leaves nodes) blank
+-- `Slots`), as an answer
+unfoldable pub rootedIn : ℕ → List (List ℕ) → List (List ℕ) → Rooted
+rootedIn n leaves nodes = rooted n (topAt (shape n) 0 leaves nodes)
 
 -- the audit path of share j, read so, and blanks up to the greatest length of a path; all blank where n or j is out of its range
 unfoldable pub pathIn : ℕ → ℕ → List (List ℕ) → List (List ℕ) → List (List ℕ)
@@ -64,10 +65,6 @@ same [] (b ∷ bs) = false
 same (a ∷ as') [] = false
 same (a ∷ as') (b ∷ bs) = eqb a b && same as' bs
 
-abbrev pub answerOf : Bool → Checked
-answerOf true = checked.Yes
-answerOf false = checked.No
-
 module _ (H : List ℕ → List ℕ) where
   -- the leaf hashes, and blanks up to the greatest number of parties; all blank where a cause applies
   unfoldable pub leavesOf : ℕ → List ℕ → List (List ℕ)
@@ -75,9 +72,12 @@ module _ (H : List ℕ → List ℕ) where
       cond (eqb (sharesCause n (length shares)) 0) (map H (leafStrings n shares) ++ replicate (maxParties - n) blank)
       (replicate maxParties blank)
 
-  -- the root over the first n leaf hashes; blank where n is out of its range
+  -- the root over the first n leaf hashes, and the same as an answer
   unfoldable pub rootOf : ℕ → List (List ℕ) → List ℕ
-  rootOf n leaves = cond (parties n) (topHash H (shape n) 0 leaves) blank
+  rootOf n leaves = topHash H (shape n) 0 leaves
+
+  unfoldable pub rootedOf : ℕ → List (List ℕ) → Rooted
+  rootedOf n leaves = rooted n (rootOf n leaves)
 
   -- the audit path of share j, and blanks up to the greatest length of a path; all blank where n or j is out of its range
   unfoldable pub pathOf : ℕ → ℕ → List (List ℕ) → List (List ℕ)
@@ -107,10 +107,10 @@ module _ (H : List ℕ → List ℕ) where
       cond (eqb count (length (sidesOf n j))) (checkStrings H (sidesOf n j) (take count path) (leafString j share)) []
 
   -- the public check: causes 1, 3, 4 and 7, else yes or no
-  unfoldable pub checkOf : ℕ → ℕ → List ℕ → List (List ℕ) → ℕ → List ℕ → Checked
+  unfoldable pub checkOf : ℕ → ℕ → List ℕ → List (List ℕ) → ℕ → List ℕ → Check
   checkOf n j share path count root =
-      cond (not (parties n)) (checked.Refused 1)
-      (cond (not (numbered n j)) (checked.Refused 3)
-      (cond (ltb maxHashed (2 + length share)) (checked.Refused 4)
-      (cond (not (eqb (length root) 32)) (checked.Refused 7)
+      cond (not (parties n)) (notChecked 1)
+      (cond (not (numbered n j)) (notChecked 3)
+      (cond (ltb maxHashed (2 + length share)) (notChecked 4)
+      (cond (not (eqb (length root) 32)) (notChecked 7)
       (answerOf (passes n j share path count root)))))

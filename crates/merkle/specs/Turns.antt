@@ -3,7 +3,7 @@ use mathlib.Core.Bool.{Bool, true, false}
 use mathlib.Core.List.{List, [], _∷_, _++_}
 use Rattle.merkle.specs.Tree.{Side, onLeft, onRight}
 
--- the side of a sibling, answerOf by whether it stands on the right
+-- the side of a sibling, told by whether it stands on the right
 abbrev pub sideOf : Bool → Side
 sideOf true = onRight
 sideOf false = onLeft

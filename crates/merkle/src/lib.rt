@@ -8,7 +8,8 @@ ghost use Rattle.limits.specs.Limits.{maxParties, maxPath, maxHashed};
 ghost use Rattle.sha256.specs.Sha256.{sha256};
 ghost use Rattle.merkle.specs.Tree.{split, shape, sides, nodeString, folded};
 ghost use Rattle.merkle.specs.Hashes.{nodeHashes, topAt, pathAt};
-ghost use Rattle.merkle.specs.Shares.{leafString, blank, sharesCause, leavesOf, nodesOf, rootIn, rootOf};
+ghost use Rattle.merkle.specs.Answer.{counted, checked};
+ghost use Rattle.merkle.specs.Shares.{leafString, blank, sharesCause, leavesOf, nodesOf, rootedIn, rootedOf};
 ghost use Rattle.merkle.specs.Shares.{pathLengthOf, pathIn, pathOf, same, checkOf};
 ghost use Rattle.merkle.specs.Turns.{upward};
 use limits::MAX_HASHED;
@@ -23,6 +24,14 @@ pub enum Counted {
     // Turned away for this cause of document 01.
     Refused(u8),
     Hashes(usize),
+}
+
+// What `root` and `root_in` answer.
+pub struct Rooted {
+    // 0, or 1 where n is out of its range.
+    pub cause: u8,
+    // The root, or zeros.
+    pub root: Hash,
 }
 
 // The answer of a path check.
@@ -49,7 +58,8 @@ pub fn shares_cause(n: usize, len: usize) -> u8
     0
 }
 
-// The leaf hashes of n shares that lie one behind the other. Blanks stand past them, and everywhere if there is a cause.
+// The leaf hashes of n shares that lie one behind the other. Blanks stand past them, and everywhere if there is a cause. Its number is that of
+// `shares_cause`: a struct that holds an array of arrays would have every function over it proved by hand.
 pub fn leaves(n: usize, shares: &[u8]) -> [Hash; MAX_PARTIES]
     ensures { λ r. ⌜ r ≡ leavesOf sha256 n (now (shares .entry)) ⌝ }
 {
@@ -71,7 +81,7 @@ pub fn leaves(n: usize, shares: &[u8]) -> [Hash; MAX_PARTIES]
 }
 
 // The hashes of the nodes over the first n leaf hashes, each made once. That of a node stands at the place of its right half's first leaf; blanks
-// stand elsewhere, and everywhere if n is out of its range.
+// stand elsewhere, and everywhere if n is out of its range: cause 1, which `root_in` and `path_length` give.
 pub fn nodes(n: usize, leaves: &[Hash; MAX_PARTIES]) -> [Hash; MAX_PARTIES]
     ensures { λ r. ⌜ r ≡ nodesOf sha256 n (now (leaves .entry)) ⌝ }
 {
@@ -82,27 +92,33 @@ pub fn nodes(n: usize, leaves: &[Hash; MAX_PARTIES]) -> [Hash; MAX_PARTIES]
     fill(leaves, 0, n, none)
 }
 
-// The root over the first n leaf hashes, read from them and the nodes' hashes; blank if n is out of its range.
-pub fn root_in(n: usize, leaves: &[Hash; MAX_PARTIES], nodes: &[Hash; MAX_PARTIES]) -> Hash
-    ensures { λ r. ⌜ r ≡ rootIn n (now (leaves .entry)) (now (nodes .entry)) ⌝ }
+// The root over the first n leaf hashes, read from them and the nodes' hashes.
+pub fn root_in(n: usize, leaves: &[Hash; MAX_PARTIES], nodes: &[Hash; MAX_PARTIES]) -> Rooted
+    ensures { λ r. ⌜ r ≡ rootedIn n (now (leaves .entry)) (now (nodes .entry)) ⌝ }
 {
     if !limits::parties(n) {
-        return [0; 32];
+        return Rooted {
+            cause: 1,
+            root: [0; 32],
+        };
     }
-    top_at(leaves, nodes, 0, n)
+    Rooted {
+        cause: 0,
+        root: top_at(leaves, nodes, 0, n),
+    }
 }
 
-// The root over the first n leaf hashes; blank if n is out of its range.
-pub fn root(n: usize, leaves: &[Hash; MAX_PARTIES]) -> Hash
-    ensures { λ r. ⌜ r ≡ rootOf sha256 n (now (leaves .entry)) ⌝ }
+// The root over the first n leaf hashes.
+pub fn root(n: usize, leaves: &[Hash; MAX_PARTIES]) -> Rooted
+    ensures { λ r. ⌜ r ≡ rootedOf sha256 n (now (leaves .entry)) ⌝ }
 {
     let all = nodes(n, leaves);
     root_in(n, leaves, &all)
 }
 
-// The length of the audit path of share j of n.
+// The length of the audit path of share j of n, or the cause for which there is no such path.
 pub fn path_length(n: usize, j: usize) -> Counted
-    ensures { λ r. ⌜ r ≡ pathLengthOf n j ⌝ }
+    ensures { λ r. ⌜ counted r ≡ pathLengthOf n j ⌝ }
 {
     if !limits::parties(n) {
         return Counted::Refused(1);
@@ -115,7 +131,7 @@ pub fn path_length(n: usize, j: usize) -> Counted
 }
 
 // The audit path of share j, from the leaf upward, read from the hashes of leaves and nodes. Blanks stand past it, and everywhere if n or j is
-// out of its range.
+// out of its range. The cause is that of `path_length`, as is the count: by document 01 no struct field holds a path.
 pub fn path_in(
     n: usize,
     j: usize,
@@ -134,7 +150,8 @@ pub fn path_in(
     siblings(leaves, nodes, n, j - 1, way.count)
 }
 
-// The audit path of share j, from the leaf upward. Blanks stand past it, and everywhere if n or j is out of its range.
+// The audit path of share j, from the leaf upward. Blanks stand past it, and everywhere if n or j is out of its range. Cause and count are those of
+// `path_length`, as for `path_in`.
 pub fn path(n: usize, j: usize, leaves: &[Hash; MAX_PARTIES]) -> [Hash; MAX_PATH]
     ensures { λ r. ⌜ r ≡ pathOf sha256 n j (now (leaves .entry)) ⌝ }
 {
@@ -151,7 +168,7 @@ pub fn check(
     count: usize,
     root: &[u8],
 ) -> Checked
-    ensures { λ r. ⌜ r ≡ checkOf sha256 n j (now (share .entry)) path count (now (root .entry)) ⌝ }
+    ensures { λ r. ⌜ checked r ≡ checkOf sha256 n j (now (share .entry)) path count (now (root .entry)) ⌝ }
 {
     if !limits::parties(n) {
         return Checked::Refused(1);

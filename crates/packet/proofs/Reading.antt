@@ -15,6 +15,8 @@ use Rattle.limits.proofs.Ranges.{parties-some, numbered-within, numbered-range}
 use Rattle.buffer.specs.Entries.{size}
 use Rattle.buffer.proofs.Entries.{size-drop}
 use Rattle.merkle.specs.Shares.{sidesOf, pathLengthOf}
+use Rattle.merkle.specs.Answer.{Count, counted, notCounted, countOf}
+use Rattle.merkle.specs.declared.Counted.{Counted}
 use Rattle.merkle.specs.declared.Counted.the-variants as count
 use Rattle.merkle.proofs.Sound.{Wide}
 use Rattle.packet.specs.Format.{Reading, silence, unreadable, shared, hashes, numberIn, lengthIn, countIn, shareIn, readOf}
@@ -162,26 +164,29 @@ module _ (n : ℕ) (s : List ℕ) (at : ℕ) where
   at-read low high = rw (parties-some n low high)
 
 -- which of the two answers it is
-refused : (t : Bool) (c k : ℕ) → cond (not t) (count.Refused 3) (count.Hashes c) ≡ count.Refused k → t ≡ false
+refused : (t : Bool) (c k : ℕ) → cond (not t) (notCounted 3) (countOf c) .answer ≡ count.Refused k → t ≡ false
 refused true c k e = absurd (let z : _≡_ {A = ℕ} 0 1 = cc in omega arith)
 refused false c k e = refl
 
-hashed : (t : Bool) (c k : ℕ) → cond (not t) (count.Refused 3) (count.Hashes c) ≡ count.Hashes k → (t ≡ true) × (k ≡ c)
+hashed : (t : Bool) (c k : ℕ) → cond (not t) (notCounted 3) (countOf c) .answer ≡ count.Hashes k → (t ≡ true) × (k ≡ c)
 hashed true c k e = (refl, cc)
 hashed false c k e = absurd (let z : _≡_ {A = ℕ} 0 1 = cc in omega arith)
 
 -- the length of a path is told just where the number is that of a party
-module _ (n j : ℕ) (low : 1 ≤ n) (high : n ≤ maxParties) where
-  within : pathLengthOf n j ≡ cond (not (numbered n j)) (count.Refused 3) (count.Hashes (length (sidesOf n j)))
+module _ (n j : ℕ) (low : 1 ≤ n) (high : n ≤ maxParties) (r : Counted) (told : counted r ≡ pathLengthOf n j) where
+  ranged : pathLengthOf n j ≡ cond (not (numbered n j)) (notCounted 3) (countOf (length (sidesOf n j)))
   unfolding pathLengthOf
-  within = rw (parties-some n low high)
+  ranged = rw (parties-some n low high)
 
-  pub count-refused : (k : ℕ) → pathLengthOf n j ≡ count.Refused k → numbered n j ≡ false
-  count-refused k e = refused (numbered n j) (length (sidesOf n j)) k (sym within ∙ e)
+  within : cond (not (numbered n j)) (notCounted 3) (countOf (length (sidesOf n j))) .answer ≡ r
+  within = sym (ap (λ (c : Count). c .answer) (told ∙ ranged))
 
-  pub count-hashes : (k : ℕ) → pathLengthOf n j ≡ count.Hashes k → (1 ≤ j) × (j ≤ n) × (k ≡ length (sidesOf n j))
+  pub count-refused : (k : ℕ) → r ≡ count.Refused k → numbered n j ≡ false
+  count-refused k e = refused (numbered n j) (length (sidesOf n j)) k (within ∙ e)
+
+  pub count-hashes : (k : ℕ) → r ≡ count.Hashes k → (1 ≤ j) × (j ≤ n) × (k ≡ length (sidesOf n j))
   count-hashes k e =
-      let h = hashed (numbered n j) (length (sidesOf n j)) k (sym within ∙ e) in
+      let h = hashed (numbered n j) (length (sidesOf n j)) k (within ∙ e) in
       let (first, last) = numbered-range n j (h .0) in (first, last, h .1)
 
 -- p is the packet of a share among n parties

@@ -16,12 +16,12 @@ use Rattle.limits.specs.Limits.{maxParties, maxShare, maxPath, parties, numbere
 use Rattle.limits.proofs.Ranges.{parties-some, numbered-within}
 use Rattle.buffer.proofs.Parts.{length-part}
 use Rattle.merkle.specs.Shares.{passes}
-use Rattle.merkle.specs.Shares as shares
+use Rattle.merkle.specs.Answer.{Check, checked, answerOf}
 use Rattle.merkle.proofs.Checked.{the-type as checked-type}
 use Rattle.merkle.proofs.Descend.{sides-fit}
 use Rattle.merkle.proofs.Judged.{passes-miscount}
 use Rattle.merkle.specs.declared.Checked.{Checked}
-use Rattle.merkle.specs.declared.Checked.the-variants as checked
+use Rattle.merkle.specs.declared.Checked.the-variants as check
 use Rattle.packet.specs.Format.{Reading, silence, unreadable, shared, hashes, readOf}
 use Rattle.packet.specs.Class.{Class, silent, faulty, valid, judged, classOf}
 use Rattle.packet.specs.Answer.{placed, Verdict, verdict, verdictOn, judgeOf}
@@ -48,13 +48,13 @@ passes-take n j x p r c z e =
     rw (take-at p r c e, take-all c p h)
 
 -- a check that answers yes passed, and one that answers otherwise did not
-pub told-true : (t : Bool) → shares.answerOf t ≡ checked.Yes → t ≡ true
-told-true true e = refl
-told-true false e = absurd (let z : _≡_ {A = ℕ} 0 1 = cc in omega arith)
+pub told-true : (x : Checked) (t : Bool) → checked x ≡ answerOf t → x ≡ check.Yes → t ≡ true
+told-true x t e y = sym (ap (λ (c : Check). c .passed) (ap checked (sym y) ∙ e))
 
-pub told-false : (x : Checked) (t : Bool) → x ≡ shares.answerOf t → OneOf (0 ∷ 1 ∷ []) (tagOf checked-type x) → t ≡ false
-told-false x true e k = absurd (miss (0 ∷ 1 ∷ []) 2 tt (subst (λ (y : Checked). OneOf (0 ∷ 1 ∷ []) (tagOf checked-type y)) e k))
-told-false x false e k = refl
+pub told-false : (x : Checked) (t : Bool) → checked x ≡ answerOf t → OneOf (0 ∷ 1 ∷ []) (tagOf checked-type x) → t ≡ false
+told-false (check.Refused i) t e k = sym (ap (λ (c : Check). c .passed) e)
+told-false check.No t e k = sym (ap (λ (c : Check). c .passed) e)
+told-false check.Yes t e k = absurd (miss (0 ∷ 1 ∷ []) 2 tt k)
 
 -- the last of four tests fails
 last-fails : (a b c d : Bool) → d ≡ false → cond (a && b && c && d) Valid Faulty ≡ Faulty

@@ -6,6 +6,7 @@ use Prim.Native.Nat.{ℕ}
 use lib.ListN.{length}
 use Rattle.sha256.specs.Sha256.{sha256}
 use Rattle.erasure.specs.Cases as erasure
+use Rattle.merkle.specs.Answer.{counted}
 use Rattle.merkle.specs.Shares.{pathLengthOf}
 use Rattle.merkle.specs.declared.Counted.the-variants.{Hashes}
 use Rattle.party.specs.Steps.{openOf}
@@ -18,7 +19,7 @@ pub record Cases : Type 0 where
   -- the field, the shares and the rebuilding
   pub coding : erasure.Cases
   -- path lengths for n 3: 2, 2, 1
-  pub path-lengths : map (pathLengthOf 3) (1 ∷ 2 ∷ 3 ∷ []) ≡ Hashes 2 ∷ Hashes 2 ∷ Hashes 1 ∷ []
+  pub path-lengths : map (pathLengthOf 3) (1 ∷ 2 ∷ 3 ∷ []) ≡ map (λ (k : ℕ). counted (Hashes k)) (2 ∷ 2 ∷ 1 ∷ [])
   -- n 16, t 7 taken; t 8 is cause 2. n 17 is cause 1
   pub sixteen : causeOf 16 7 [] ≡ 0
   pub eight-faults : causeOf 16 8 [] ≡ 2

@@ -15,13 +15,13 @@ ghost use Rattle.party.specs.Steps.{turnOf, stateCause, inboxCause, firs
 ghost use Rattle.party.specs.Steps.{stepped, writes, ending, openOf, agreeRootOf, agreeBitOf, takeSharesOf, takeRelaysOf};
 ghost use Rattle.party.specs.Private.{Fit, TakenIs, Gathered, after};
 use buffer::Written;
-use commitment::Rooted;
 use commitment::Sent;
 use erasure::Places;
 use limits::MAX_MESSAGE;
 use limits::MAX_PARTIES;
 use limits::MAX_SHARE;
 use merkle::Hash;
+use merkle::Rooted;
 use packet::Entry;
 use packet::Judged;
 use packet::Packet;

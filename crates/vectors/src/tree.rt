@@ -62,7 +62,7 @@ fn tree(input: &[u8], out: &mut [u8]) -> usize {
     let shares = &input[1..];
     let cause = [merkle::shares_cause(n, shares.len()); 1];
     let leaves = merkle::leaves(n, shares);
-    let root = merkle::root(n, &leaves);
+    let root = merkle::root(n, &leaves).root;
     buffer::put(out, 0, &cause);
     buffer::put(out, 1, &root);
     put_paths(n, &leaves, out);

@@ -1,12 +1,13 @@
 -- `capi::cipangohu_check_path` meets its contract: by whether the path is of whole hashes. Assumes nothing.
-use mathlib.Core.Path.{_≡_, sym, ap, _∙_}
+use mathlib.Core.Path.{_≡_, sym, ap, ap₂, _∙_}
 use mathlib.Core.List.{List}
 use Prim.Native.Nat.{ℕ, _/_}
 use lib.ListN.{length}
 use Rattle.sha256.specs.Sha256.{sha256}
+use Rattle.merkle.specs.Answer.{Check, checked}
 use Rattle.merkle.specs.Shares.{checkOf}
 use Rattle.packet.specs.Format.{hashes}
-use Rattle.capi.specs.Calls.{checkAnswer, denied}
+use Rattle.capi.specs.Calls.{checkAnswer}
 use Rattle.capi.proofs.Tools.{path-checked, check-uneven, check-whole}
 use borrow.Author.Needs.{needs}
 use Rattle.capi.proofs.cipangohu_check_path.Statement.{statement}
@@ -17,7 +18,7 @@ abbrev Entry : tie.After-check → tie.Start
 Entry d = d .before .before .before .before .before
 
 judged : (d : tie.After-check) → let a = Entry d .args in
-    d .check .result
+    checked (d .check .result)
     ≡ checkOf sha256 (a .n) (a .j) (a .share .now) (hashes (length (a .path .now) / 32) (a .path .now)) (length (a .path .now) / 32)
     (a .root .now)
 judged d =
@@ -43,7 +44,8 @@ returns : tie.Need-returns
 returns c = let i = c .before .before in
     let d = i .before in
     let a = Entry d .args in
-    c .check-answer .ensures ∙ ap checkAnswer (c .before .denied .ensures ∙ ap denied (judged d))
+    c .check-answer .ensures
+    ∙ ap₂ checkAnswer (c .before .denied .ensures .0 ∙ ap (λ (r : Check). r .cause) (judged d)) (c .before .denied .ensures .1)
     ∙ sym (check-uneven (a .n) (a .j) (a .share .now) (a .path .now) (a .root .now) (i .if1 .taken))
 
 check-answer-requires-2 : tie.Need-check-answer-requires-2
@@ -52,7 +54,7 @@ check-answer-requires-2 c κs = search needs
 returns-2 : tie.Need-returns-2
 returns-2 c = let d = c .before .before in
     let a = Entry d .args in
-    c .check-answer2 .ensures ∙ ap checkAnswer (judged d)
+    c .check-answer2 .ensures ∙ ap (λ (r : Check). checkAnswer (r .cause) (r .passed)) (judged d)
     ∙ sym (check-whole (a .n) (a .j) (a .share .now) (a .path .now) (a .root .now) (c .before .if1 .left))
 
 pub cipangohu-check-path-spec : {M : Type 1} → statement M

@@ -1,6 +1,6 @@
 -- `capi::denied` meets its contract: one case for each answer. Assumes nothing.
-use mathlib.Core.Path.{sym, ap}
-use Rattle.capi.specs.Calls.{denied}
+use mathlib.Core.Path.{refl, sym, ap}
+use Rattle.merkle.specs.Answer.{checkCause}
 use borrow.Author.Needs.{needs}
 use Rattle.capi.proofs.denied.Statement.{statement}
 use Rattle.capi.proofs.denied.Tie as tie
@@ -15,7 +15,7 @@ enum-told-2 : tie.Need-enum-told-2
 enum-told-2 c = search needs
 
 returns : tie.Need-returns
-returns c = sym (ap denied (c .before .answer .given .1))
+returns c = (sym (ap checkCause (c .before .answer .given .1)), refl)
 
 returns-2 : tie.Need-returns-2
 returns-2 c = search needs

@@ -30,8 +30,7 @@ enum-told c = search needs
 returns-2 : tie.Need-returns-2
 returns-2 c =
     let q = c .before .before in
-    absurd (never-refused _ _ (omega arith) (omega arith) (omega arith) (omega arith) _
-    (sym (q .path-length .ensures) ∙ c .enum-told .given .1))
+    absurd (never-refused _ _ (omega arith) (omega arith) (omega arith) (omega arith) _ (q .path-length .ensures) _ (c .enum-told .given .1))
 
 add-result : tie.Need-add-result
 add-result c = search needs
@@ -47,8 +46,7 @@ hashes : (q : tie.After-known-told) → let a = Entry q .args in
     (q .before .count .given .0 .0 ≡ length (sidesOf (a .n) (a .j))) × (length (sidesOf (a .n) (a .j)) ≤ maxPath)
 hashes q =
     let a = Entry q .args in
-    let h = count-hashes _ _ (omega arith) (omega arith) _
-    (sym (q .before .before .before .path-length .ensures) ∙ q .before .count .given .1) in
+    let h = count-hashes _ _ (omega arith) (omega arith) _ (q .before .before .before .path-length .ensures) _ (q .before .count .given .1) in
     (h .2, sides-fit (a .n) (a .j - 1) (omega arith) (omega arith))
 
 mul-result : tie.Need-mul-result

@@ -46,8 +46,7 @@ enum-told c = search needs
 returns-2 : tie.Need-returns-2
 returns-2 c =
     let q = c .before .before in
-    absurd (never-refused _ _ (omega arith) (omega arith) (omega arith) (omega arith) _
-    (sym (q .path-length .ensures) ∙ c .enum-told .given .1))
+    absurd (never-refused _ _ (omega arith) (omega arith) (omega arith) (omega arith) _ (q .path-length .ensures) _ (c .enum-told .given .1))
 
 path-in-requires : tie.Need-path-in-requires
 path-in-requires c κs = search needs
@@ -92,8 +91,7 @@ returns-3 c =
     let a = st .args in
     let out = a .out .now in
     let count = q .count .given .0 .0 in
-    let h = count-hashes (a .n) (a .own) (omega arith) (omega arith) count
-    (sym (q .before .before .path-length .ensures) ∙ q .count .given .1) in
+    let h = count-hashes (a .n) (a .own) (omega arith) (omega arith) _ (q .before .before .path-length .ensures) count (q .count .given .1) in
     let from = (a .own - 1) * a .len in
     let share = take (a .len) (drop from (a .shares .now)) in
     let way = pathOf sha256 (a .n) (a .own) (a .leaves .now) in

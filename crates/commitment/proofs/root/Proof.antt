@@ -1,16 +1,16 @@
 -- `commitment::root` meets its contract: a refusal, or the root over the leaves of the message's shares. Assumes nothing.
 use mathlib.Core.Path.{_≡_, sym, ap, _∙_}
-use mathlib.Core.List.{List}
 use Prim.Native.Nat.{ℕ}
 use native.Mathlib.Omega.{arith}
 use borrow.Author.Needs.{needs}
 use lib.ListN.{length}
 use lib.Seq.{length-take-le}
 use Rattle.sha256.specs.Sha256.{sha256}
-use Rattle.merkle.specs.Shares.{blank, leavesOf, rootOf}
+use Rattle.merkle.specs.Shares.{blank, leavesOf, rootedOf}
+use Rattle.merkle.proofs.Outcomes.{root-made}
 use Rattle.commitment.specs.Commitment.{openCause, messageRoot}
 use Rattle.commitment.specs.Rooms.{maxShares}
-use Rattle.commitment.specs.declared.Rooted.{Rooted}
+use Rattle.merkle.specs.declared.Rooted.{Rooted}
 use Rattle.commitment.proofs.Opening.{open-coded}
 use Rattle.commitment.proofs.Outcomes.{rooted-refused, rooted-given}
 use Rattle.commitment.proofs.root.Statement.{statement}
@@ -58,8 +58,10 @@ returns-2 c =
     let q = l .before .before .before in
     let e = q .before in
     let a = e .before .before .before .args in
-    ap {B = Rooted} (λ (r : List ℕ). record { cause = 0; root = r })
-    (c .root .ensures ∙ ap (rootOf sha256 (a .n)) (l .leaves .ensures ∙ ap (leavesOf sha256 (a .n)) (q .code .ensures .1)))
+    let w = open-coded (a .n) (a .t) (a .own) (a .message .now) (fine e) in
+    c .root .ensures
+    ∙ ap (rootedOf sha256 (a .n)) (l .leaves .ensures ∙ ap (leavesOf sha256 (a .n)) (q .code .ensures .1))
+    ∙ root-made sha256 (a .n) _ (w .low) (w .high)
     ∙ sym (rooted-given sha256 (a .n) (a .t) (a .own) (a .message .now) (fine e))
 
 pub root-spec : {M : Type 1} → statement M

@@ -14,7 +14,9 @@ use Rattle.limits.specs.Limits.{maxShare}
 use Rattle.buffer.specs.Given.{gave, written}
 use Rattle.buffer.specs.declared.Written.the-variants.{Refused}
 use Rattle.erasure.specs.Coding.{shareLength, shares}
-use Rattle.merkle.specs.Shares.{leavesOf, nodesOf, rootIn, same}
+use Rattle.merkle.specs.Shares.{leavesOf, nodesOf, rootedIn, same}
+use Rattle.merkle.specs.declared.Rooted.{Rooted}
+use Rattle.merkle.proofs.Outcomes.{root-made}
 use Rattle.merkle.proofs.Slots.{root-read}
 use Rattle.commitment.specs.Commitment.{openCause, leavesFor, messageRoot, sending, mailWith, sendOf}
 use Rattle.commitment.specs.Rooms.{maxShares}
@@ -66,27 +68,32 @@ abbrev Leaves : tie.After-root-in → tie.After-leaves
 Leaves r = r .before .before .before .before .before
 
 root-is : (r : tie.After-root-in) → let a = Entry (Leaves r .before .before .before .before .before) .args in
-    r .root-in .result ≡ messageRoot sha256 (a .n) (a .t) (a .message .now)
+    r .root-in .result .root ≡ messageRoot sha256 (a .n) (a .t) (a .message .now)
 unfolding messageRoot
 root-is r =
     let l = Leaves r in
-    let n = Entry (l .before .before .before .before .before) .args .n in
+    let e = l .before .before .before .before in
+    let n = Entry (e .before) .args .n in
     let d = r .before .before .before in
-    r .root-in .ensures
-    ∙ ap (rootIn n (l .leaves .result)) (d .nodes .ensures)
-    ∙ ap (λ (ls : List (List ℕ)). rootIn n ls (nodesOf sha256 n ls)) (leaves-are l)
+    ap (λ (x : Rooted). x .root) (r .root-in .ensures
+    ∙ ap (rootedIn n (l .leaves .result)) (d .nodes .ensures)
+    ∙ ap (λ (ls : List (List ℕ)). rootedIn n ls (nodesOf sha256 n ls)) (leaves-are l)
     ∙ root-read sha256 n _
+    ∙ root-made sha256 n _ (within e .low) (within e .high))
 
 -- whether the message has the agreed root
+abbrev Root : tie.After-same → tie.After-root-in
+Root s = s .before .before .before .before
+
 abbrev Cause : tie.After-same → tie.Else1
-Cause s = Leaves (s .before .before .before) .before .before .before .before
+Cause s = Leaves (Root s) .before .before .before .before
 
 happy-is : (s : tie.After-same) → let st = Entry (Cause s .before) in
     s .same .result ≡ same (messageRoot sha256 (st .args .n) (st .args .t) (M st)) (st .args .root .now)
 happy-is s =
     let st = Entry (Cause s .before) in
-    same-is (s .before .before .before .root-in .result) (st .args .root .now) (s .same .result) (s .same .ensures .0) (s .same .ensures .1)
-    ∙ ap (λ (r : List ℕ). same r (st .args .root .now)) (root-is (s .before .before .before))
+    same-is (Root s .root-in .result .root) (st .args .root .now) (s .same .result) (s .same .ensures .0) (s .same .ensures .1)
+    ∙ ap (λ (r : List ℕ). same r (st .args .root .now)) (root-is (Root s))
 
 open-cause-requires : tie.Need-open-cause-requires
 open-cause-requires c κs = search needs
@@ -145,7 +152,7 @@ given s b =
 
 -- the shares handed over, their number and length, and the nodes over their leaves
 abbrev Coding : tie.Else2 → tie.After-code
-Coding s = Leaves (s .before .before .before .before) .before .before .before
+Coding s = Leaves (Root (s .before)) .before .before .before
 
 sized : (s : tie.Else2) → let q = Coding s in let n = Entry (q .before .before) .args .n in
     (1 ≤ q .code .result .len) × (q .code .result .len ≤ maxShare) × (length (take (q .code .result .size) (q .code .result .bytes)) ≡ n * q .code .result .len)
@@ -159,20 +166,20 @@ sized s =
       all q ∙ q .code .ensures .3,
     )
 
-nodes-are : (s : tie.Else2) → let r = s .before .before .before .before in let l = Leaves r in
+nodes-are : (s : tie.Else2) → let r = Root (s .before) in let l = Leaves r in
     r .before .before .before .nodes .result ≡ nodesOf sha256 (Entry (Coding s .before .before) .args .n) (l .leaves .result)
-nodes-are s = s .before .before .before .before .before .before .before .nodes .ensures
+nodes-are s = Root (s .before) .before .before .before .nodes .ensures
 
 -- the relay and the outbox over these are those of the message
 relayed : (s : tie.Else2) → let q = Coding s in let st = Entry (q .before .before) in let r = q .code .result in
-    relayFor sha256 (st .args .n) (st .args .own) (r .len) (take (r .size) (r .bytes)) (Leaves (s .before .before .before .before) .leaves .result)
+    relayFor sha256 (st .args .n) (st .args .own) (r .len) (take (r .size) (r .bytes)) (Leaves (Root (s .before)) .leaves .result)
     ≡ Bytes true st
 relayed s =
     let q = Coding s in
     let e = q .before in
     let st = Entry (e .before) in
     let a = st .args in
-    let l = Leaves (s .before .before .before .before) in
+    let l = Leaves (Root (s .before)) in
     let b = open-bounds (a .n) (a .t) (a .own) (length (M st)) (fine e) in
     ap₂ (λ (k : ℕ) (all : List ℕ). relayFor sha256 (a .n) (a .own) k all (l .leaves .result)) (q .code .ensures .2) (q .code .ensures .1)
     ∙ ap (relayFor sha256 (a .n) (a .own) (shareLength (a .n - a .t) (length (M st))) (shares (a .n) (a .n - a .t) (M st))) (leaves-are l)
@@ -180,14 +187,14 @@ relayed s =
 
 sent-out : (s : tie.Else2) → let q = Coding s in let st = Entry (q .before .before) in let r = q .code .result in
     outboxUpTo sha256 (st .args .n) (st .args .n) (st .args .own) (r .len) (take (r .size) (r .bytes))
-    (Leaves (s .before .before .before .before) .leaves .result)
+    (Leaves (Root (s .before)) .leaves .result)
     ≡ Bytes false st
 sent-out s =
     let q = Coding s in
     let e = q .before in
     let st = Entry (e .before) in
     let a = st .args in
-    let l = Leaves (s .before .before .before .before) in
+    let l = Leaves (Root (s .before)) in
     ap₂ (λ (k : ℕ) (all : List ℕ). outboxUpTo sha256 (a .n) (a .n) (a .own) k all (l .leaves .result)) (q .code .ensures .2)
     (q .code .ensures .1)
     ∙ ap (outboxUpTo sha256 (a .n) (a .n) (a .own) (shareLength (a .n - a .t) (length (M st))) (shares (a .n) (a .n - a .t) (M st)))
@@ -236,7 +243,7 @@ put-outbox-requires c κs =
     let e = Coding s .before in
     let w = within e in
     let z = sized s in
-    (w .low, w .high, z .0, z .1, z .2, Leaves (s .before .before .before .before) .leaves .ensures, nodes-are s)
+    (w .low, w .high, z .0, z .1, z .2, Leaves (Root (s .before)) .leaves .ensures, nodes-are s)
 
 same-length-2 : tie.Need-same-length-2
 same-length-2 c = search needs

@@ -59,8 +59,7 @@ enum-told c = search needs
 returns-2 : tie.Need-returns-2
 returns-2 c =
     let q = c .before .before in
-    absurd (never-refused _ _ (omega arith) (omega arith) (omega arith) (omega arith) _
-    (sym (q .path-length .ensures) ∙ c .enum-told .given .1))
+    absurd (never-refused _ _ (omega arith) (omega arith) (omega arith) (omega arith) _ (q .path-length .ensures) _ (c .enum-told .given .1))
 
 path-in-requires : tie.Need-path-in-requires
 path-in-requires c κs = search needs
@@ -81,8 +80,7 @@ wrote w =
     let p = w .before .before in
     let q = p .before .before in
     let count = q .count .given .0 .0 in
-    let h = count-hashes (a .n) (a .j) (omega arith) (omega arith) count
-    (sym (q .before .before .path-length .ensures) ∙ q .count .given .1) in
+    let h = count-hashes (a .n) (a .j) (omega arith) (omega arith) _ (q .before .before .path-length .ensures) count (q .count .given .1) in
     w .write-entry .ensures
     ∙ ap (λ (l : List (List ℕ)). writeEntryOf (a .n) (a .j) (a .share .now) l count (a .out .now))
     (p .path-in .ensures ∙ ap (pathIn (a .n) (a .j) (a .leaves .now)) (Entry w .pre .6) ∙ path-read sha256 (a .n) (a .j) (a .leaves .now))

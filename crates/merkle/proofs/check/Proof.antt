@@ -10,7 +10,8 @@ use Rattle.limits.proofs.Booleans.{denied}
 use Rattle.limits.proofs.Ranges.{parties-told, numbered-told}
 use Rattle.sha256.specs.Sha256.{sha256}
 use Rattle.merkle.specs.Tree.{folded}
-use Rattle.merkle.specs.Shares.{leafString, sidesOf, same, passes, answerOf, checkOf}
+use Rattle.merkle.specs.Shares.{leafString, sidesOf, same, passes, checkOf}
+use Rattle.merkle.specs.Answer.{answerOf}
 use Rattle.merkle.proofs.Judged.{check-parties, check-number, check-long, check-root, check-judged}
 use Rattle.merkle.proofs.Judged.{passes-miscount, passes-same}
 use Rattle.merkle.proofs.Upward.{folded-same}

@@ -6,7 +6,7 @@ use borrow.Author.Needs.{needs}
 use Rattle.limits.specs.Limits.{maxParties}
 use Rattle.limits.proofs.Booleans.{denied}
 use Rattle.limits.proofs.Ranges.{parties-told, numbered-told}
-use Rattle.merkle.specs.declared.Counted.the-variants.{Hashes}
+use Rattle.merkle.specs.Answer.{countOf}
 use Rattle.merkle.proofs.Outcomes.{count-parties, count-number, count-told}
 use Rattle.merkle.proofs.path_length.Statement.{statement}
 use Rattle.merkle.proofs.path_length.Tie as tie
@@ -43,7 +43,7 @@ returns-3 c =
     let e = c .before in
     let r = range (e .before .before) in
     let p = place e in
-    ap Hashes (c .way-down .ensures .1) ∙ sym (count-told _ _ (r .0) (r .1) (p .0) (p .1))
+    ap countOf (c .way-down .ensures .1) ∙ sym (count-told _ _ (r .0) (r .1) (p .0) (p .1))
 
 pub path-length-spec : {M : Type 1} → statement M
 path-length-spec =

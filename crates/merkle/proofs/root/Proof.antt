@@ -2,7 +2,7 @@
 use mathlib.Core.Path.{ap, _∙_}
 use borrow.Author.Needs.{needs}
 use Rattle.sha256.specs.Sha256.{sha256}
-use Rattle.merkle.specs.Shares.{rootIn}
+use Rattle.merkle.specs.Shares.{rootedIn}
 use Rattle.merkle.proofs.Slots.{root-read}
 use Rattle.merkle.proofs.root.Statement.{statement}
 use Rattle.merkle.proofs.root.Tie as tie
@@ -17,7 +17,7 @@ returns : tie.Need-returns
 returns c =
     let v = c .before .before in
     let a = v .before .args in
-    c .root-in .ensures ∙ ap (rootIn (a .n) (a .leaves .now)) (v .nodes .ensures) ∙ root-read sha256 (a .n) (a .leaves .now)
+    c .root-in .ensures ∙ ap (rootedIn (a .n) (a .leaves .now)) (v .nodes .ensures) ∙ root-read sha256 (a .n) (a .leaves .now)
 
 pub root-spec : {M : Type 1} → statement M
 root-spec = tie.close (tie.spec nodes-requires root-in-requires returns)

@@ -8,7 +8,8 @@ use native.Mathlib.Omega.{arith}
 use lib.ListN.{length, take, drop, length-drop, replicate}
 use lib.Seq.{length-take-le}
 use Rattle.limits.specs.Limits.{maxPath}
-use Rattle.merkle.specs.Shares.{blank, passes, answerOf, checkOf}
+use Rattle.merkle.specs.Shares.{blank, passes, checkOf}
+use Rattle.merkle.specs.Answer.{checked, answerOf}
 use Rattle.merkle.proofs.Judged.{check-judged}
 use Rattle.packet.specs.Format.{hashes}
 use Rattle.packet.proofs.Path.{padded, path-there, length-hashes}
@@ -54,14 +55,14 @@ long k =
 
 -- what is checked; only the hashes counted matter
 asked : (k : tie.After-check) → let a = Entry k .args in
-    k .check .result
+    checked (k .check .result)
     ≡ checkOf sha256 (a .n) (a .j) (take (a .from + a .len - a .from) (drop (a .from) (a .s .now))) (k .before .before .path-at .result)
     (a .count) (a .root .now)
 asked k = k .check .ensures
 
-checked : (k : tie.After-check) → let a = Entry k .args in
-    k .check .result ≡ checkOf sha256 (a .n) (a .j) (X k) (Path k) (a .count) (a .root .now)
-checked k =
+told : (k : tie.After-check) → let a = Entry k .args in
+    checked (k .check .result) ≡ checkOf sha256 (a .n) (a .j) (X k) (Path k) (a .count) (a .root .now)
+told k =
     let a = Entry k .args in
     asked k
     ∙ ap₂ (λ (x : List ℕ) (p : List (List ℕ)). checkOf sha256 (a .n) (a .j) x p (a .count) (a .root .now)) (part k) (there k)
@@ -74,11 +75,11 @@ judged k =
     check-judged sha256 (a .n) (a .j) (X k) (Path k) (a .count) (a .root .now)
     (omega arith) (omega arith) (omega arith) (omega arith) (omega (arith, long k)) (omega arith)
 
-answer : (k : tie.After-check) → k .check .result ≡ answerOf (Leads k)
+answer : (k : tie.After-check) → checked (k .check .result) ≡ answerOf (Leads k)
 answer k =
     let a = Entry k .args in
     let r = drop (a .from + a .len) (a .s .now) in
-    checked k ∙ judged k
+    told k ∙ judged k
     ∙ ap answerOf (passes-take (a .n) (a .j) (X k) (hashes (a .count) r) (replicate (maxPath - a .count) blank)
     (a .count) (a .root .now) (length-hashes (a .count) r))
 
@@ -137,7 +138,7 @@ returns-5 c =
     let k = c .before .before in
     let a = Entry k .args in
     sym (on-valid sha256 (a .n) (a .j) (a .root .now) (a .s .now) (a .from) (a .len) (a .count) (omega arith) (omega arith)
-    (told-true (Leads k) (sym (answer k) ∙ c .enum-told .given .1)))
+    (told-true (k .check .result) (Leads k) (answer k) (c .enum-told .given .1)))
 
 returns-6 : tie.Need-returns-6
 returns-6 c =

@@ -45,8 +45,7 @@ counted k =
     let a = k .before .before in
     let d = D a in
     let st = Entry d in
-    count-hashes (st .args .n) (d .before .wide .result) (st .pre .0) (st .pre .1) (k .count .given .0 .0)
-    (sym (a .path-length .ensures) ∙ k .count .given .1)
+    count-hashes (st .args .n) (d .before .wide .result) (st .pre .0) (st .pre .1) _ (a .path-length .ensures) _ (k .count .given .1)
 
 few : (k : tie.After-count) → k .count .given .0 .0 ≤ maxPath
 few k =
@@ -105,8 +104,7 @@ returns-4 c =
     let d = D a in
     let st = Entry d in
     let none : numbered (st .args .n) (d .before .wide .result) ≡ false =
-    count-refused (st .args .n) (d .before .wide .result) (st .pre .0) (st .pre .1) (c .enum-told .given .0 .0)
-    (sym (a .path-length .ensures) ∙ c .enum-told .given .1) in
+    count-refused (st .args .n) (d .before .wide .result) (st .pre .0) (st .pre .1) _ (a .path-length .ensures) _ (c .enum-told .given .1) in
     sym (ap (placed (st .args .at)) (share-unnumbered (st .args .n) (P st) (ap (numbered (st .args .n)) (number d) ∙ none)))
 
 add-if4 : tie.Need-add-if4

@@ -37,7 +37,7 @@ returns-2 c =
     let q = c .before .before in
     let r = range (q .before) in
     sym (cause-number _ _ _ _ (r .0) (r .1)
-    (count-refused _ _ (r .0) (r .1) _ (sym (q .path-length .ensures) ∙ c .enum-told .given .1)))
+    (count-refused _ _ (r .0) (r .1) _ (q .path-length .ensures) _ (c .enum-told .given .1)))
 
 -- where n is found to be within its range, from where the path's length is known
 abbrev Ranged : tie.After-known-told → tie.Else1
@@ -47,8 +47,7 @@ number : (q : tie.After-known-told) → let a = Ranged q .before .before .args i
     (1 ≤ a .number) × (a .number ≤ a .n) × (q .before .right .given .0 .0 ≡ length (sidesOf (a .n) (a .number)))
 number q =
     let r = range (Ranged q) in
-    count-hashes _ _ (r .0) (r .1) _
-    (sym (q .before .before .before .path-length .ensures) ∙ q .before .right .given .1)
+    count-hashes _ _ (r .0) (r .1) _ (q .before .before .before .path-length .ensures) _ (q .before .right .given .1)
 
 returns-3 : tie.Need-returns-3
 returns-3 c =

@@ -7,7 +7,7 @@ use lib.ListN.{length}
 use Rattle.sha256.specs.Sha256.{sha256}
 use Rattle.limits.specs.Limits.{maxMessage}
 use Rattle.merkle.specs.Shares.{same}
-use Rattle.commitment.specs.declared.Rooted.{Rooted}
+use Rattle.merkle.specs.declared.Rooted.{Rooted}
 use Rattle.commitment.proofs.Shared.{same-is}
 use Rattle.commitment.proofs.Outcomes.{rooted-given}
 use Rattle.party.specs.State.{messageIn, happy}

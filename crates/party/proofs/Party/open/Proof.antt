@@ -7,7 +7,7 @@ use Rattle.sha256.specs.Sha256.{sha256}
 use Rattle.limits.specs.Limits.{maxMessage}
 use Rattle.merkle.specs.Shares.{blank}
 use Rattle.commitment.specs.Commitment.{openCause}
-use Rattle.commitment.specs.declared.Rooted.{Rooted}
+use Rattle.merkle.specs.declared.Rooted.{Rooted}
 use Rattle.commitment.proofs.Opening.{open-bounds}
 use Rattle.commitment.proofs.Outcomes.{rooted-cause, rooted-refused, rooted-given}
 use Rattle.party.specs.State.{seatOf, atRoot}
