@@ -65,7 +65,7 @@ pub extern "C" fn cipangohu_agree_root(state: &mut [u8], root: &[u8]) -> u64
 
 // Step 3: the agreed bit. The outbox goes to out.
 #[no_mangle]
-pub extern "C" fn cipangohu_agree_bit(state: &mut [u8], bit: u8, out: &mut [u8]) -> u64
+pub extern "C" fn cipangohu_agree_bit(state: &mut [u8], bit: usize, out: &mut [u8]) -> u64
     ensures { λ r. ⌜ replies r (now (state .exit)) (now (out .exit))
         ≡ called sha256 (now (state .entry)) (agreeBit bit (now (out .entry))) ⌝ }
 {
