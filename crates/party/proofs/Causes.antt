@@ -1,5 +1,5 @@
 -- The causes for which a party's steps are refused: one law for each, and what holds where none applies. Assumes nothing.
-use mathlib.Core.Path.{_≡_}
+use mathlib.Core.Path.{_≡_, refl}
 use mathlib.Core.Bool.{Bool, true, false, cond, not, _||_}
 use mathlib.Core.List.{List}
 use Prim.Native.Nat.{ℕ, _<_, _≤_}
@@ -13,53 +13,11 @@ use Rattle.limits.proofs.Group.{group-of, group-fine}
 use Rattle.buffer.specs.Entries.{fills}
 use Rattle.limits.proofs.Booleans.{neither}
 use Rattle.commitment.specs.Commitment.{openCause}
-use Rattle.commitment.proofs.Opening.{spared, cleared, open-fine}
+use Rattle.commitment.proofs.Opening.{spared, cleared, open-fine, open-bounds}
 use Rattle.party.specs.State.{broken, overlong}
 use Rattle.party.specs.Steps.{turnOf, stateCause, rootCause, bitCause, inboxCause}
 use Rattle.party.specs.Private.{Fit}
 use Rattle.party.specs.declared.Party.{Party}
-
--- a broken state
-module _ (x : Party) where
-  pub broken-group : (groupCause (x .seat .n) (x .seat .t) ≡ 0 → ⊥) → broken x ≡ true
-  unfolding broken
-  broken-group h = rw (ne-eqb (groupCause (x .seat .n) (x .seat .t)) 0 h)
-
-  module _ (group : groupCause (x .seat .n) (x .seat .t) ≡ 0) where
-    pub broken-number : numbered (x .seat .n) (x .seat .own) ≡ false → broken x ≡ true
-    unfolding broken
-    broken-number h = rw (eq-eqb (groupCause (x .seat .n) (x .seat .t)) 0 group, h)
-
-    module _ (first : 1 ≤ x .seat .own) (last : x .seat .own ≤ x .seat .n) where
-      pub broken-long : maxMessage < x .len → broken x ≡ true
-      unfolding broken
-      broken-long h =
-          rw (
-            eq-eqb (groupCause (x .seat .n) (x .seat .t)) 0 group,
-            numbered-within (x .seat .n) (x .seat .own) first last,
-            lt-ltb maxMessage (x .len) h,
-          )
-
-      module _ (short : x .len ≤ maxMessage) where
-        pub broken-held : maxShare < x .held → broken x ≡ true
-        unfolding broken
-        broken-held h =
-            rw (
-              eq-eqb (groupCause (x .seat .n) (x .seat .t)) 0 group,
-              numbered-within (x .seat .n) (x .seat .own) first last,
-              le-ltb maxMessage (x .len) short,
-              lt-ltb maxShare (x .held) h,
-            )
-
-        pub broken-stage : x .held ≤ maxShare → broken x ≡ overlong (x .stage)
-        unfolding broken
-        broken-stage h =
-            rw (
-              eq-eqb (groupCause (x .seat .n) (x .seat .t)) 0 group,
-              numbered-within (x .seat .n) (x .seat .own) first last,
-              le-ltb maxMessage (x .len) short,
-              le-ltb maxShare (x .held) h,
-            )
 
 -- a state that is not broken keeps its bounds
 pub fit-of : (x : Party) → broken x ≡ false → Fit x
@@ -85,6 +43,44 @@ fit-of x e =
       few = ltb-false maxShare (x .held) (held .1);
     }
 
+-- the opening of such a state's message would be accepted
+pub fit-open : (x : Party) → Fit x → (len : ℕ) → len ≡ x .len → openCause (x .seat .n) (x .seat .t) (x .seat .own) len ≡ 0
+fit-open x f len e =
+    open-fine (x .seat .n) (x .seat .t) (x .seat .own) len (group-fine (x .seat .n) (x .seat .t) (f .low) (f .high) (omega (arith, f .faults))) (f .first) (f .last)
+    (omega (arith, e, f .short))
+
+-- a broken state: its opening would be refused, or the share is too long; else it goes by the stage
+module _ (x : Party) where
+  pub broken-open : (openCause (x .seat .n) (x .seat .t) (x .seat .own) (x .len) ≡ 0 → ⊥) → broken x ≡ true
+  broken-open h = go (broken x) refl
+    where
+      go : (b : Bool) → broken x ≡ b → broken x ≡ true
+      go true e = e
+      go false e = absurd (h (fit-open x (fit-of x e) (x .len) refl))
+
+  module _ (fine : openCause (x .seat .n) (x .seat .t) (x .seat .own) (x .len) ≡ 0) where
+    pub broken-held : maxShare < x .held → broken x ≡ true
+    unfolding broken
+    broken-held h =
+        let b = open-bounds (x .seat .n) (x .seat .t) (x .seat .own) (x .len) fine in
+        rw (
+          eq-eqb (groupCause (x .seat .n) (x .seat .t)) 0 (b .0),
+          numbered-within (x .seat .n) (x .seat .own) (b .1) (b .2),
+          le-ltb maxMessage (x .len) (b .3),
+          lt-ltb maxShare (x .held) h,
+        )
+
+    pub broken-stage : x .held ≤ maxShare → broken x ≡ overlong (x .stage)
+    unfolding broken
+    broken-stage h =
+        let b = open-bounds (x .seat .n) (x .seat .t) (x .seat .own) (x .len) fine in
+        rw (
+          eq-eqb (groupCause (x .seat .n) (x .seat .t)) 0 (b .0),
+          numbered-within (x .seat .n) (x .seat .own) (b .1) (b .2),
+          le-ltb maxMessage (x .len) (b .3),
+          le-ltb maxShare (x .held) h,
+        )
+
 -- causes 5 and 6
 module _ (turn : ℕ) (x : Party) where
   pub state-broken : broken x ≡ true → stateCause turn x ≡ 5
@@ -108,12 +104,7 @@ state-sound turn x e =
     let k = spared (not (eqb (turnOf (x .stage)) turn)) 5 0 (h .1) in
     (h .0, eqb-true (turnOf (x .stage)) turn (not-false (eqb (turnOf (x .stage)) turn) (k .0)))
 
--- the opening of such a state's message would be accepted
-pub fit-open : (x : Party) → Fit x → (len : ℕ) → len ≡ x .len → openCause (x .seat .n) (x .seat .t) (x .seat .own) len ≡ 0
-fit-open x f len e =
-    open-fine (x .seat .n) (x .seat .t) (x .seat .own) len (group-fine (x .seat .n) (x .seat .t) (f .low) (f .high) (omega (arith, f .faults))) (f .first) (f .last)
-    (omega (arith, e, f .short))
-
+-- where neither applies, the state keeps its bounds
 pub state-fit : (turn : ℕ) (x : Party) → stateCause turn x ≡ 0 → Fit x
 state-fit turn x e = fit-of x (state-sound turn x e .0)
 

@@ -9,7 +9,7 @@ use native.Mathlib.Omega.{arith}
 use borrow.Author.Tests.{le-ltb, eq-eqb}
 use lib.Dec.{eqb}
 use lib.ListN.{length, length-take}
-use Rattle.limits.specs.Limits.{maxParties, maxMessage, maxShare, groupCause}
+use Rattle.limits.specs.Limits.{maxParties, maxMessage, maxShare}
 use Rattle.limits.proofs.Group.{group-fine}
 use Rattle.buffer.specs.Entries.{fills, bodies}
 use Rattle.erasure.specs.Rebuild.{Recovered, present, recovered}
@@ -22,6 +22,7 @@ use Rattle.party.specs.Steps.{shareTaken, relayOf, heldOf, takeSharesOf,
 use Rattle.party.specs.declared.Seat.{Seat}
 use Rattle.party.specs.declared.Party.{Party}
 use Rattle.party.specs.declared.Opened.{Opened}
+use Rattle.commitment.specs.Commitment.{openCause}
 use Rattle.commitment.proofs.Opening.{open-fine}
 use Rattle.party.proofs.Causes.{fit-of, broken-stage, state-fine, root-fine, bit-fine, inbox-fine}
 use Rattle.party.proofs.Outcomes.{open-given, root-given}
@@ -80,31 +81,31 @@ module _ (H : List ℕ → List ℕ) where
 
 -- the forms of states within their limits are not broken
 module _ (s : Seat) (low : 1 ≤ s .n) (high : s .n ≤ maxParties) (faults : 2 * s .t < s .n) (first : 1 ≤ s .own) (last : s .own ≤ s .n) where
-  group : groupCause (s .n) (s .t) ≡ 0
-  group = group-fine (s .n) (s .t) low high faults
+  opened : (len : ℕ) → len ≤ maxMessage → openCause (s .n) (s .t) (s .own) len ≡ 0
+  opened len = open-fine (s .n) (s .t) (s .own) len (group-fine (s .n) (s .t) low high faults) first last
 
   module _ (m : List ℕ) (short : length m ≤ maxMessage) where
     pub root-whole : broken (atRoot s m) ≡ false
     unfolding atRoot
-    root-whole = broken-stage (atRoot s m) group first last short (omega arith)
+    root-whole = broken-stage (atRoot s m) (opened (length m) short) (omega arith)
 
     pub bit-whole : (z : List ℕ) → broken (atBit s m z) ≡ false
     unfolding atBit
-    bit-whole z = broken-stage (atBit s m z) group first last short (omega arith)
+    bit-whole z = broken-stage (atBit s m z) (opened (length m) short) (omega arith)
 
     pub first-whole : (z : List ℕ) → broken (atFirst s m z) ≡ false
     unfolding atFirst
-    first-whole z = broken-stage (atFirst s m z) group first last short (omega arith)
+    first-whole z = broken-stage (atFirst s m z) (opened (length m) short) (omega arith)
 
     pub second-whole : (z y : List ℕ) → length y ≤ maxShare → broken (atSecond s m z y) ≡ false
     unfolding atSecond
-    second-whole z y few = broken-stage (atSecond s m z y) group first last short few
+    second-whole z y few = broken-stage (atSecond s m z y) (opened (length m) short) few
 
   pub end-whole : (r : Result) → length (resultBytes r) ≤ maxMessage → broken (atEnd s r) ≡ false
   unfolding atEnd
-  end-whole nothing h = broken-stage (atEnd s nothing) group first last (omega arith) (omega arith)
+  end-whole nothing h = broken-stage (atEnd s nothing) (opened 0 (omega arith)) (omega arith)
   end-whole (settled m) h =
-      broken-stage (atEnd s (settled m)) group first last (omega arith) (omega arith) ∙ le-ltb maxMessage (length m) h
+      broken-stage (atEnd s (settled m)) (opened 0 (omega arith)) (omega arith) ∙ le-ltb maxMessage (length m) h
 
 -- what an accepted call keeps is within the limits: the message, the share taken, and the result
 module _ (H : List ℕ → List ℕ) (x : Party) (whole : broken x ≡ false) where

@@ -6,7 +6,7 @@ use mathlib.Core.Option.{Option, none, some}
 use Prim.Native.Nat.{ℕ, _-_}
 use lib.Dec.{ltb, eqb}
 use lib.ListN.{length, take, replicate}
-use Rattle.limits.specs.Limits.{maxMessage, maxShare, numbered, groupCause}
+use Rattle.limits.specs.Limits.{maxParties, maxMessage, maxShare, numbered, groupCause}
 use Rattle.merkle.specs.Shares.{blank, same}
 unfoldable pub use Rattle.commitment.specs.Commitment.{messageRoot}
 use Rattle.party.specs.declared.Outcome.{Outcome}
@@ -15,6 +15,11 @@ use Rattle.party.specs.declared.Stage.{Stage}
 use Rattle.party.specs.declared.Stage.the-variants.{Root, Bit, First, Second, Ended}
 use Rattle.party.specs.declared.Seat.{Seat}
 use Rattle.party.specs.declared.Party.{Party}
+use Rattle.party.specs.declared.Limits.{Limits}
+
+-- the limits that belong to a party
+abbrev pub partyLimits : Limits
+partyLimits = record { parties = maxParties; message = maxMessage }
 
 -- the seat among n parties, of whom t may be bad, with the own number
 abbrev pub seatOf : ℕ → ℕ → ℕ → Seat

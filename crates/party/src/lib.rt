@@ -10,15 +10,13 @@ ghost use Rattle.buffer.specs.Splice.{spliced};
 ghost use Rattle.buffer.specs.Entries.{fills, bodies};
 ghost use Rattle.merkle.specs.Shares.{blank};
 ghost use Rattle.commitment.specs.Commitment.{mailWith};
-ghost use Rattle.party.specs.State.{padded, messageIn, shareHeld, settled, blankState, overlong, broken, happy};
-ghost use Rattle.party.specs.Steps.{turnOf, stateCause, inboxCause, firstValid, gathered};
+ghost use Rattle.party.specs.State.{partyLimits, padded, messageIn, shareHeld, settled, blankState, overlong, broken, happy};
+ghost use Rattle.party.specs.Steps.{turnOf, openCause, stateCause, inboxCause, firstValid, gathered};
 ghost use Rattle.party.specs.Steps.{stepped, writes, ending, openOf, agreeRootOf, agreeBitOf, takeSharesOf, takeRelaysOf};
 ghost use Rattle.party.specs.Private.{Fit, TakenIs, Gathered, after};
 use buffer::Written;
 use commitment::Sent;
 use erasure::Places;
-use limits::MAX_MESSAGE;
-use limits::MAX_PARTIES;
 use limits::MAX_SHARE;
 use merkle::Hash;
 use merkle::Rooted;
@@ -52,11 +50,17 @@ pub struct Seat {
 pub struct Party {
     pub seat: Seat,
     pub stage: Stage,
-    pub message: [u8; MAX_MESSAGE],
+    pub message: [u8; Party::MAX_MESSAGE],
     pub len: usize,
     pub root: [u8; 32],
     pub share: [u8; MAX_SHARE],
     pub held: usize,
+}
+
+// The limits that belong to a party: how many parties there may be, and how long a message.
+pub struct Limits {
+    pub parties: usize,
+    pub message: usize,
 }
 
 // What the opening gives: a state, and the cause for which it was refused, or 0 and the root of the message's shares.
@@ -95,19 +99,30 @@ impl Party {
 
     pub const MAX_MESSAGE: usize = limits::MAX_MESSAGE;
 
+    // They are the definitions': this is where the two are held together.
+    pub fn limits() -> Limits
+        ensures { λ r. ⌜ r ≡ partyLimits ⌝ }
+    {
+        Limits {
+            parties: Party::MAX_PARTIES,
+            message: Party::MAX_MESSAGE,
+        }
+    }
+
     // Step 1: the opening. The root goes to the short agreement.
     pub fn open(n: usize, t: usize, own: usize, message: &[u8]) -> Opened
         ensures { λ r. ⌜ r ≡ openOf sha256 n t own (now (message .entry)) ⌝ }
     {
-        let Rooted { cause, root } = commitment::root(n, t, own, message);
+        let cause = Party::open_cause(n, t, own, message.len());
         if cause != 0 {
             return Opened {
                 state: blank(),
                 cause,
-                root,
+                root: [0; 32],
             };
         }
-        let mut held = [0u8; MAX_MESSAGE];
+        let Rooted { root, .. } = commitment::root(n, t, own, message);
+        let mut held = [0u8; Party::MAX_MESSAGE];
         buffer::put(&mut held, 0, message);
         let state = Party {
             seat: Seat { n, t, own },
@@ -118,7 +133,11 @@ impl Party {
             share: [0; MAX_SHARE],
             held: 0,
         };
-        Opened { state, cause, root }
+        Opened {
+            state,
+            cause: 0,
+            root,
+        }
     }
 
     // Step 2: the agreed root comes; the answer is this party's bit for the second short agreement.
@@ -153,7 +172,7 @@ impl Party {
             return self.refused(7);
         }
         if bit == 0 {
-            let next = self.ended(Outcome::Nothing, [0; MAX_MESSAGE]);
+            let next = self.ended(Outcome::Nothing, [0; Party::MAX_MESSAGE]);
             return self.silent(next, out);
         }
         let root = self.root;
@@ -212,7 +231,7 @@ impl Party {
         let places = self.gather(inbox);
         let share = self.share;
         let held = self.held;
-        let mut message = [0u8; MAX_MESSAGE];
+        let mut message = [0u8; Party::MAX_MESSAGE];
         let Written::Done(len) = erasure::rebuild_at(
             self.seat.n,
             self.seat.t,
@@ -222,7 +241,7 @@ impl Party {
             &mut message,
         ) else {
             return Reply {
-                state: self.ended(Outcome::Nothing, [0; MAX_MESSAGE]),
+                state: self.ended(Outcome::Nothing, [0; Party::MAX_MESSAGE]),
                 answer: Answer::Nothing,
             };
         };
@@ -298,7 +317,7 @@ impl Party {
             return self.short(len);
         }
         buffer::put(out, 0, message);
-        let mut kept = [0u8; MAX_MESSAGE];
+        let mut kept = [0u8; Party::MAX_MESSAGE];
         buffer::put(&mut kept, 0, message);
         Reply {
             state: self.ended(Outcome::Message(len), kept),
@@ -314,8 +333,8 @@ impl Party {
         let n = self.seat.n;
         let own = self.seat.own;
         let root = self.root;
-        let mut from = [0usize; MAX_PARTIES];
-        let mut len = [0usize; MAX_PARTIES];
+        let mut from = [0usize; Party::MAX_PARTIES];
+        let mut len = [0usize; Party::MAX_PARTIES];
         let mut at: usize = 0;
         let mut j: usize = 0;
         while j < n {
@@ -363,13 +382,7 @@ impl Party {
     pub fn broken(self) -> bool
         ensures { λ r. ⌜ r ≡ broken self ⌝ }
     {
-        if limits::group_cause(self.seat.n, self.seat.t) != 0 {
-            return true;
-        }
-        if !limits::numbered(self.seat.n, self.seat.own) {
-            return true;
-        }
-        if MAX_MESSAGE < self.len {
+        if Party::open_cause(self.seat.n, self.seat.t, self.seat.own, self.len) != 0 {
             return true;
         }
         if MAX_SHARE < self.held {
@@ -377,6 +390,23 @@ impl Party {
         }
         let stage = self.stage;
         overlong(stage)
+    }
+
+    // Cause 1, 2, 3 or 4 of a party with this number and a message of `len` bytes, or 0.
+    fn open_cause(n: usize, t: usize, own: usize, len: usize) -> u8
+        ensures { λ r. ⌜ r ≡ openCause n t own len ⌝ }
+    {
+        let cause = limits::group_cause(n, t);
+        if cause != 0 {
+            return cause;
+        }
+        if !limits::numbered(n, own) {
+            return 3;
+        }
+        if len <= Party::MAX_MESSAGE {
+            return 0;
+        }
+        4
     }
 
     // The state at another stage, with its message and with zeros past every length.
@@ -387,7 +417,7 @@ impl Party {
         let seat = self.seat;
         let len = self.len;
         let message = self.message;
-        let mut kept = [0u8; MAX_MESSAGE];
+        let mut kept = [0u8; Party::MAX_MESSAGE];
         buffer::put(&mut kept, 0, &message[..len]);
         Party {
             seat,
@@ -400,7 +430,7 @@ impl Party {
         }
     }
 
-    fn ended(self, outcome: Outcome, message: [u8; MAX_MESSAGE]) -> Party
+    fn ended(self, outcome: Outcome, message: [u8; Party::MAX_MESSAGE]) -> Party
         ensures { λ r. ⌜ r ≡ record { seat = self .seat; stage = Stage.Ended outcome; message = message; len = 0; root = blank; share = replicate maxShare 0; held = 0 } ⌝ }
     {
         let seat = self.seat;
@@ -506,7 +536,7 @@ fn blank() -> Party
     Party {
         seat: Seat { n: 0, t: 0, own: 0 },
         stage: Stage::Root,
-        message: [0; MAX_MESSAGE],
+        message: [0; Party::MAX_MESSAGE],
         len: 0,
         root: [0; 32],
         share: [0; MAX_SHARE],
@@ -535,7 +565,7 @@ fn overlong(stage: Stage) -> bool
     let Outcome::Message(len) = outcome else {
         return false;
     };
-    MAX_MESSAGE < len
+    Party::MAX_MESSAGE < len
 }
 
 // Zeros in the first `len` bytes: lengths of zero for all parties.

@@ -545,7 +545,7 @@ fn step(
     ensures { λ r. ⌜ stepped r (now (out .exit)) ≡ stepFor (turn .e) (now (bytes .entry)) q ⌝ }
 {
     if turn.e == 0 {
-        return state.agree_bit(turn.bit, out);
+        return state.agree_bit(turn.bit as usize, out);
     }
     let mut room = blank_inbox();
     let len = inbox(bytes, turn.parts, 0, slots, lens, q, &mut room);

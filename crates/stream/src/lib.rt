@@ -11,6 +11,7 @@ ghost use Prim.Native.Nat.{_≤_, _<_};
 ghost use lib.Dec.{eqb};
 ghost use lib.ListN.{length, drop, replicate};
 ghost use Rattle.stream.specs.Number.{spelled};
+ghost use Rattle.stream.specs.Parts.{partOf, startOf, Told};
 ghost use Rattle.stream.specs.Tally.{_⊞_, countedOf};
 use std::num::wrapping_add_u64;
 
@@ -71,7 +72,7 @@ pub fn read_kind(kinds: usize) -> Next
     ensures { λ r. ⌜ (r .kind ≤ kinds) × (0 < r .kind → r .whole ≡ true) ⌝ }
 {
     let mut byte = [0u8; 1];
-    if !read(&mut byte) {
+    if !read(&mut byte).whole {
         return Next {
             kind: 0,
             whole: false,
@@ -97,41 +98,58 @@ fn at_end() -> bool {
     io::read_full(IN, &mut byte) == 0
 }
 
-// Fills a buffer from the stream; tells whether the stream had as many bytes.
-fn read(buffer: &mut [u8]) -> bool
-    ensures { λ _. ⌜ length (now (buffer .exit)) ≡ length (now (buffer .entry)) ⌝ }
-{
-    let got = io::read_full(IN, buffer);
-    got == buffer.len()
-}
-
-// A part of a case, at the start of a buffer: its length, and whether the buffer and the stream had as many bytes.
+// A part of a case, at the start of a buffer: its length, how many of its bytes came, and whether the stream and the buffer had them all.
 pub struct Part {
     pub len: usize,
+    pub got: usize,
     pub whole: bool,
 }
 
 // Reads a part, and leaves the bytes of the buffer behind it.
 pub fn read_part(buffer: &mut [u8]) -> Part
     ensures { λ r. ⌜ (r .len ≤ length (now (buffer .exit))) × (length (now (buffer .exit)) ≡ length (now (buffer .entry)))
-        × (drop (r .len) (now (buffer .exit)) ≡ drop (r .len) (now (buffer .entry))) ⌝ }
+        × (drop (r .len) (now (buffer .exit)) ≡ drop (r .len) (now (buffer .entry))) × Told r ⌝ }
 {
     let mut front = [0u8; 4];
-    if !read(&mut front) {
+    if !read(&mut front).whole {
         return Part {
             len: 0,
+            got: 0,
             whole: false,
         };
     }
     let len = number(&front);
+    read_start(buffer, len)
+}
+
+// Fills the first `len` bytes of a buffer from the stream, and leaves the others. A buffer that has not as many is left whole.
+fn read_start(buffer: &mut [u8], len: usize) -> Part
+    ensures { λ r. ⌜ (length (now (buffer .exit)) ≡ length (now (buffer .entry)))
+        × (drop (r .len) (now (buffer .exit)) ≡ drop (r .len) (now (buffer .entry)))
+        × (r .got ≤ r .len) × (r ≡ startOf (length (now (buffer .entry))) len (r .got)) ⌝ }
+{
     if buffer.len() < len {
         return Part {
             len: 0,
+            got: 0,
             whole: false,
         };
     }
-    let whole = read(&mut buffer[..len]);
-    Part { len, whole }
+    read(&mut buffer[..len])
+}
+
+// Fills a buffer from the stream.
+fn read(buffer: &mut [u8]) -> Part
+    ensures { λ r. ⌜ (length (now (buffer .exit)) ≡ length (now (buffer .entry)))
+        × (r .got ≤ r .len) × (r ≡ partOf (length (now (buffer .entry))) (r .got)) ⌝ }
+{
+    let len = buffer.len();
+    let got = io::read_full(IN, buffer);
+    Part {
+        len,
+        got,
+        whole: got == len,
+    }
 }
 
 // Sets each byte of a buffer to a value.

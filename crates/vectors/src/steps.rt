@@ -201,7 +201,7 @@ fn lent(kind: usize, before: Party, inbox: &[u8], input: &[u8], out: &mut [u8]) 
 // Step 3 with a bit, or step 4 or 5 with an inbox.
 fn step(kind: usize, before: Party, bit: usize, inbox: &[u8], out: &mut [u8]) -> Reply {
     if kind == 3 {
-        return before.agree_bit((bit % 256) as u8, out);
+        return before.agree_bit(bit, out);
     }
     if kind == 4 {
         return before.take_shares(inbox, out);

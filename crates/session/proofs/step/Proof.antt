@@ -18,6 +18,9 @@ use Rattle.session.proofs.step.Tie as tie
 abbrev Entry : tie.After-struct-known → tie.Start
 Entry k = k .before .before .before .before .before
 
+cast-agree-bit : tie.Need-cast-agree-bit
+cast-agree-bit c = search needs
+
 agree-bit-requires : tie.Need-agree-bit-requires
 agree-bit-requires c κs = search needs
 
@@ -28,7 +31,7 @@ returns : tie.Need-returns
 unfolding step3
 returns c =
     let w = c .before .before in
-    let t = w .before .before in
+    let t = w .before .before .before in
     let st = Entry (t .before) in
     let a = st .args in
     let s = a .bytes .now in
@@ -87,6 +90,7 @@ pub step-spec : {M : Type 1} → statement M
 step-spec =
     tie.close
     (tie.spec
+    cast-agree-bit
     agree-bit-requires
     same-length
     returns

@@ -1,10 +1,7 @@
--- `stream::read_part` meets its contract: the part of the buffer that it lends ends where the bytes begin that stay. Assumes nothing.
-use mathlib.Core.Path.{_≡_, _∙_}
-use mathlib.Core.List.{_++_}
-use lib.ListN.{length, drop, length-take, length-append, length-drop}
-use lib.Seq.{drop-at}
+-- `stream::read_part` meets its contract: without a length there is no part, and else it is what was read at the buffer's start. Assumes nothing.
 use native.Mathlib.Omega.{arith}
 use borrow.Author.Needs.{needs}
+use Rattle.stream.proofs.Parts.{start-told}
 use Rattle.stream.proofs.read_part.Statement.{statement}
 use Rattle.stream.proofs.read_part.Tie as tie
 
@@ -23,30 +20,17 @@ slice-aggregate-number c = search needs
 number-requires : tie.Need-number-requires
 number-requires c κs = search needs
 
-returns-2 : tie.Need-returns-2
-returns-2 c = search needs
-
-slice-relend-prefix-read : tie.Need-slice-relend-prefix-read
-slice-relend-prefix-read c = search needs
-
-slice-aggregate-read-2 : tie.Need-slice-aggregate-read-2
-slice-aggregate-read-2 c = simp length-take (omega arith)
-
-read-requires-2 : tie.Need-read-requires-2
-read-requires-2 c κs = search needs
+read-start-requires : tie.Need-read-start-requires
+read-start-requires c κs = search needs
 
 same-length : tie.Need-same-length
 same-length c = search needs
 
-returns-3 : tie.Need-returns-3
-returns-3 c =
-    let b = c .before .before in
-    let buffer = b .before .before .before .before .before .before .before .before .before .before .args .buffer .now in
-    let len = b .before .before .before .number .result in
-    let got = b .read2 .last .0 in
-    let filled : length got ≡ len = b .read2 .ensures ∙ simp length-take (omega arith) in
-    let kept : length (got ++ drop len buffer) ≡ length buffer = simp (length-append, length-drop) (omega (arith, filled)) in
-    (rw kept (omega arith), kept, drop-at got (drop len buffer) len filled)
+returns-2 : tie.Need-returns-2
+returns-2 c =
+    let e = c .before .before .read-start .ensures in
+    let t = start-told _ _ (c .before .before .read-start .result) (e .2) (e .3) in
+    (omega (arith, e .0, t .0), e .0, e .1, t .1)
 
 pub read-part-spec : {M : Type 1} → statement M
 read-part-spec =
@@ -57,9 +41,6 @@ read-part-spec =
     returns
     slice-aggregate-number
     number-requires
-    returns-2
-    slice-relend-prefix-read
-    slice-aggregate-read-2
-    read-requires-2
+    read-start-requires
     same-length
-    returns-3)
+    returns-2)

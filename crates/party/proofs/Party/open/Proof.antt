@@ -1,6 +1,7 @@
 -- `party::Party::open` meets its contract: a refusal with the blank state, or the message kept and its root. Assumes nothing.
 use mathlib.Core.Path.{_≡_, refl, sym, ap, ap₂, _∙_}
 use mathlib.Core.List.{[]}
+use Prim.Native.Nat.{ℕ}
 use borrow.Author.Needs.{needs}
 use lib.ListN.{length}
 use Rattle.sha256.specs.Sha256.{sha256}
@@ -9,7 +10,7 @@ use Rattle.merkle.specs.Shares.{blank}
 use Rattle.commitment.specs.Commitment.{openCause}
 use Rattle.merkle.specs.declared.Rooted.{Rooted}
 use Rattle.commitment.proofs.Opening.{open-bounds}
-use Rattle.commitment.proofs.Outcomes.{rooted-cause, rooted-refused, rooted-given}
+use Rattle.commitment.proofs.Outcomes.{rooted-given}
 use Rattle.party.specs.State.{seatOf, atRoot}
 use Rattle.party.specs.declared.Stage.the-variants.{Root}
 use Rattle.party.specs.declared.Party.{Party}
@@ -19,14 +20,8 @@ use Rattle.party.proofs.Kept.{put-padded, waiting-kept}
 use Rattle.party.proofs.Party.open.Statement.{statement}
 use Rattle.party.proofs.Party.open.Tie as tie
 
--- the cause that the root's function gives is that of the opening
-told : (q : tie.After-root) → let a = q .before .before .args in q .root .result .cause ≡ openCause (a .n) (a .t) (a .own) (length (a .message .now))
-told q =
-    let a = q .before .before .args in
-    ap (λ (r : Rooted). r .cause) (q .root .ensures) ∙ rooted-cause sha256 (a .n) (a .t) (a .own) (a .message .now)
-
-root-requires : tie.Need-root-requires
-root-requires c κs = search needs
+open-cause-requires : tie.Need-open-cause-requires
+open-cause-requires c κs = search needs
 
 blank-requires : tie.Need-blank-requires
 blank-requires c κs = search needs
@@ -34,12 +29,14 @@ blank-requires c κs = search needs
 returns : tie.Need-returns
 returns c =
     let t = c .before in
-    let q = t .before .before in
+    let q = t .before in
     let a = q .before .before .args in
-    let some : openCause (a .n) (a .t) (a .own) (length (a .message .now)) ≡ 0 → ⊥ = λ e. t .if1 .taken (told q ∙ e) in
-    ap₂ {C = Opened} (λ (x : Party) (r : Rooted). record { state = x; cause = r .cause; root = r .root }) (c .blank .ensures)
-    (q .root .ensures ∙ rooted-refused sha256 (a .n) (a .t) (a .own) (a .message .now) some)
+    let some : openCause (a .n) (a .t) (a .own) (length (a .message .now)) ≡ 0 → ⊥ = λ e. t .if1 .taken (q .open-cause .ensures ∙ e) in
+    ap₂ {C = Opened} (λ (x : Party) (k : ℕ). record { state = x; cause = k; root = blank }) (c .blank .ensures) (q .open-cause .ensures)
     ∙ sym (open-refused sha256 (a .n) (a .t) (a .own) (a .message .now) some)
+
+root-requires : tie.Need-root-requires
+root-requires c κs = search needs
 
 slice-aggregate-put : tie.Need-slice-aggregate-put
 slice-aggregate-put c = search needs
@@ -51,18 +48,19 @@ returns-2 : tie.Need-returns-2
 unfolding atRoot
 returns-2 c =
     let p = c .before in
-    let e = p .before .before in
-    let q = e .before .before in
+    let r = p .before .before .before in
+    let e = r .before in
+    let q = e .before in
     let a = q .before .before .args in
     let m = a .message .now in
-    let none = sym (told q) ∙ e .if1 .left in
+    let none = sym (q .open-cause .ensures) ∙ e .if1 .left in
     let b = open-bounds (a .n) (a .t) (a .own) (length m) none in
     let k = p .put .ensures .1 ∙ put-padded maxMessage m (b .3) in
-    ap₂ {C = Opened} (λ (x : Party) (r : Rooted). record { state = x; cause = r .cause; root = r .root })
+    ap₂ {C = Opened} (λ (x : Party) (r : Rooted). record { state = x; cause = 0; root = r .root })
     (waiting-kept (seatOf (a .n) (a .t) (a .own)) Root _ m blank blank _ [] (length m) 0 k refl refl refl refl)
-    (q .root .ensures ∙ rooted-given sha256 (a .n) (a .t) (a .own) m none)
+    (r .root .ensures ∙ rooted-given sha256 (a .n) (a .t) (a .own) m none)
     ∙ sym (open-given sha256 (a .n) (a .t) (a .own) m none)
 
 pub open-spec : {M : Type 1} → statement M
 open-spec =
-    tie.close (tie.spec root-requires blank-requires returns slice-aggregate-put put-requires returns-2)
+    tie.close (tie.spec open-cause-requires blank-requires returns root-requires slice-aggregate-put put-requires returns-2)
