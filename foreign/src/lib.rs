@@ -3,6 +3,7 @@
 //! proved implementation is compared.
 
 pub mod coder;
+pub mod examples;
 pub mod field;
 pub mod inbox;
 pub mod liars;
