@@ -2,6 +2,7 @@
 //! handed stands in it; all other lines of it are made anew and compared.
 
 mod coding;
+mod header;
 mod packets;
 mod plans;
 mod sitting;
