@@ -3,7 +3,7 @@
 use foreign::coder::{self, frame_of, share_length, shares_of, Answer};
 use foreign::examples::{bytes, Example};
 use foreign::field::{inv, mul, pow};
-use foreign::limits::LONGEST_MESSAGE;
+use foreign::limits::{LONGEST_MESSAGE, MOST_HASHES};
 use foreign::sha256::Hash;
 use foreign::tree::{judge, leaf_string, leaves, path_of, root_of};
 
@@ -174,7 +174,7 @@ pub fn checked(example: &Example) -> Told {
     told.bytes("share", &share);
     told.bytes("path", &path);
     told.bytes("root", &root);
-    let mut hashes = [[0; 32]; 4];
+    let mut hashes = [[0; 32]; MOST_HASHES];
     for (hash, bytes) in hashes.iter_mut().zip(path.chunks(32)) {
         hash[..bytes.len()].copy_from_slice(bytes);
     }
