@@ -1,8 +1,9 @@
 //! A reference for the field, the coder, the hash, the tree, the packets, the party and the
-//! rehearsal, written from the scope document and the public standards alone, against which the
-//! proved implementation is compared.
+//! rehearsal, written from a description in words and the public standards alone, against which the
+//! proved implementation is compared. docs/REFERENCE.md tells the same; its examples are run here.
 
 pub mod coder;
+pub mod examples;
 pub mod field;
 pub mod inbox;
 pub mod liars;

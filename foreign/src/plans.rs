@@ -137,7 +137,7 @@ fn two_bytes(length: usize) -> [u8; 2] {
     u16::try_from(length).expect("a short length").to_be_bytes()
 }
 
-/// The layout of document 01.
+/// The layout that docs/REFERENCE.md tells.
 impl Draft {
     fn made(self, size: Size, damages: Vec<Damage>) -> Made {
         Made {

@@ -1,12 +1,13 @@
 //! The greatest numbers are the same everywhere: in the proved crate `limits`, in this crate, in the
-//! crate for hosts in Rust and in the header for those in C. A compiler for C compares them, in whose
-//! words the constants of the proved crates are written as well.
+//! crate for hosts in Rust, in the header for those in C and in docs/REFERENCE.md. A compiler for C
+//! compares them, in whose words the constants of the proved crates are written as well.
 
 use std::fs;
 use std::io;
 use std::path::{Path, PathBuf};
 use std::process::Command;
 
+use foreign::examples::{limits, reference};
 use foreign::limits::*;
 
 // The file itself, since the crate cannot be linked without the proved archive.
@@ -69,6 +70,16 @@ fn program() -> String {
     text + &equal("CIPANGOHU_STATE", &host::STATE.to_string())
 }
 
+/// What a limit of docs/REFERENCE.md has to be, in the words of C.
+fn due(name: &str) -> String {
+    match name {
+        "ROOT" => "CIPANGOHU_ROOT".to_string(),
+        "STATE" => "(9 + CIPANGOHU_ROOT + MAX_MESSAGE + MAX_SHARE)".to_string(),
+        "INBOX" => "(MAX_PARTIES * (2 + MAX_ENTRY))".to_string(),
+        _ => format!("MAX_{name}"),
+    }
+}
+
 /// Whether the compiler takes the file, with what it says printed, or that there is no such compiler.
 fn taken(compiler: &str, standard: &str, source: &Path) -> io::Result<bool> {
     let run = Command::new(compiler)
@@ -110,5 +121,43 @@ fn every_proved_limit_is_compared() {
     for line in proved("limits").lines() {
         let name = line.split(' ').nth(1).expect("a name");
         assert!(program.contains(&format!("#if {name} ==")), "{name}");
+    }
+}
+
+/// The limits that docs/REFERENCE.md tells.
+#[test]
+fn the_reference_has_the_limits() {
+    let table = limits(&reference());
+    let told = table
+        .iter()
+        .map(|(name, number)| equal(&number.to_string(), &due(name)));
+    let source = Path::new(env!("CARGO_TARGET_TMPDIR")).join("reference.c");
+    fs::write(&source, program() + &told.collect::<String>()).expect("it is written");
+    assert!(taken("gcc", "-std=c99", &source).expect("gcc runs"));
+    for line in proved("limits").lines() {
+        let name = line.split(' ').nth(1).expect("a name");
+        assert!(table.iter().any(|limit| due(&limit.0) == name), "{name}");
+    }
+}
+
+/// A number's digits in groups of three.
+fn grouped(number: usize) -> String {
+    match number {
+        0..1_000 => number.to_string(),
+        _ => format!("{},{:03}", grouped(number / 1_000), number % 1_000),
+    }
+}
+
+/// Elsewhere it says their names. Numbers under a thousand have other meanings too.
+#[test]
+fn the_reference_tells_a_limit_once() {
+    let text = reference();
+    let table = limits(&text);
+    let row = |line: &str, name: &str| line.starts_with(&format!("| `{name}` | "));
+    let others = |line: &&str| !table.iter().any(|limit| row(line, &limit.0));
+    let others: Vec<&str> = text.lines().filter(others).collect();
+    for (name, number) in table.iter().filter(|limit| limit.1 >= 1_000) {
+        let again = others.iter().find(|line| line.contains(&grouped(*number)));
+        assert_eq!(again, None, "{name}");
     }
 }

@@ -1,6 +1,6 @@
-//! Why a plan is refused, in document 01's words and for the plan at hand.
+//! Why a plan is refused, in the words of docs/REFERENCE.md and for the plan at hand.
 
-use foreign::limits::{LONGEST_MESSAGE, LONGEST_PLAN, LONGEST_STRING, MOST_PARTIES};
+use foreign::limits::{LONGEST_MESSAGE, LONGEST_PLAN, MOST_PARTIES};
 use foreign::rehearsal::{Fault, Misfit, Part};
 
 use crate::phrases::{bytes, grouped, EXCHANGES};
@@ -8,18 +8,16 @@ use crate::phrases::{bytes, grouped, EXCHANGES};
 /// The words of the table of causes, for those that a plan can have.
 pub fn words(cause: u32) -> String {
     match cause {
-        1 => format!("n outside 1 to {MOST_PARTIES}"),
-        2 => "2·t ≥ n".to_string(),
-        4 => format!(
-            "book over {}, or string to hash over {} bytes",
-            grouped(LONGEST_MESSAGE),
-            grouped(LONGEST_STRING)
-        ),
+        1 => format!("n is not 1 to {MOST_PARTIES}"),
+        2 => "2·t is n or more".to_string(),
+        4 => format!("a book is longer than {} bytes", grouped(LONGEST_MESSAGE)),
         13 => format!(
-            "plan badly laid out, or over {} bytes",
+            "the plan is badly laid out, or longer than {} bytes",
             grouped(LONGEST_PLAN)
         ),
-        _ => "plan with over t bad parties, or a root or bit against the rule above".to_string(),
+        _ => "the plan has more than t bad boxes, a bit above 1, or a root or a bit against the rule \
+              of the short agreement"
+            .to_string(),
     }
 }
 

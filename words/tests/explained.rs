@@ -85,17 +85,19 @@ fn refusal(words: &str) -> String {
 
 #[test]
 fn refused_plans() {
-    let rule = "Refused with cause 14: plan with over t bad parties, or a root or bit against \
-        the rule above.\n";
-    let layout = "Refused with cause 13: plan badly laid out, or over 60,000 bytes.\n";
+    let rule =
+        "Refused with cause 14: the plan has more than t bad boxes, a bit above 1, or a root \
+        or a bit against the rule of the short agreement.\n";
+    let layout =
+        "Refused with cause 13: the plan is badly laid out, or longer than 60,000 bytes.\n";
     let sound = "boxes 2\nlimit 0\nbook A \"\"\nbox 1 has A\nbox 2 has A\n";
     let two = |words: &str| refusal(&format!("{sound}{words}"));
-    let expected = "Refused with cause 1: n outside 1 to 16.\nThe plan has n 0.";
+    let expected = "Refused with cause 1: n is not 1 to 16.\nThe plan has n 0.";
     assert_eq!(refusal("boxes 0\nlimit 0"), expected);
-    let expected = "Refused with cause 2: 2·t ≥ n.\nThe plan has n 2 and t 1.";
+    let expected = "Refused with cause 2: 2·t is n or more.\nThe plan has n 2 and t 1.";
     assert_eq!(refusal(&sound.replace("limit 0", "limit 1")), expected);
     let long = format!("boxes 1\nlimit 0\nbox 1 has \"{}\"", "x".repeat(1_025));
-    let expected = "Refused with cause 4: book over 1,024, or string to hash over 65,535 bytes.\n\
+    let expected = "Refused with cause 4: a book is longer than 1,024 bytes.\n\
         Box 1's book is too long.";
     assert_eq!(refusal(&long), expected);
     let bad = refusal("boxes 2\nlimit 0\nbox 1 has \"\"\nbox 2 is bad");

@@ -99,8 +99,8 @@ fn errors() {
         assert_eq!(said(&[command], wrong), (Some(1), expected.to_string()));
     }
     let plan = kept("plans/worked-1.plan");
-    let expected = "standard input: Refused with cause 13: plan badly laid out, or over 60,000 \
-        bytes.\nAt byte 11, in box 2's book or its length: the plan runs out, 1 byte short. It \
+    let expected = "standard input: Refused with cause 13: the plan is badly laid out, or longer \
+        than 60,000 bytes.\nAt byte 11, in box 2's book or its length: the plan runs out, 1 byte short. It \
         has 12 bytes, counted from 0.\n";
     let found = said(&["from-bytes"], &plan[..12]);
     assert_eq!(found, (Some(1), expected.to_string()));

@@ -64,8 +64,9 @@ second exchange
 }
 
 /// Words, which the plan's bytes give back as they stand.
-const UNUSUAL: &str = "# Refused with cause 14: plan with over t bad parties, or a root or bit \
-against the rule above.
+const UNUSUAL: &str =
+    "# Refused with cause 14: the plan has more than t bad boxes, a bit above 1, or \
+a root or a bit against the rule of the short agreement.
 # The bit that is given is neither 0 nor 1.
 boxes 4
 limit 1

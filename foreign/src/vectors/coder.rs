@@ -199,7 +199,7 @@ fn power(file: &mut File, a: u8, k: u64) {
     });
 }
 
-/// The cases that the scope document works out.
+/// The worked cases.
 fn worked_cases(file: &mut File) {
     let three = [0x41, 0x40, 0x82, 0x86, 0xC3, 0xC4];
     assert_eq!(

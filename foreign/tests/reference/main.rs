@@ -1,0 +1,176 @@
+//! The examples of docs/REFERENCE.md, each run against the foreign implementation. What an example is
+//! handed stands in it; all other lines of it are made anew and compared.
+
+mod coding;
+mod header;
+mod packets;
+mod plans;
+mod sitting;
+
+use std::collections::BTreeSet;
+
+use foreign::examples::{examples, reference, spaceless, Example};
+use foreign::sha256::hex;
+
+/// How the examples of a kind are run: the lines that they should have.
+type Run = fn(&Example) -> Told;
+
+const KINDS: [(&str, Run); 14] = [
+    ("field", coding::field),
+    ("shares", coding::shares),
+    ("rebuild", coding::rebuilt),
+    ("tree", coding::tree),
+    ("paths", coding::paths),
+    ("check", coding::checked),
+    ("packet", packets::packet),
+    ("packets", packets::packets),
+    ("outbox", packets::outbox),
+    ("opening", sitting::openings),
+    ("box", sitting::sitting),
+    ("state", sitting::sitting),
+    ("broken state", sitting::broken),
+    ("plan", plans::plan),
+];
+
+/// The lines of an example as they should be, and the causes that were met.
+#[derive(Default)]
+pub struct Told {
+    lines: Vec<(String, String)>,
+    causes: BTreeSet<u32>,
+}
+
+impl Told {
+    fn add(&mut self, name: impl ToString, value: impl ToString) {
+        self.lines.push((name.to_string(), value.to_string()));
+    }
+
+    fn bytes(&mut self, name: impl ToString, value: &[u8]) {
+        self.add(name, digits(value));
+    }
+
+    /// The number of a cause that was met.
+    fn cause(&mut self, cause: u32) -> u32 {
+        self.causes.insert(cause);
+        cause
+    }
+}
+
+/// Bytes as they stand in an example.
+pub fn digits(bytes: &[u8]) -> String {
+    match bytes {
+        [] => "none".to_string(),
+        _ => hex(bytes),
+    }
+}
+
+/// What differs between the lines of an example and those that it should have, if anything.
+fn difference(example: &Example, told: &Told) -> Option<String> {
+    let here = example
+        .fields
+        .iter()
+        .map(|field| (&field.name, &field.value));
+    let plain = |(name, value): (&String, &String)| format!("{name}: {}", spaceless(value));
+    let here: Vec<String> = here.map(plain).collect();
+    let made = told.lines.iter().map(|(name, value)| (name, value));
+    let made: Vec<String> = made.map(plain).collect();
+    (here != made).then(|| {
+        let texts = [here.join("\n"), made.join("\n")];
+        format!(
+            "docs/REFERENCE.md, line {}, has\n{}\nand should have\n{}",
+            example.line, texts[0], texts[1]
+        )
+    })
+}
+
+fn told(example: &Example) -> Told {
+    let kind = KINDS.iter().find(|kind| kind.0 == example.kind);
+    let (_, run) = kind.unwrap_or_else(|| panic!("line {}: a kind that is none", example.line));
+    run(example)
+}
+
+/// What is wrong in the examples of a text.
+fn wrong(text: &str) -> Vec<String> {
+    let found = examples(text).expect("examples");
+    let wrong = found.iter().filter_map(|it| difference(it, &told(it)));
+    wrong.collect()
+}
+
+/// How many examples of each kind a text has.
+fn counts(text: &str) -> Vec<(&'static str, usize)> {
+    let found = examples(text).expect("examples");
+    let of = |kind| found.iter().filter(|example| example.kind == kind).count();
+    KINDS.iter().map(|&(kind, _)| (kind, of(kind))).collect()
+}
+
+#[test]
+fn every_example_is_right() {
+    let wrong = wrong(&reference());
+    assert!(wrong.is_empty(), "{}", wrong.join("\n\n"));
+}
+
+#[test]
+fn every_kind_has_an_example() {
+    for (kind, count) in counts(&reference()) {
+        assert!(count > 0, "no example of the kind {kind}");
+    }
+}
+
+#[test]
+fn every_cause_has_an_example() {
+    let found = examples(&reference()).expect("examples");
+    let met: BTreeSet<u32> = found.iter().flat_map(|it| told(it).causes).collect();
+    assert!(met.into_iter().eq(1..=14));
+}
+
+/// Parts of the text, and wrong ones in their place: one for each kind and more.
+const SPOILT: [(&str, &str); 22] = [
+    ("product 57 83: c1", "product 57 83: c2"),
+    ("share 3: c3 c4", "share 3: c3 c5"),
+    ("share 3: c3 c4\n", ""),
+    ("share 5: 5e 53", "share 5: 5e 53\nshare 6: 00 00"),
+    ("00 02 c3 c4\nbook: 41 42", "00 02 c3 c4\nbook: 41 43"),
+    ("cause: 11", "cause: 12"),
+    ("cause: 9, needs 2", "cause: 9, needs 3"),
+    ("hash 1-2: e8", "hash 1-2: e9"),
+    ("path of share 3: hash 1-2", "path of share 3: hash 1"),
+    ("path 7: 5-6, 1-4", "path 7: 1-4, 5-6"),
+    ("passes: no", "passes: yes"),
+    ("bytes: 38", "bytes: 39"),
+    ("00 00: cause 10", "00 00: silence"),
+    ("entry 3: 00 26 07", "entry 3: 00 26 08"),
+    (
+        "n 4, t 2, own 1, book 41\ncause: 2",
+        "n 4, t 2, own 1, book 41\ncause: 1",
+    ),
+    ("relay: 07 02 00 02 82", "relay: 07 02 00 02 83"),
+    ("result: book 41 42", "result: nothing"),
+    (
+        "state: byte 0 01 02 00 02 03",
+        "state: byte 0 01 02 00 02 02",
+    ),
+    ("byte 1065 82", "byte 1066 82"),
+    ("byte 4 06: cause 5", "byte 4 06: taken"),
+    ("sent 388", "sent 389"),
+    ("prints: 1 =\n", "prints: 1 = \n"),
+];
+
+#[test]
+fn a_wrong_byte_is_found() {
+    let text = reference();
+    for (right, spoilt) in SPOILT {
+        assert!(text.contains(right), "{right}");
+        assert!(
+            !wrong(&text.replacen(right, spoilt, 1)).is_empty(),
+            "{spoilt}"
+        );
+    }
+}
+
+#[test]
+fn a_kind_without_example_is_found() {
+    let text = reference();
+    for (place, (kind, _)) in KINDS.iter().enumerate() {
+        let other = text.replace(&format!("```example {kind}\n"), "```example other\n");
+        assert_eq!(counts(&other)[place], (*kind, 0));
+    }
+}

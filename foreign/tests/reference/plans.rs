@@ -1,0 +1,75 @@
+//! Plans, and what their rehearsal prints.
+
+use foreign::examples::{planned, Example};
+use foreign::inbox::lay_out;
+use foreign::rehearsal::{read, rehearse, Exchange, Plan};
+
+use crate::Told;
+
+const EXCHANGES: [&str; 2] = ["first", "second"];
+
+/// The map of boxes in two bytes.
+fn map(boxes: impl Iterator<Item = usize>) -> [u8; 2] {
+    let map: u16 = boxes.map(|number| 1 << (number - 1)).sum();
+    map.to_be_bytes()
+}
+
+/// What a bad box sends in an exchange.
+fn sent(told: &mut Told, name: &str, sender: usize, exchange: &Exchange) {
+    let row = (1..).zip(&exchange[sender - 1]);
+    let packets = row.filter_map(|(receiver, packet)| Some((receiver, packet.as_ref()?)));
+    let packets: Vec<(usize, &Vec<u8>)> = packets.collect();
+    let receivers = map(packets.iter().map(|it| it.0));
+    told.bytes(format!("{name} exchange, box {sender}"), &receivers);
+    for (receiver, packet) in packets {
+        told.bytes(format!("to box {receiver}"), &lay_out(&[packet]));
+    }
+}
+
+/// The parts of a plan.
+fn parts(plan: &Plan, told: &mut Told) {
+    let root = plan.root.as_ref();
+    told.bytes("n", &[plan.n as u8]);
+    told.bytes("t", &[plan.t as u8]);
+    let options = u8::from(root.is_some()) + 2 * u8::from(plan.bit.is_some());
+    told.bytes("options", &[options]);
+    if let Some(root) = root {
+        told.bytes("root", root);
+    }
+    if let Some(bit) = plan.bit {
+        told.bytes("bit", &[bit]);
+    }
+    told.bytes("good boxes", &map(plan.good.iter().copied()));
+    for (own, book) in plan.good.iter().zip(&plan.messages) {
+        told.bytes(format!("book of box {own}"), &lay_out(&[book]));
+    }
+    for (name, exchange) in EXCHANGES.iter().zip([&plan.first, &plan.second]) {
+        for sender in (1..=plan.n).filter(|number| !plan.good.contains(number)) {
+            sent(told, name, sender, exchange);
+        }
+    }
+}
+
+/// Part by part, or whole where it is badly laid out.
+pub fn plan(example: &Example) -> Told {
+    let mut told = Told::default();
+    let (plan, output) = planned(example).expect("a plan and its output");
+    match read(&plan) {
+        Ok(plan) => parts(&plan, &mut told),
+        Err(_) => told.bytes("plan", &plan),
+    }
+    let printed = String::from_utf8(rehearse(&plan)).expect("a text");
+    if let Some(cause) = printed.strip_prefix("refused ") {
+        told.cause(cause.trim().parse().expect("a cause"));
+    }
+    // Spaces count in what is printed.
+    told.add(
+        "prints",
+        if printed == output {
+            &output
+        } else {
+            "another"
+        },
+    );
+    told
+}

@@ -1,0 +1,222 @@
+//! Openings, and boxes that are taken through their steps, with the bytes of their states.
+
+use foreign::examples::{limits, reference, written_over, Example, Field};
+use foreign::limits::LONGEST_OUTBOX;
+use foreign::party::{Given, Outcome, Refusal, Stage, State};
+
+use crate::{digits, Told};
+
+/// The version of the layout of a state's bytes.
+const VERSION: u8 = 1;
+
+/// A limit by its name in the text.
+fn limit(name: &str) -> usize {
+    let found = limits(&reference())
+        .into_iter()
+        .find(|limit| limit.0 == name);
+    found.unwrap_or_else(|| panic!("no limit {name}")).1
+}
+
+/// A number, or one that follows a limit, as in `PARTIES + 1`.
+fn number(text: &str) -> usize {
+    match text.split_once(" + ") {
+        Some((name, more)) => limit(name) + more.parse::<usize>().expect("a number"),
+        None => text.parse().unwrap_or_else(|_| limit(text)),
+    }
+}
+
+/// Bytes by their digits, or as many zeros as a number says.
+fn book(call: &Field) -> Vec<u8> {
+    let text = call.argument("book").expect("a book");
+    match text.strip_suffix(" zeros") {
+        Some(count) => vec![0; number(count)],
+        None => call.bytes("book").expect("digits"),
+    }
+}
+
+/// An opening by the arguments of a call.
+fn opened(call: &Field) -> Given<[u8; 32]> {
+    let argument = |name| number(call.argument(name).expect("a number")) as u64;
+    State::open(argument("n"), argument("t"), argument("own"), &book(call))
+}
+
+/// The refusal as it stands in an example.
+fn refused(refusal: Refusal, told: &mut Told) {
+    let cause = told.cause(refusal.cause);
+    match refusal.needed {
+        0 => told.add("cause", cause),
+        needed => told.add("cause", format!("{cause}, needs {needed}")),
+    }
+}
+
+/// Openings that have nothing to do with one another.
+pub fn openings(example: &Example) -> Told {
+    let mut told = Told::default();
+    for call in example.fields.iter().filter(|field| field.name == "open") {
+        told.add("open", &call.value);
+        match opened(call).1 {
+            Ok(root) => told.bytes("root", &root),
+            Err(refusal) => refused(refusal, &mut told),
+        }
+    }
+    told
+}
+
+/// A call with a buffer: its state and answer, and what it wrote.
+fn lent<T>(
+    call: &Field,
+    step: impl FnOnce(&mut [u8]) -> Given<T>,
+    written: impl FnOnce(T, &[u8]) -> String,
+) -> (State, Result<String, Refusal>) {
+    let room = call.number("room").unwrap_or(LONGEST_OUTBOX);
+    let mut out = vec![0; room];
+    let (state, answer) = step(&mut out);
+    (state, answer.map(|it| written(it, &out)))
+}
+
+/// Does a step; the name of what it gives stands with its answer.
+fn step(state: State, call: &Field) -> (State, Result<String, Refusal>, &'static str) {
+    let bytes = |name| call.bytes(name).expect("an argument in bytes");
+    let all = |length: usize, out: &[u8]| digits(&out[..length]);
+    match call.name.as_str() {
+        "agree_root" => {
+            let (state, happy) = state.agree_root(&bytes("root"));
+            (state, happy.map(|it| u8::from(it).to_string()), "bit")
+        }
+        "agree_bit" => {
+            let bit = call.number("bit").expect("a bit") as u8;
+            let (state, answer) = lent(call, |out| state.agree_bit(bit, out), all);
+            (state, answer, "outbox")
+        }
+        "take_shares" => {
+            let inbox = bytes("inbox");
+            let (state, answer) = lent(call, |out| state.take_shares(&inbox, out), all);
+            (state, answer, "relay")
+        }
+        "take_relays" => {
+            let inbox = bytes("inbox");
+            let result = |found: Option<usize>, out: &[u8]| match found {
+                Some(length) => format!("book {}", digits(&out[..length])),
+                None => "nothing".to_string(),
+            };
+            let (state, answer) = lent(call, |out| state.take_relays(&inbox, out), result);
+            (state, answer, "result")
+        }
+        other => panic!("{other}: no step"),
+    }
+}
+
+/// The bytes of a state.
+fn encoded(state: &State) -> Vec<u8> {
+    let (stage, length) = match state.stage {
+        Stage::Root => (0, state.len),
+        Stage::Bit => (1, state.len),
+        Stage::First => (2, state.len),
+        Stage::Second => (3, state.len),
+        Stage::Ended(Outcome::Nothing) => (4, 0),
+        Stage::Ended(Outcome::Message(length)) => (5, length),
+    };
+    let numbers = [state.n, state.t, state.own].map(|number| number as u8);
+    let [length, held] = [length, state.held].map(|it| (it as u16).to_be_bytes());
+    let mut bytes = vec![VERSION];
+    for part in [
+        &numbers[..],
+        &[stage],
+        &length,
+        &held,
+        &state.root,
+        &state.message,
+        &state.share,
+    ] {
+        bytes.extend(part);
+    }
+    bytes
+}
+
+/// One box: its opening, then its steps, each on the state that the last one gave; where the example
+/// tells the state, as well.
+pub fn sitting(example: &Example) -> Told {
+    let mut told = Told::default();
+    let mut box_state = State::blank();
+    for field in &example.fields {
+        let name = field.name.as_str();
+        let (next, answer, given) = match name {
+            "open" => {
+                let (opened, root) = opened(field);
+                (opened, root.map(|root| digits(&root)), "root")
+            }
+            "state" => {
+                let zeros = vec![0; limit("STATE")];
+                let shown = written_over(&zeros, &field.value).expect("a state");
+                let right = shown == encoded(&box_state);
+                told.add("state", if right { &field.value } else { "another" });
+                continue;
+            }
+            "root" | "bit" | "outbox" | "relay" | "result" | "cause" => continue,
+            _ => step(box_state, field),
+        };
+        told.add(name, &field.value);
+        match answer {
+            Ok(answer) => told.add(given, answer),
+            Err(refusal) => refused(refusal, &mut told),
+        }
+        box_state = next;
+    }
+    assert_eq!(encoded(&box_state).len(), limit("STATE"));
+    told
+}
+
+/// The number in two bytes.
+fn two(bytes: &[u8]) -> u64 {
+    u64::from(u16::from_be_bytes([bytes[0], bytes[1]]))
+}
+
+/// The state of bytes; none where no state has this version, this stage or so few bytes.
+fn decoded(bytes: &[u8]) -> Option<State> {
+    let whole = bytes.get(..limit("STATE"))?;
+    let (&[version, n, t, own, stage], rest) = whole.split_first_chunk::<5>()?;
+    let (length, held) = (two(rest), two(&rest[2..]));
+    let (root, rooms) = rest[4..].split_first_chunk()?;
+    let (message, share) = rooms.split_first_chunk()?;
+    let stages = [Stage::Root, Stage::Bit, Stage::First, Stage::Second];
+    let ends = [Outcome::Nothing, Outcome::Message(length)].map(Stage::Ended);
+    let stage = *stages.iter().chain(&ends).nth(stage.into())?;
+    (version == VERSION).then_some(State {
+        n: n.into(),
+        t: t.into(),
+        own: own.into(),
+        stage,
+        len: if stage == ends[1] { 0 } else { length },
+        held,
+        root: *root,
+        message: *message,
+        share: share.try_into().ok()?,
+    })
+}
+
+/// The cause that step 2 gives on a state of these bytes.
+fn judged(bytes: &[u8]) -> Option<u32> {
+    let Some(state) = decoded(bytes) else {
+        return Some(5);
+    };
+    let answer = state.agree_root(&[0; 32]).1;
+    answer.err().map(|refusal| refusal.cause)
+}
+
+/// A state with some bytes written over it, and what step 2 says of it; a reason may follow.
+pub fn broken(example: &Example) -> Told {
+    let mut told = Told::default();
+    let (open, changes) = example.fields.split_first().expect("an opening");
+    told.add("open", &open.value);
+    let sound = encoded(&opened(open).0);
+    for change in changes {
+        let cause = judged(&written_over(&sound, &change.name).expect("bytes to write"));
+        let what = match cause {
+            Some(cause) => format!("cause {}", told.cause(cause)),
+            None => "taken".to_string(),
+        };
+        let reason = change.value.split_once(", ").map_or("", |it| it.1);
+        told.add(&change.name, format!("{what}, {reason}"));
+    }
+    told
+}
