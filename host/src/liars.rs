@@ -71,7 +71,7 @@ impl Honest {
         let (mut party, root) = Party::open(parties, faults, own, message)?;
         party.agree_root(&root)?;
         let mut out = vec![0; MAX_OUTBOX];
-        let length = party.agree_bit(1, &mut out)?;
+        let length = party.agree_bit(true, &mut out)?;
         let packets = packets_in(&out[..length]);
         let length = party.take_shares(&lay_out(&vec![[]; parties]), &mut out)?;
         out.truncate(length);

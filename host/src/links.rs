@@ -33,8 +33,8 @@ pub fn connect(port: u16, hello: &Hello) -> Result<TcpStream> {
 
 /// The packets of an outbox by receiver.
 pub fn packets_in(outbox: &[u8]) -> Vec<Vec<u8>> {
-    let packets = entries(outbox).unwrap_or_default();
-    packets.into_iter().map(<[u8]>::to_vec).collect()
+    let packets = entries(outbox).into_iter().flatten();
+    packets.map(<[u8]>::to_vec).collect()
 }
 
 /// What arrived, by exchange and sender. The first frame of each counts.

@@ -40,10 +40,11 @@ fn tell(line: &str) -> Result<(), String> {
 /// prints it.
 fn reported(ended: Result<Report, Failure>) -> String {
     match ended {
-        Ok(Report { outcome, sent }) => match outcome {
-            Outcome::Nothing => format!("{sent} -"),
-            Outcome::Message(message) if message.is_empty() => format!("{sent} ="),
-            Outcome::Message(message) => format!("{sent} = {}", hex::encode(&message)),
+        Ok(Report { party, sent }) => match party.result() {
+            Some(Outcome::Nothing) => format!("{sent} -"),
+            Some(Outcome::Message([])) => format!("{sent} ="),
+            Some(Outcome::Message(message)) => format!("{sent} = {}", hex::encode(message)),
+            None => String::from("0 error: the party has not ended"),
         },
         Err(Failure::Refused(cause)) => format!("0 error: {cause}"),
         Err(Failure::Link(error)) => format!("0 error: {error}"),
