@@ -17,7 +17,7 @@ use Rattle.party.specs.declared.Party.{Party}
 use Rattle.party.specs.declared.Reply.{Reply}
 use Rattle.state_bytes.specs.Layout.{stateLength, stateBytes, stateOf}
 use Rattle.agreement.specs.Calls.{Call, made}
-use Rattle.capi.specs.Calls.{packed, returned, replies, nothingValue, valueShown, numberOf, over, openCall, called, filled, hashCall}
+use Rattle.capi.specs.Calls.{packed, returned, replies, valueShown, numberOf, over, openCall, called, filled, hashCall}
 
 -- the value hangs on the answer and not on the buffer, and fits its half
 value-same : (a : Answer) (out : List ℕ) → valueShown (resultGiven a []) (valueOf a) ≡ valueShown (resultGiven a out) (valueOf a)
@@ -28,10 +28,10 @@ value-same (answer.Sent l) out = refl
 value-same answer.Nothing out = refl
 value-same (answer.Message l) out = refl
 
-pub value-fits : (r : Option Result) (v : ℕ) → v < nothingValue → valueShown r v < 2 ^ 32
-value-fits none v h = omega (arith, h)
+pub value-fits : (r : Option Result) (v : ℕ) → v < 2 ^ 32 → valueShown r v < 2 ^ 32
+value-fits none v h = h
 value-fits (some nothing) v h = omega arith
-value-fits (some (settled m)) v h = omega (arith, h)
+value-fits (some (settled m)) v h = omega arith
 
 -- a reply over the bytes of the state, accepted or refused
 module _ (s : List ℕ) (r : Stepped) where

@@ -11,22 +11,30 @@ use lib.Dec.{eqb}
 use lib.ListN.{length}
 use Rattle.limits.proofs.Group.{group-of}
 use Rattle.commitment.proofs.Opening.{open-bounds}
-use Rattle.party.specs.State.{seatOf, nothing, messageIn, atFirst, atEnd}
+use Rattle.party.specs.State.{seatOf, Result, nothing, settled, messageIn, atFirst, atEnd}
 use Rattle.party.specs.Steps.{openOf, Stepped, heldOf, resultOf}
+use Rattle.party.specs.declared.Seat.{Seat}
 use Rattle.party.specs.declared.Party.{Party}
 use Rattle.party.specs.declared.Opened.{Opened}
 use Rattle.party.proofs.Causes.{fit-of}
-use Rattle.party.proofs.Progress.{message-short, held-short, result-short}
+use Rattle.party.proofs.Progress.{message-short, held-short, result-short, end-whole}
 use Rattle.state_bytes.specs.Layout.{stateLength, stateOf}
 use Rattle.state_bytes.proofs.Reading.{root-32}
 use Rattle.state_bytes.proofs.Inverse.{Storable, written-read, root-storable, bit-storable, first-storable, second-storable, end-storable}
 use Rattle.agreement.specs.Calls.{Call, agreeRoot, agreeBit, takeShares, takeRelays, made, events, final}
 use Rattle.agreement.proofs.Run.{refused-keeps, did2, did3, did4, did5, event}
 use Rattle.agreement.proofs.Ran.{opened-is}
-use Rattle.capi.specs.Calls.{Returned, Replies, openCall, called}
-use Rattle.capi.specs.Lists.{answers, left, shown}
+use Rattle.capi.specs.Calls.{Returned, Replies, openCall, called, unlessBroken, lengthAnswer, resultLengthCall}
+use Rattle.capi.specs.Lists.{answers, left, shown, lengthOf}
 use Rattle.capi.proofs.Answers.{over-written, over-left, open-done}
+use Rattle.capi.proofs.Asked.{unbroken}
 use Rattle.capi.proofs.Sound.{root-fine, whole, accepted-long}
+
+-- an end tells the length of its result
+end-length : (s : Seat) (r : Result) → lengthAnswer (atEnd s r .stage) ≡ lengthOf r
+unfolding atEnd
+end-length s nothing = refl
+end-length s (settled m) = refl
 
 -- the state that an accepted call gives back fits its bytes
 either : (b : Bool) (y z : Party) → Storable y → Storable z → Storable (cond b y z)
@@ -83,6 +91,21 @@ module _ (H : List ℕ → List ℕ) where
   calls-told s (c ∷ cs) =
       ap (λ (l : List Returned). shown (event H (stateOf s) c) ∷ l)
       (calls-told (called H s c .state) cs ∙ ap (λ (x : Party). map shown (events H x cs)) (call-kept s c))
+
+  -- after an accepted step 5 the buffer tells the length of the message that the step gave, or cause 6 where it gave nothing
+  pub length-kept : (s inbox out : List ℕ) → made H (stateOf s) (takeRelays inbox out) .cause ≡ 0
+      → resultLengthCall (called H s (takeRelays inbox out) .state) ≡ lengthOf (resultOf H (stateOf s) inbox)
+  unfolding resultLengthCall
+  length-kept s inbox out e =
+      let x = stateOf s in
+      let c = takeRelays inbox out in
+      let r = resultOf H x inbox in
+      let w = whole H x c e in
+      let f = fit-of x w in
+      ap (λ (y : Party). unlessBroken y (lengthAnswer (y .stage))) (call-kept s c ∙ ap (λ (g : Stepped). g .state) (did5 H x inbox out e .1))
+      ∙ unbroken (atEnd (x .seat) r) (lengthAnswer (atEnd (x .seat) r .stage))
+      (end-whole (x .seat) (f .low) (f .high) (omega (arith, f .faults)) (f .first) (f .last) r (result-short H x w inbox))
+      ∙ end-length (x .seat) r
 
   -- an accepted opening: the buffer then says the state that a party opens with
   pub open-kept : (n t own : ℕ) (m s z : List ℕ) → openOf H n t own m .cause ≡ 0 → stateLength ≤ length s → 32 ≤ length z

@@ -1,5 +1,5 @@
--- Every value fits the lower half of an answer, and no step's is that of the result nothing: what a step writes, a message, the shares of one.
--- By the limits. Assumes nothing.
+-- Every value fits the lower half of an answer: what a step writes, a message, the shares of one, what is asked of a state. By the limits.
+-- Assumes nothing.
 use mathlib.Core.Path.{_≡_, refl, sym, subst}
 use mathlib.Core.Bool.{Bool, true, false, cond, not}
 use mathlib.Core.List.{List, []}
@@ -36,7 +36,7 @@ use Rattle.party.proofs.Progress.{result-short}
 use Rattle.party.proofs.Rooms.{outbox-fits, relay-fits}
 use Rattle.party.proofs.Taking.{Short, short-recovered}
 use Rattle.agreement.specs.Calls.{Call, agreeRoot, agreeBit, takeShares, takeRelays, made}
-use Rattle.capi.specs.Calls.{packed, nothingValue, valueShown, numberOf}
+use Rattle.capi.specs.Calls.{packed, valueShown, numberOf}
 use Rattle.capi.proofs.Answers.{value-fits}
 use Rattle.capi.proofs.Sound.{bit-sound}
 
@@ -58,12 +58,12 @@ value-of bs out = go (ltb (length out) (length bs))
     go true = refl
     go false = refl
 
-ending-value : (x : Party) (r : Result) (out : List ℕ) → length (resultBytes r) ≤ maxMessage → ending x r out .value < nothingValue
+ending-value : (x : Party) (r : Result) (out : List ℕ) → length (resultBytes r) ≤ maxMessage → ending x r out .value < 2 ^ 32
 ending-value x nothing out h = omega arith
 ending-value x (settled m) out h = go (ltb (length out) (length m))
   where
     go : (b : Bool) → cond b (gives x (answer.Short (length m)) out)
-        (gives (atEnd (x .seat) (settled m)) (answer.Message (length m)) (spliced out 0 m)) .value < nothingValue
+        (gives (atEnd (x .seat) (settled m)) (answer.Message (length m)) (spliced out 0 m)) .value < 2 ^ 32
     go true = omega (arith, h)
     go false = omega (arith, h)
 
@@ -99,13 +99,13 @@ module _ (H : List ℕ → List ℕ) (x : Party) where
 
 module _ (H : List ℕ → List ℕ) (wide : (s : List ℕ) → length (H s) ≡ 32) (x : Party) where
   -- step 2: a bit
-  root-small : (z : List ℕ) → agreeRootOf H x z .value < nothingValue
+  root-small : (z : List ℕ) → agreeRootOf H x z .value < 2 ^ 32
   root-small z = elim (ℕ-discrete (rootCause x z) 0) [
     | yes e ↦ rw (root-given H x z e) (one (happy H (withRoot x z)))
     | no e ↦ rw (root-refused H x z e) (omega arith)
   ]
     where
-      one : (b : Bool) → cond b 1 0 < nothingValue
+      one : (b : Bool) → cond b 1 0 < 2 ^ 32
       one true = omega arith
       one false = omega arith
 
@@ -115,7 +115,7 @@ module _ (H : List ℕ → List ℕ) (wide : (s : List ℕ) → length (H s) ≡
       subst (λ (l : List ℕ). length l ≤ maxOutbox) (bit-same H x bit)
       (outbox-fits H wide (x .seat) (messageIn x) (x .root) (coded x f) bit)
 
-  bit-small : (bit : ℕ) (out : List ℕ) → agreeBitOf H x bit out .value < nothingValue
+  bit-small : (bit : ℕ) (out : List ℕ) → agreeBitOf H x bit out .value < 2 ^ 32
   unfolding agreeBitOf
   bit-small bit out = elim (ℕ-discrete (bitCause x bit) 0) [
     | yes e ↦ let next : Party = cond (eqb bit 0) (atEnd (x .seat) nothing)
@@ -131,7 +131,7 @@ module _ (H : List ℕ → List ℕ) (wide : (s : List ℕ) → length (H s) ≡
       subst (λ (l : List ℕ). length l ≤ maxPacket) (first-same H x inbox)
       (relay-fits H wide (x .seat) (messageIn x) (x .root) (coded x f) (f .first) (f .last) inbox)
 
-  shares-small : (inbox out : List ℕ) → takeSharesOf H x inbox out .value < nothingValue
+  shares-small : (inbox out : List ℕ) → takeSharesOf H x inbox out .value < 2 ^ 32
   unfolding takeSharesOf
   shares-small inbox out = elim (ℕ-discrete (inboxCause 4 x inbox) 0) [
     | yes e ↦ let next : Party = atSecond (x .seat) (messageIn x) (x .root) (heldOf H x inbox) in
@@ -145,7 +145,7 @@ module _ (H : List ℕ → List ℕ) (wide : (s : List ℕ) → length (H s) ≡
   ]
 
   -- step 5
-  relays-small : (inbox out : List ℕ) → takeRelaysOf H x inbox out .value < nothingValue
+  relays-small : (inbox out : List ℕ) → takeRelaysOf H x inbox out .value < 2 ^ 32
   unfolding takeRelaysOf
   relays-small inbox out = elim (ℕ-discrete (inboxCause 5 x inbox) 0) [
     | yes e ↦ rw (eq-eqb (inboxCause 5 x inbox) 0 e)
@@ -155,15 +155,15 @@ module _ (H : List ℕ → List ℕ) (wide : (s : List ℕ) → length (H s) ≡
   ]
 
   -- any step
-  pub call-small : (c : Call) → made H x c .value < nothingValue
+  pub call-small : (c : Call) → made H x c .value < 2 ^ 32
   unfolding made
   call-small (agreeRoot z) = root-small z
   call-small (agreeBit bit out) = bit-small bit out
   call-small (takeShares inbox out) = shares-small inbox out
   call-small (takeRelays inbox out) = relays-small inbox out
 
-  pub step-small : (c : Call) (r : Reply) (out : List ℕ) → stepped r out ≡ made H x c → stepped r [] .value < nothingValue
-  step-small c r out e = subst (λ (g : Stepped). g .value < nothingValue) (sym e) (call-small c)
+  pub step-small : (c : Call) (r : Reply) (out : List ℕ) → stepped r out ≡ made H x c → stepped r [] .value < 2 ^ 32
+  step-small c r out e = subst (λ (g : Stepped). g .value < 2 ^ 32) (sym e) (call-small c)
 
   -- so both halves are there: what the header's two helpers give
   pub call-halves : (c : Call) → let r = made H x c in

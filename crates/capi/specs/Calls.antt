@@ -4,7 +4,7 @@
 use mathlib.Core.Bool.{cond, not}
 use mathlib.Core.List.{List}
 use mathlib.Core.Option.{Option, none, some}
-use Prim.Native.Nat.{ℕ, _+_, _-_, _*_, _/_, _%_, _^_}
+use Prim.Native.Nat.{ℕ, _+_, _*_, _/_, _%_, _^_}
 use lib.Dec.{ltb, eqb}
 use lib.ListN.{length}
 use Rattle.buffer.specs.Given.{Given, written}
@@ -18,10 +18,21 @@ use Rattle.packet.specs.Format.{hashes}
 use Rattle.packet.specs.Answer.{readAt}
 use Rattle.packet.specs.declared.Packet.{Packet}
 use Rattle.packet.specs.declared.Packet.the-variants as packet
-use Rattle.party.specs.State.{Result, nothing, settled}
+use Rattle.party.specs.State.{Result, nothing, settled, broken}
 use Rattle.party.specs.Steps.{openOf, Stepped}
-use Rattle.state_bytes.specs.Layout.{stateLength, stateBytes, stateOf}
+use Rattle.party.specs.declared.Outcome.the-variants as outcome
+use Rattle.party.specs.declared.Stage.{Stage}
+use Rattle.party.specs.declared.Stage.the-variants.{Root, Bit, First, Second, Ended}
+use Rattle.party.specs.declared.Party.{Party}
+use Rattle.state_bytes.specs.Layout.{stateLength, stageNumber, stateBytes, stateOf}
 use Rattle.agreement.specs.Calls.{Call, made}
+
+-- the version of the library, as one number: major, minor and patch
+abbrev pub versionOf : ℕ → ℕ → ℕ → ℕ
+versionOf major minor patch = major * 2 ^ 16 + minor * 2 ^ 8 + patch
+
+abbrev pub libraryVersion : ℕ
+libraryVersion = versionOf 1 0 0
 
 -- a cause (0: accepted) in the upper 32 bits, a value in the lower
 unfoldable pub packed : ℕ → ℕ → ℕ
@@ -43,14 +54,11 @@ pub record Replies : Type 0 where
 abbrev pub replies : ℕ → List ℕ → List ℕ → Replies
 replies r s o = record { number = r; state = s; out = o }
 
--- the value for the result nothing: all bits, which no other value has
-abbrev pub nothingValue : ℕ
-nothingValue = 2 ^ 32 - 1
-
+-- the value of a step; of step 5 whether the result is a message, 1, or nothing, 0: no length, which the state tells (`resultLengthCall`)
 abbrev pub valueShown : Option Result → ℕ → ℕ
 valueShown none value = value
-valueShown (some nothing) value = nothingValue
-valueShown (some (settled m)) value = value
+valueShown (some nothing) value = 0
+valueShown (some (settled m)) value = 1
 
 -- what a step gave back, as one number
 abbrev pub numberOf : Stepped → ℕ
@@ -73,6 +81,30 @@ module _ (H : List ℕ → List ℕ) where
   -- steps 2 to 5: the party's call, on the state that the bytes say. Step 2 has no out buffer
   unfoldable pub called : List ℕ → Call → Replies
   called s c = over s (made H (stateOf s) c)
+
+-- what is asked of a state: cause 5 where the bytes are none, as the steps judge it
+abbrev pub unlessBroken : Party → ℕ → ℕ
+unlessBroken x answer = cond (broken x) (packed 5 0) answer
+
+-- the number of its stage, 0 to 5
+unfoldable pub stageCall : List ℕ → ℕ
+stageCall s = unlessBroken (stateOf s) (packed 0 (stageNumber (stateOf s .stage)))
+
+-- the party's own number
+unfoldable pub ownCall : List ℕ → ℕ
+ownCall s = unlessBroken (stateOf s) (packed 0 (stateOf s .seat .own))
+
+-- the length of the message that the party ended with; cause 6 where it waits, or ended with nothing
+abbrev pub lengthAnswer : Stage → ℕ
+lengthAnswer Root = packed 6 0
+lengthAnswer Bit = packed 6 0
+lengthAnswer First = packed 6 0
+lengthAnswer Second = packed 6 0
+lengthAnswer (Ended outcome.Nothing) = packed 6 0
+lengthAnswer (Ended (outcome.Message l)) = packed 0 l
+
+unfoldable pub resultLengthCall : List ℕ → ℕ
+resultLengthCall s = unlessBroken (stateOf s) (lengthAnswer (stateOf s .stage))
 
 -- a packet read: 0 for silence; else how many hashes follow the share, its number and its length
 abbrev pub readAnswer : Packet → ℕ

@@ -1,26 +1,57 @@
 // What C and Rust hosts link: the steps of a party on a state of bytes that the host keeps, and the tools beside them. A `&[u8]` passes as a
-// pointer and a length. Every function answers one number, the cause in its upper 32 bits (0: accepted) and the value in its lower; a
-// refused call leaves every lent byte.
+// pointer and a length. Every function that can refuse answers one number, the cause in its upper 32 bits (0: accepted) and the value in its
+// lower; a refused call leaves every lent byte.
 ghost use mathlib.Core.Path.{_≡_};
+ghost use mathlib.Core.Bool.{false};
 ghost use mathlib.Core.List.{List, []};
 ghost use Prim.Native.Nat.{ℕ, _<_, _^_};
 ghost use Rattle.sha256.specs.Sha256.{sha256};
 ghost use Rattle.buffer.specs.Given.{gave};
+ghost use Rattle.party.specs.State.{overlong};
 ghost use Rattle.party.specs.Steps.{causeOf, valueOf, resultGiven, stepped};
+ghost use Rattle.state_bytes.specs.Layout.{stateLength};
 ghost use Rattle.agreement.specs.Calls.{agreeRoot, agreeBit, takeShares, takeRelays};
-ghost use Rattle.capi.specs.Calls.{packed, returned, replies, nothingValue, valueShown, over, openCall, called, readPacketCall, checkAnswer};
+ghost use Rattle.capi.specs.Calls.{libraryVersion, packed, returned, replies, valueShown, over, openCall, called, readPacketCall, checkAnswer};
+ghost use Rattle.capi.specs.Calls.{stageCall, ownCall, lengthAnswer, resultLengthCall};
 ghost use Rattle.capi.specs.Calls.{denied, checkPathCall, filled, sharesCall, rebuildCall, hashCall};
 use buffer::Written;
 use merkle::Checked;
 use packet::Packet;
 use party::Answer;
 use party::Opened;
+use party::Outcome;
 use party::Party;
 use party::Reply;
+use party::Stage;
 use state_bytes::LENGTH;
 
-// The value for the result nothing, which no length can be.
-const NOTHING: usize = 4294967295;
+// The version of the library.
+const MAJOR: u32 = 1;
+
+const MINOR: u32 = 0;
+
+const PATCH: u32 = 0;
+
+// The values of step 5: whether it ends with nothing or with a message.
+const NOTHING: usize = 0;
+
+const MESSAGE: usize = 1;
+
+// The version of the library that is linked, as one number.
+#[no_mangle]
+pub extern "C" fn cipangohu_version() -> u32
+    ensures { λ r. ⌜ r ≡ libraryVersion ⌝ }
+{
+    MAJOR * 65536 + MINOR * 256 + PATCH
+}
+
+// How many bytes a state has.
+#[no_mangle]
+pub extern "C" fn cipangohu_state_size() -> usize
+    ensures { λ r. ⌜ r ≡ stateLength ⌝ }
+{
+    LENGTH
+}
 
 // Step 1. The state and the root are written only where both fit.
 #[no_mangle]
@@ -65,7 +96,7 @@ pub extern "C" fn cipangohu_agree_root(state: &mut [u8], root: &[u8]) -> u64
 
 // Step 3: the agreed bit. The outbox goes to out.
 #[no_mangle]
-pub extern "C" fn cipangohu_agree_bit(state: &mut [u8], bit: u8, out: &mut [u8]) -> u64
+pub extern "C" fn cipangohu_agree_bit(state: &mut [u8], bit: usize, out: &mut [u8]) -> u64
     ensures { λ r. ⌜ replies r (now (state .exit)) (now (out .exit))
         ≡ called sha256 (now (state .entry)) (agreeBit bit (now (out .entry))) ⌝ }
 {
@@ -83,7 +114,7 @@ pub extern "C" fn cipangohu_take_shares(state: &mut [u8], inbox: &[u8], out: &mu
     finish(reply, state)
 }
 
-// Step 5: the second inbox. The message, if there is one, goes to out.
+// Step 5: the second inbox. The value is 1 for a message, which goes to out, and 0 for nothing.
 #[no_mangle]
 pub extern "C" fn cipangohu_take_relays(state: &mut [u8], inbox: &[u8], out: &mut [u8]) -> u64
     ensures { λ r. ⌜ replies r (now (state .exit)) (now (out .exit))
@@ -91,6 +122,45 @@ pub extern "C" fn cipangohu_take_relays(state: &mut [u8], inbox: &[u8], out: &mu
 {
     let reply = state_bytes::read(state).take_relays(inbox, out);
     finish(reply, state)
+}
+
+// The number of the stage that a state is at.
+#[no_mangle]
+pub extern "C" fn cipangohu_stage(state: &[u8]) -> u64
+    ensures { λ r. ⌜ r ≡ stageCall (now (state .entry)) ⌝ }
+{
+    let party = state_bytes::read(state);
+    if party.broken() {
+        return pack(5, 0);
+    }
+    let stage = party.stage;
+    let number = state_bytes::stage_number(stage);
+    pack(0, number as usize)
+}
+
+// The party's own number.
+#[no_mangle]
+pub extern "C" fn cipangohu_own(state: &[u8]) -> u64
+    ensures { λ r. ⌜ r ≡ ownCall (now (state .entry)) ⌝ }
+{
+    let party = state_bytes::read(state);
+    if party.broken() {
+        return pack(5, 0);
+    }
+    pack(0, party.seat.own)
+}
+
+// The length of the message that the party ended with.
+#[no_mangle]
+pub extern "C" fn cipangohu_result_length(state: &[u8]) -> u64
+    ensures { λ r. ⌜ r ≡ resultLengthCall (now (state .entry)) ⌝ }
+{
+    let party = state_bytes::read(state);
+    if party.broken() {
+        return pack(5, 0);
+    }
+    let stage = party.stage;
+    length_answer(stage)
 }
 
 // What a packet says among n parties; its share begins at byte 4, and its path follows the share.
@@ -178,7 +248,7 @@ fn pack(cause: u8, value: usize) -> u64
 
 // The next state over the old one, unless the call was refused, and the answer as one number.
 fn finish(reply: Reply, state: &mut [u8]) -> u64
-    requires { ⌜ stepped reply [] .value < nothingValue ⌝ }
+    requires { ⌜ stepped reply [] .value < 2 ^ 32 ⌝ }
     ensures { λ r. ⌜ ((out : List ℕ) → replies r (now (state .exit)) out ≡ over (now (state .entry)) (stepped reply out)) ⌝ }
 {
     let next = reply.state;
@@ -219,8 +289,22 @@ fn value_of(answer: Answer) -> usize
         }
         Answer::Sent(len) => len,
         Answer::Nothing => NOTHING,
-        Answer::Message(len) => len,
+        Answer::Message(_) => MESSAGE,
     }
+}
+
+// The length of the result's message, or cause 6.
+fn length_answer(stage: Stage) -> u64
+    requires { ⌜ overlong stage ≡ false ⌝ }
+    ensures { λ r. ⌜ r ≡ lengthAnswer stage ⌝ }
+{
+    let Stage::Ended(outcome) = stage else {
+        return pack(6, 0);
+    };
+    let Outcome::Message(len) = outcome else {
+        return pack(6, 0);
+    };
+    pack(0, len)
 }
 
 // What a function answers that writes into a lent buffer, as one number.

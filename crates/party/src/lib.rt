@@ -142,7 +142,7 @@ impl Party {
     }
 
     // Step 3: the agreed bit comes. On 1 a happy party writes a packet for each other party.
-    pub fn agree_bit(self, bit: u8, out: &mut [u8]) -> Reply
+    pub fn agree_bit(self, bit: usize, out: &mut [u8]) -> Reply
         ensures { λ r. ⌜ stepped r (now (out .exit)) ≡ agreeBitOf sha256 self bit (now (out .entry)) ⌝ }
     {
         let cause = self.state_cause(3);
@@ -360,7 +360,7 @@ impl Party {
     }
 
     // Whether the state breaks causes 1 to 4 or holds a length over its limit.
-    fn broken(self) -> bool
+    pub fn broken(self) -> bool
         ensures { λ r. ⌜ r ≡ broken self ⌝ }
     {
         if limits::group_cause(self.seat.n, self.seat.t) != 0 {

@@ -21,7 +21,8 @@ use Rattle.party.specs.declared.Stage.{Stage}
 use Rattle.party.specs.declared.Stage.the-variants.{Root, Bit, First, Second, Ended}
 use Rattle.party.specs.declared.Seat.{Seat}
 use Rattle.party.specs.declared.Party.{Party}
-use Rattle.state_bytes.specs.Layout.{headLength, stateLength, stageNumber, lengthFor, headOf, stateBytes, stageOf, stageTold, lengthTold, heldTold, stateOf}
+use Rattle.state_bytes.specs.Layout.{rootPlace, headLength, stateLength, stageNumber, lengthFor, headOf, stateBytes, stageOf}
+use Rattle.state_bytes.specs.Layout.{layoutVersion, versionTold, stageTold, lengthTold, heldTold, stateOf}
 use Rattle.state_bytes.proofs.Reading.{fields-are, bytes-long, state-read}
 
 -- a state whose fields fit their places; an end with a message has no other length
@@ -68,27 +69,31 @@ module _ (x : Party) (f : Storable x) (r : List ℕ) where
   abbrev M : List ℕ
   M = x .message ++ (x .share ++ r)
 
-  behind-head : drop 8 B ≡ x .root ++ M
+  behind-head : drop rootPlace B ≡ x .root ++ M
   unfolding stateBytes headOf
   behind-head =
       append-assoc (x .root) (x .message ++ x .share) r ∙ ap (λ (l : List ℕ). x .root ++ l) (append-assoc (x .message) (x .share) r)
 
   behind-root : drop headLength B ≡ M
-  behind-root = sym (drop-drop 32 8 B) ∙ ap (drop 32) behind-head ∙ drop-at (x .root) M 32 (f .root)
+  behind-root = sym (drop-drop 32 rootPlace B) ∙ ap (drop 32) behind-head ∙ drop-at (x .root) M 32 (f .root)
 
   behind-message : drop (headLength + maxMessage) B ≡ x .share ++ r
   behind-message =
       sym (drop-drop maxMessage headLength B) ∙ ap (drop maxMessage) behind-root ∙ drop-at (x .message) (x .share ++ r) maxMessage (f .message)
 
-  n-back : x .seat .n ≡ getD B 0 0
+  version-back : versionTold B ≡ layoutVersion
+  unfolding stateBytes headOf
+  version-back = refl
+
+  n-back : x .seat .n ≡ getD B 1 0
   unfolding stateBytes headOf
   n-back = sym (mod-eq-of-lt (f .parties))
 
-  t-back : x .seat .t ≡ getD B 1 0
+  t-back : x .seat .t ≡ getD B 2 0
   unfolding stateBytes headOf
   t-back = sym (mod-eq-of-lt (f .faults))
 
-  own-back : x .seat .own ≡ getD B 2 0
+  own-back : x .seat .own ≡ getD B 3 0
   unfolding stateBytes headOf
   own-back = sym (mod-eq-of-lt (f .number))
 
@@ -106,7 +111,7 @@ module _ (x : Party) (f : Storable x) (r : List ℕ) where
 
   read-back : stateOf B ≡ x
   read-back =
-      state-read B long (omega (arith, stage-known (x .stage), number-back))
+      state-read B long version-back (omega (arith, stage-known (x .stage), number-back))
       ∙ sym (fields-are B (stageNumber (x .stage)) (lengthFor (x .stage) (x .len)) (x .seat .n) (x .seat .t) (x .seat .own) (x .stage)
       (x .message) (x .len) (x .root) (x .share) (x .held) number-back length-back n-back t-back own-back (stage-back (x .stage) (x .len))
       (sym (ap (take maxMessage) behind-root ∙ take-at (x .message) (x .share ++ r) maxMessage (f .message))) (sym (f .only))

@@ -3,9 +3,9 @@ use mathlib.Core.Path.{_≡_, refl, sym, ap, ap₂, _∙_}
 use mathlib.Core.Bool.{cond}
 use mathlib.Core.List.{List, [], _∷_, _++_, append-assoc}
 use Prim.Native.Nat.{ℕ, _+_, _/_, _%_, _≤_, _<_}
-use native.Mathlib.Decide.{decLt}
+use native.Mathlib.Decide.{ℕ-discrete, decLt}
 use native.Mathlib.Omega.{arith}
-use borrow.Author.Tests.{lt-ltb, le-ltb, ne-eqb}
+use borrow.Author.Tests.{lt-ltb, le-ltb, eq-eqb, ne-eqb}
 use lib.Dec.{eqb}
 use lib.ListN.{length, getD, take, drop, replicate, length-append, length-drop}
 use lib.Seq.{length-take-le}
@@ -21,8 +21,8 @@ use Rattle.party.specs.declared.Outcome.the-variants as outcome
 use Rattle.party.specs.declared.Stage.{Stage}
 use Rattle.party.specs.declared.Stage.the-variants.{Root, Bit, First, Second, Ended}
 use Rattle.party.specs.declared.Party.{Party}
-use Rattle.state_bytes.specs.Layout.{headLength, stateLength, stageNumber, lengthFor, headOf, stateBytes, stageOf, stageTold, lengthTold, heldTold}
-use Rattle.state_bytes.specs.Layout.{readIn, stateOf}
+use Rattle.state_bytes.specs.Layout.{layoutVersion, rootPlace, headLength, stateLength, stageNumber, lengthFor, headOf, stateBytes, stageOf}
+use Rattle.state_bytes.specs.Layout.{versionTold, stageTold, lengthTold, heldTold, readIn, stateOf}
 
 -- a part of a list has the length that was asked for, where the list is long enough; so put into an array of that length it is all there is
 length-part : (at k : ℕ) (s : List ℕ) → at + k ≤ length s → length (take k (drop at s)) ≡ k
@@ -65,13 +65,18 @@ module _ (s : List ℕ) where
   state-short h = rw (lt-ltb (length s) stateLength h)
 
   module _ (long : stateLength ≤ length s) where
-    pub state-unknown : 5 < stageTold s → stateOf s ≡ blankState
+    pub state-other : (versionTold s ≡ layoutVersion → ⊥) → stateOf s ≡ blankState
     unfolding stateOf
-    state-unknown h = rw (le-ltb (length s) stateLength long, lt-ltb 5 (stageTold s) h)
+    state-other h = rw (le-ltb (length s) stateLength long, ne-eqb (versionTold s) layoutVersion h)
 
-    pub state-read : stageTold s ≤ 5 → stateOf s ≡ readIn s
-    unfolding stateOf
-    state-read h = rw (le-ltb (length s) stateLength long, le-ltb 5 (stageTold s) h)
+    module _ (same : versionTold s ≡ layoutVersion) where
+      pub state-unknown : 5 < stageTold s → stateOf s ≡ blankState
+      unfolding stateOf
+      state-unknown h = rw (le-ltb (length s) stateLength long, eq-eqb (versionTold s) layoutVersion same, lt-ltb 5 (stageTold s) h)
+
+      pub state-read : stageTold s ≤ 5 → stateOf s ≡ readIn s
+      unfolding stateOf
+      state-read h = rw (le-ltb (length s) stateLength long, eq-eqb (versionTold s) layoutVersion same, le-ltb 5 (stageTold s) h)
 
 -- the agreed root that bytes say has 32 of them
 blank-32 : length (blankState .root) ≡ 32
@@ -80,29 +85,32 @@ blank-32 = refl
 
 read-32 : (s : List ℕ) → stateLength ≤ length s → length (readIn s .root) ≡ 32
 unfolding readIn
-read-32 s h = length-part 8 32 s (omega arith)
+read-32 s h = length-part rootPlace 32 s (omega arith)
 
 pub root-32 : (s : List ℕ) → length (stateOf s .root) ≡ 32
 root-32 s = elim (decLt (length s) stateLength) [
   | yes h ↦ ap (λ (x : Party). length (x .root)) (state-short s h) ∙ blank-32
   | no h ↦ let long : stateLength ≤ length s = omega arith in
-      elim (decLt 5 (stageTold s)) [
-        | yes k ↦ ap (λ (x : Party). length (x .root)) (state-unknown s long k) ∙ blank-32
-        | no k ↦ ap (λ (x : Party). length (x .root)) (state-read s long (omega arith)) ∙ read-32 s long
+      elim (ℕ-discrete (versionTold s) layoutVersion) [
+        | yes v ↦ elim (decLt 5 (stageTold s)) [
+          | yes k ↦ ap (λ (x : Party). length (x .root)) (state-unknown s long v k) ∙ blank-32
+          | no k ↦ ap (λ (x : Party). length (x .root)) (state-read s long v (omega arith)) ∙ read-32 s long
+        ]
+        | no v ↦ ap (λ (x : Party). length (x .root)) (state-other s long v) ∙ blank-32
       ]
 ]
 
 -- the numbers before the root
 pub head-is : (x : Party) (len a b c d e f g h : ℕ) → len ≡ lengthFor (x .stage) (x .len) → a ≡ x .seat .n % 256 → b ≡ x .seat .t % 256
     → c ≡ x .seat .own % 256 → d ≡ stageNumber (x .stage) → e ≡ len / 256 % 256 → f ≡ len % 256 → g ≡ x .held / 256 % 256 → h ≡ x .held % 256
-    → a ∷ b ∷ c ∷ d ∷ e ∷ f ∷ g ∷ h ∷ [] ≡ headOf x
+    → layoutVersion ∷ a ∷ b ∷ c ∷ d ∷ e ∷ f ∷ g ∷ h ∷ [] ≡ headOf x
 unfolding headOf
 head-is x len a b c d e f g h l qa qb qc qd qe qf qg qh = rw (qa, qb, qc, qd, qe, qf, qg, qh, l)
 
 -- a state whose fields are those that the bytes say
 pub fields-are : (s : List ℕ) (number len n t own : ℕ) (stage : Stage) (message : List ℕ) (l : ℕ) (root share : List ℕ) (held : ℕ)
-    → number ≡ stageTold s → len ≡ lengthTold s → n ≡ getD s 0 0 → t ≡ getD s 1 0 → own ≡ getD s 2 0 → stage ≡ stageOf number len
-    → message ≡ take maxMessage (drop headLength s) → l ≡ cond (eqb number 5) 0 len → root ≡ take 32 (drop 8 s)
+    → number ≡ stageTold s → len ≡ lengthTold s → n ≡ getD s 1 0 → t ≡ getD s 2 0 → own ≡ getD s 3 0 → stage ≡ stageOf number len
+    → message ≡ take maxMessage (drop headLength s) → l ≡ cond (eqb number 5) 0 len → root ≡ take 32 (drop rootPlace s)
     → share ≡ take maxShare (drop (headLength + maxMessage) s) → held ≡ heldTold s
     → _≡_ {A = Party} (record {
       seat = seatOf n t own;
@@ -125,7 +133,7 @@ behind s l r at e h =
     ∙ ap (λ (k : ℕ). spliced (spliced s 0 l) k r) e ∙ spliced-more s 0 l r (omega arith)
 
 module _ (x : Party) (root : length (x .root) ≡ 32) (message : length (x .message) ≡ maxMessage) (share : length (x .share) ≡ maxShare) where
-  head-long : length (headOf x) ≡ 8
+  head-long : length (headOf x) ≡ rootPlace
   unfolding headOf
   head-long = refl
 
@@ -146,7 +154,7 @@ module _ (x : Party) (root : length (x .root) ≡ 32) (message : length (x .mess
   pub state-refused : (s : List ℕ) → length s < stateLength → gave (given.Short stateLength) s ≡ written (stateBytes x) s
   state-refused s h = ap (λ (k : ℕ). gave (given.Short k) s) (sym bytes-long) ∙ sym (written-short (stateBytes x) s (omega (arith, bytes-long)))
 
-  spliced-all : (s a b c d head : List ℕ) → stateLength ≤ length s → head ≡ headOf x → a ≡ putOf s 0 head → b ≡ putOf a 8 (x .root)
+  spliced-all : (s a b c d head : List ℕ) → stateLength ≤ length s → head ≡ headOf x → a ≡ putOf s 0 head → b ≡ putOf a rootPlace (x .root)
       → c ≡ putOf b headLength (x .message) → d ≡ putOf c (headLength + maxMessage) (x .share) → d ≡ spliced s 0 (stateBytes x)
   unfolding stateBytes
   spliced-all s a b c d head long qh qa qb qc qd =
@@ -155,8 +163,8 @@ module _ (x : Party) (root : length (x .root) ≡ 32) (message : length (x .mess
       let m : List ℕ = x .message in
       let y : List ℕ = x .share in
       let one : a ≡ spliced s 0 h = qa ∙ ap (putOf s 0) qh ∙ put-fits s 0 h (omega (arith, head-long)) in
-      let two : b ≡ spliced s 0 (h ++ r) = qb ∙ ap (λ (l : List ℕ). putOf l 8 r) one
-      ∙ behind s h r 8 (omega (arith, head-long)) (omega (arith, head-long, root)) in
+      let two : b ≡ spliced s 0 (h ++ r) = qb ∙ ap (λ (l : List ℕ). putOf l rootPlace r) one
+      ∙ behind s h r rootPlace (omega (arith, head-long)) (omega (arith, head-long, root)) in
       let lr : length (h ++ r) ≡ headLength = length-append h r ∙ omega (arith, head-long, root) in
       let three : c ≡ spliced s 0 ((h ++ r) ++ m) = qc ∙ ap (λ (l : List ℕ). putOf l headLength m) two
       ∙ behind s (h ++ r) m headLength (omega (arith, lr)) (omega (arith, lr, message)) in
@@ -165,7 +173,7 @@ module _ (x : Party) (root : length (x .root) ≡ 32) (message : length (x .mess
       ∙ behind s ((h ++ r) ++ m) y (headLength + maxMessage) (omega (arith, lm)) (omega (arith, lm, share))
       ∙ ap (spliced s 0) (append-assoc (h ++ r) m y ∙ append-assoc h r (m ++ y))
 
-  pub state-written : (s a b c d head : List ℕ) → stateLength ≤ length s → head ≡ headOf x → a ≡ putOf s 0 head → b ≡ putOf a 8 (x .root)
+  pub state-written : (s a b c d head : List ℕ) → stateLength ≤ length s → head ≡ headOf x → a ≡ putOf s 0 head → b ≡ putOf a rootPlace (x .root)
       → c ≡ putOf b headLength (x .message) → d ≡ putOf c (headLength + maxMessage) (x .share)
       → gave (given.Done stateLength) d ≡ written (stateBytes x) s
   state-written s a b c d head long qh qa qb qc qd =

@@ -1,6 +1,6 @@
 -- The state of a party as bytes, which the host keeps: how it is written, and what bytes say as a state. All numbers are big-endian.
 -- Assumes nothing.
-use mathlib.Core.Bool.{cond, _||_}
+use mathlib.Core.Bool.{cond, not, _||_}
 use mathlib.Core.List.{List, [], _∷_, _++_}
 use Prim.Native.Nat.{ℕ, _+_, _/_, _%_}
 use lib.Dec.{ltb, eqb}
@@ -13,9 +13,17 @@ use Rattle.party.specs.declared.Stage.{Stage}
 use Rattle.party.specs.declared.Stage.the-variants.{Root, Bit, First, Second, Ended}
 use Rattle.party.specs.declared.Party.{Party}
 
--- n, t, the own number and the stage in a byte each, two lengths of two bytes, and the agreed root; then the message and the relayed share
+-- the version of this layout: every change of it raises the number
+abbrev pub layoutVersion : ℕ
+layoutVersion = 1
+
+-- the version, n, t, the own number and the stage in a byte each, and two lengths of two bytes; then the agreed root, the message and the
+-- relayed share
+abbrev pub rootPlace : ℕ
+rootPlace = 9
+
 abbrev pub headLength : ℕ
-headLength = 8 + 32
+headLength = rootPlace + 32
 
 abbrev pub stateLength : ℕ
 stateLength = headLength + maxMessage + maxShare
@@ -45,7 +53,7 @@ pair k = k / 256 % 256 ∷ k % 256 ∷ []
 -- a state as bytes
 unfoldable pub headOf : Party → List ℕ
 headOf x =
-    x .seat .n % 256 ∷ x .seat .t % 256 ∷ x .seat .own % 256 ∷ stageNumber (x .stage)
+    layoutVersion ∷ x .seat .n % 256 ∷ x .seat .t % 256 ∷ x .seat .own % 256 ∷ stageNumber (x .stage)
     ∷ (pair (lengthFor (x .stage) (x .len)) ++ pair (x .held))
 
 unfoldable pub stateBytes : Party → List ℕ
@@ -62,29 +70,33 @@ stageOf k len =
     (Ended (outcome.Message len))))))
 
 -- the numbers that bytes hold
+abbrev pub versionTold : List ℕ → ℕ
+versionTold s = getD s 0 0
+
 abbrev pub stageTold : List ℕ → ℕ
-stageTold s = getD s 3 0
+stageTold s = getD s 4 0
 
 abbrev pub lengthTold : List ℕ → ℕ
-lengthTold s = size (drop 4 s)
+lengthTold s = size (drop 5 s)
 
 abbrev pub heldTold : List ℕ → ℕ
-heldTold s = size (drop 6 s)
+heldTold s = size (drop 7 s)
 
 -- a state read from bytes as it is written
 unfoldable pub readIn : List ℕ → Party
 readIn s =
     record {
-      seat = seatOf (getD s 0 0) (getD s 1 0) (getD s 2 0);
+      seat = seatOf (getD s 1 0) (getD s 2 0) (getD s 3 0);
       stage = stageOf (stageTold s) (lengthTold s);
       message = take maxMessage (drop headLength s);
       len = cond (eqb (stageTold s) 5) 0 (lengthTold s);
-      root = take 32 (drop 8 s);
+      root = take 32 (drop rootPlace s);
       share = take maxShare (drop (headLength + maxMessage) s);
       held = heldTold s;
     }
 
--- what bytes say as a state. Too few bytes, or a number of no stage, are the blank state: n is 0 there, so that every step refuses it with
--- cause 5, as it does all other states that are none. Bytes past a state's length are not looked at
+-- what bytes say as a state. Too few bytes, another version of the layout, or a number of no stage, are the blank state: n is 0 there, so that
+-- every step refuses it with cause 5, as it does all other states that are none. Bytes past a state's length are not looked at
 unfoldable pub stateOf : List ℕ → Party
-stateOf s = cond (ltb (length s) stateLength || ltb 5 (stageTold s)) blankState (readIn s)
+stateOf s =
+    cond (ltb (length s) stateLength || not (eqb (versionTold s) layoutVersion) || ltb 5 (stageTold s)) blankState (readIn s)

@@ -7,7 +7,7 @@ ghost use lib.ListN.{length, take, drop};
 ghost use Rattle.limits.specs.Limits.{maxMessage, maxShare};
 ghost use Rattle.buffer.specs.Given.{gave, written};
 ghost use Rattle.party.specs.State.{blankState};
-ghost use Rattle.state_bytes.specs.Layout.{headLength, stateLength, stageNumber, lengthFor, headOf, stateBytes, stageOf, readIn, stateOf};
+ghost use Rattle.state_bytes.specs.Layout.{rootPlace, headLength, stateLength, stageNumber, lengthFor, headOf, stateBytes, stageOf, readIn, stateOf};
 use buffer::Written;
 use limits::MAX_MESSAGE;
 use limits::MAX_SHARE;
@@ -16,8 +16,14 @@ use party::Party;
 use party::Seat;
 use party::Stage;
 
-// Eight bytes of numbers and the agreed root stand before the message.
-const HEAD: usize = 8 + 32;
+// The version of the layout, with which a state's bytes begin.
+const VERSION: u8 = 1;
+
+// Where the agreed root begins, behind the numbers.
+const ROOT: usize = 9;
+
+// Where the message begins.
+const HEAD: usize = ROOT + 32;
 
 // Where the relayed share begins.
 const SHARE: usize = HEAD + MAX_MESSAGE;
@@ -32,7 +38,10 @@ pub fn read(bytes: &[u8]) -> Party
     if bytes.len() < LENGTH {
         return blank();
     }
-    if 5 < bytes[3] {
+    if bytes[0] != VERSION {
+        return blank();
+    }
+    if 5 < bytes[4] {
         return blank();
     }
     read_fields(bytes)
@@ -50,10 +59,26 @@ pub fn write(x: Party, out: &mut [u8]) -> Written
     }
     let head = head_of(x);
     buffer::put(out, 0, &head);
-    buffer::put(out, 8, &root);
+    buffer::put(out, ROOT, &root);
     buffer::put(out, HEAD, &message);
     buffer::put(out, SHARE, &share);
     Written::Done(LENGTH)
+}
+
+// A stage's number, as it stands in the bytes.
+pub fn stage_number(stage: Stage) -> u8
+    ensures { λ r. ⌜ r ≡ stageNumber stage ⌝ }
+{
+    match stage {
+        Stage::Root => 0,
+        Stage::Bit => 1,
+        Stage::First => 2,
+        Stage::Second => 3,
+        Stage::Ended(outcome) => match outcome {
+            Outcome::Nothing => 4,
+            Outcome::Message(_) => 5,
+        },
+    }
 }
 
 // A refused opening gives it.
@@ -67,29 +92,29 @@ fn read_fields(bytes: &[u8]) -> Party
     requires { ⌜ stateLength ≤ length (now bytes) ⌝ }
     ensures { λ r. ⌜ r ≡ readIn (now (bytes .entry)) ⌝ }
 {
-    let number = wide(bytes[3]);
-    let len = buffer::size_at(bytes, 4);
+    let number = wide(bytes[4]);
+    let len = buffer::size_at(bytes, 5);
     Party {
         seat: Seat {
-            n: wide(bytes[0]),
-            t: wide(bytes[1]),
-            own: wide(bytes[2]),
+            n: wide(bytes[1]),
+            t: wide(bytes[2]),
+            own: wide(bytes[3]),
         },
         stage: stage_of(number, len),
         message: message_in(bytes),
         len: length_of(number, len),
         root: root_in(bytes),
         share: share_in(bytes),
-        held: buffer::size_at(bytes, 6),
+        held: buffer::size_at(bytes, 7),
     }
 }
 
 fn root_in(bytes: &[u8]) -> [u8; 32]
     requires { ⌜ stateLength ≤ length (now bytes) ⌝ }
-    ensures { λ r. ⌜ r ≡ take 32 (drop 8 (now (bytes .entry))) ⌝ }
+    ensures { λ r. ⌜ r ≡ take 32 (drop rootPlace (now (bytes .entry))) ⌝ }
 {
     let mut root = [0u8; 32];
-    buffer::put(&mut root, 0, &bytes[8..HEAD]);
+    buffer::put(&mut root, 0, &bytes[ROOT..HEAD]);
     root
 }
 
@@ -141,13 +166,14 @@ fn length_of(number: usize, len: usize) -> usize
 }
 
 // The numbers before the agreed root.
-fn head_of(x: Party) -> [u8; 8]
+fn head_of(x: Party) -> [u8; ROOT]
     ensures { λ r. ⌜ r ≡ headOf x ⌝ }
 {
     let stage = x.stage;
     let len = length_for(stage, x.len);
     let held = x.held;
     [
+        VERSION,
         low(x.seat.n),
         low(x.seat.t),
         low(x.seat.own),
@@ -163,21 +189,6 @@ fn low(x: usize) -> u8
     ensures { λ r. ⌜ r ≡ x % 256 ⌝ }
 {
     (x % 256) as u8
-}
-
-fn stage_number(stage: Stage) -> u8
-    ensures { λ r. ⌜ r ≡ stageNumber stage ⌝ }
-{
-    match stage {
-        Stage::Root => 0,
-        Stage::Bit => 1,
-        Stage::First => 2,
-        Stage::Second => 3,
-        Stage::Ended(outcome) => match outcome {
-            Outcome::Nothing => 4,
-            Outcome::Message(_) => 5,
-        },
-    }
 }
 
 fn length_for(stage: Stage, len: usize) -> usize

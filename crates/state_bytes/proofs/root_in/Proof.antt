@@ -1,6 +1,7 @@
 -- `state_bytes::root_in` meets its contract: the 32 bytes behind the numbers are put into an array of as many. Assumes nothing.
 use mathlib.Core.Path.{_∙_}
 use native.Mathlib.Omega.{arith}
+use Rattle.state_bytes.specs.Layout.{rootPlace}
 use Rattle.state_bytes.proofs.Reading.{part-put}
 use borrow.Author.Needs.{needs}
 use Rattle.state_bytes.proofs.root_in.Statement.{statement}
@@ -23,7 +24,7 @@ put-requires c κs = search needs
 
 returns : tie.Need-returns
 returns c = let st = c .before .before .before .before .before in
-    c .before .put .ensures .1 ∙ part-put 8 32 (st .args .bytes .now) (omega (arith, st .pre))
+    c .before .put .ensures .1 ∙ part-put rootPlace 32 (st .args .bytes .now) (omega (arith, st .pre))
 
 pub root-in-spec : {M : Type 1} → statement M
 root-in-spec =
