@@ -184,7 +184,7 @@ fn the_man_page_is_rendered_without_a_warning() {
     // Every function of the header stands in it.
     let names = header
         .lines()
-        .filter(|line| !line.starts_with([' ', '/', '#', '}']))
+        .filter(|line| !line.starts_with([' ', '/', '#', '}']) && !line.starts_with("typedef"))
         .filter_map(|line| line.split_once('(')?.0.rsplit([' ', '*']).next());
     let mut count = 0;
     for name in names.filter(|name| name.starts_with("cipangohu_")) {
