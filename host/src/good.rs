@@ -1,4 +1,4 @@
-//! A good box's run: the five steps, with the host's part between them.
+//! A good party's run: the five steps, with the host's part between them.
 
 use std::io::{self, ErrorKind};
 use std::thread;
@@ -16,7 +16,7 @@ pub struct Report {
     pub sent: usize,
 }
 
-/// Why a box did not get to its end.
+/// Why a party did not get to its end.
 pub enum Failure {
     Refused(Cause),
     Link(io::Error),
@@ -110,8 +110,8 @@ pub fn run(
     Ok(Report { party, sent })
 }
 
-/// What somebody who should not puts in the place of a party's state: that of one whose own root was
-/// agreed on. The party now takes itself for happy.
+/// What somebody who should not puts in the place of a party's state: that of one whose own root
+/// was agreed on. The party now takes itself for happy.
 fn meddled(options: &Options, own: usize) -> Result<Party, Cause> {
     let message = options.message_of(own);
     let (mut party, root) = Party::open(options.parties, options.faults, own, message)?;
