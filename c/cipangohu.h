@@ -1,27 +1,23 @@
-/* The interface of libcipangohu.a, which scripts/build-library makes: one party of a session, step by step, and the tools beside it. The header is
- * C99 and C++; the archive is for x86-64 Linux.
+/* Cipangohu: one party of a session, step by step, and the tools beside it. C99 and C++, for x86-64 Linux.
  *
- * The host keeps a party's state, CIPANGOHU_STATE bytes, and hands it to every step. Layout, numbers big-endian here and in all entries:
- * byte 0 n, byte 1 t, byte 2 own number, byte 3 stage (0 waits for the root, 1 for the bit, 2 for the first inbox, 3 for the second,
- * 4 ended with nothing, 5 ended with a message), bytes 4-5 the length of the message (at stage 5 of the result), bytes 6-7 the length of
- * the share that an unhappy party relayed (a happy one holds none), bytes 8-39 the agreed root, then CIPANGOHU_MESSAGE bytes for the
- * message (at stage 5 the result), then CIPANGOHU_SHARE bytes for that share. An accepted call writes all of it anew, with zeros for what
- * the stage does not have.
+ * A host opens its party with a message and puts the root that comes of it into a short agreement. It hands in the agreed root, and puts the bit
+ * that comes of it into a second short agreement. It hands in the agreed bit, and sends each entry of the outbox that comes of it to the party of
+ * that number. It hands in what the others sent, and sends the relay that comes of it to all others. It hands in what they relayed, and has the
+ * result: a message, or nothing. (A party is one box of a sitting, and a message is a test book; documents for people say box and book.)
  *
- * Any bytes may stand in a state. Cause 5 is: fewer than CIPANGOHU_STATE bytes, a stage over 5, n, t or own number out of range, or a length
- * over its limit at any stage. All else is taken for the state that it says; this is no seal against forgers. Bytes past a length are
+ * The host keeps the party's state, CIPANGOHU_STATE bytes, and hands it to every step. Its layout, with numbers big-endian here and in all entries:
+ * byte 0 the version of the layout, CIPANGOHU_LAYOUT, byte 1 n, byte 2 t, byte 3 own number, byte 4 stage, bytes 5-6 the length of the message (of
+ * a party that ended with one, of the result), bytes 7-8 the length of the share that an unhappy party relayed (a happy one holds none), bytes
+ * 9-40 the agreed root, then CIPANGOHU_MESSAGE bytes for the message, then CIPANGOHU_SHARE bytes for that share. An accepted step writes all of
+ * it anew, with zeros for what the stage does not have.
+ *
+ * Any bytes may stand in a state. Cause 5 is: fewer than CIPANGOHU_STATE bytes, another version, no stage, n, t or own number out of range, or a
+ * length over its limit at any stage. All else is taken for the state that it says; this is no seal against forgers. Bytes past a length are
  * ignored. Of a longer buffer the first CIPANGOHU_STATE bytes are the state.
  *
- * Every function answers one number: the cause in the upper 32 bits, 0 if the call was accepted, and the value in the lower. With cause 9
- * the value is the length that the buffer needs; of all other refusals it is 0. A refused call leaves every lent byte as it was, and no call
- * writes past the length that it gives. Where several causes apply, the one that stands first behind "Causes" below is given.
- *
- *  1 n is not 1 to CIPANGOHU_PARTIES          7 a root that is not 32 bytes, or a bit that is not 0 or 1
- *  2 2 * t is n or more                       8 entries that run short or leave bytes over
- *  3 a number that is not 1 to n              9 an out buffer too short
- *  4 too long a message, string or share     10 a packet that is neither silence nor readable
- *  5 not a state                             11 fewer than n - t shares
- *  6 not the step that is due                12 shares of no message
+ * An answer has a cause, 0 if the call was accepted, and a value. With cause 9 the value is the length that the buffer needs; of all other
+ * refusals it is 0. A refused call leaves every lent byte as it was, and no call writes past the length that it gives. Where several causes apply,
+ * the one that stands first behind "Causes" is given.
  *
  * An entry is a two-byte length and as many bytes, up to CIPANGOHU_ENTRY; n of them, in number order, make an inbox, an outbox, or what is rebuilt
  * from. In an inbox entry k is what party k sent, length 0 if it sent nothing. A packet in it that cannot be read or fails the check is passed
@@ -34,75 +30,239 @@
 
 #include <stddef.h>
 #include <stdint.h>
+#include <string.h>
 
 #ifdef __cplusplus
 extern "C" {
 #endif
 
-/* The greatest numbers, each once: parties, hashes in a path, and the bytes of a message, of a string that is hashed and of an entry. Last the
- * bytes of a hash, and so of a root. */
+/* The version of this header, and as one number, which cipangohu_version gives of the library. */
+#define CIPANGOHU_VERSION_MAJOR 1
+#define CIPANGOHU_VERSION_MINOR 0
+#define CIPANGOHU_VERSION_PATCH 0
+#define CIPANGOHU_VERSION ((CIPANGOHU_VERSION_MAJOR << 16) | (CIPANGOHU_VERSION_MINOR << 8) | CIPANGOHU_VERSION_PATCH)
+
+/* The greatest numbers, each once: parties, hashes in a path, and the bytes of a message, of a string that is hashed and of an entry. Then the
+ * bytes of a hash, and so of a root, and the version of a state's layout. */
 #define CIPANGOHU_PARTIES 16
 #define CIPANGOHU_PATH 4
 #define CIPANGOHU_MESSAGE 1024
 #define CIPANGOHU_HASHED 65535
 #define CIPANGOHU_ENTRY 65535
 #define CIPANGOHU_ROOT 32
+#define CIPANGOHU_LAYOUT 1
 
-/* What follows from them, in bytes: the longest share, which is the whole frame of one party alone; a state; room for any packet that a party
- * writes: map, number and share length, the share, the longest path; and for any outbox: all shares of a message together, and beside each
- * its entry's length and the rest of its packet. */
+/* Rooms that follow from them, in bytes: for the longest share, which is the whole frame of one party alone; for a state; for any packet that a
+ * party writes: map, number and share length, the share, the longest path; for all shares of a message together, which are less than twice the
+ * longest frame with its zeros; for any outbox: these shares, and beside each its entry's length and the rest of its packet; and for any inbox. */
 #define CIPANGOHU_SHARE (CIPANGOHU_MESSAGE + 2)
-#define CIPANGOHU_STATE (8 + CIPANGOHU_ROOT + CIPANGOHU_MESSAGE + CIPANGOHU_SHARE)
+#define CIPANGOHU_STATE (9 + CIPANGOHU_ROOT + CIPANGOHU_MESSAGE + CIPANGOHU_SHARE)
 #define CIPANGOHU_PACKET (4 + CIPANGOHU_SHARE + CIPANGOHU_PATH * CIPANGOHU_ROOT)
-#define CIPANGOHU_OUTBOX \
-    (2 * (CIPANGOHU_SHARE + CIPANGOHU_PARTIES) + CIPANGOHU_PARTIES * (6 + CIPANGOHU_PATH * CIPANGOHU_ROOT))
+#define CIPANGOHU_SHARES (2 * (CIPANGOHU_SHARE + CIPANGOHU_PARTIES))
+#define CIPANGOHU_OUTBOX (CIPANGOHU_SHARES + CIPANGOHU_PARTIES * (6 + CIPANGOHU_PATH * CIPANGOHU_ROOT))
+#define CIPANGOHU_INBOX (CIPANGOHU_PARTIES * (2 + CIPANGOHU_ENTRY))
 
-/* The value of take_relays for the result nothing, which is no message, not even an empty one. */
-#define CIPANGOHU_NOTHING UINT32_C(0xFFFFFFFF)
+/* The causes. */
+enum cipangohu_causes {
+    CIPANGOHU_ACCEPTED = 0,
+    CIPANGOHU_CAUSE_PARTIES = 1,     /* n is not 1 to CIPANGOHU_PARTIES */
+    CIPANGOHU_CAUSE_FAULTS = 2,      /* 2 * t is n or more */
+    CIPANGOHU_CAUSE_NUMBER = 3,      /* a number that is not 1 to n */
+    CIPANGOHU_CAUSE_LENGTH = 4,      /* too long a message, string, share or entry */
+    CIPANGOHU_CAUSE_STATE = 5,       /* not a state */
+    CIPANGOHU_CAUSE_STEP = 6,        /* not the step that is due */
+    CIPANGOHU_CAUSE_ROOT_OR_BIT = 7, /* a root that is not CIPANGOHU_ROOT bytes, or a bit that is not 0 or 1 */
+    CIPANGOHU_CAUSE_ENTRIES = 8,     /* entries that run short or leave bytes over */
+    CIPANGOHU_CAUSE_ROOM = 9,        /* a buffer too short for what is written */
+    CIPANGOHU_CAUSE_PACKET = 10,     /* a packet that is neither silence nor readable */
+    CIPANGOHU_CAUSE_FEW_SHARES = 11, /* fewer than n - t shares */
+    CIPANGOHU_CAUSE_NO_MESSAGE = 12  /* shares of no message */
+};
 
-static inline uint32_t cipangohu_cause(uint64_t answer) { return (uint32_t)(answer >> 32); }
+/* The stages: what a party waits for, or how it ended. */
+enum cipangohu_stages {
+    CIPANGOHU_AWAITS_ROOT = 0,
+    CIPANGOHU_AWAITS_BIT = 1,
+    CIPANGOHU_AWAITS_SHARES = 2,
+    CIPANGOHU_AWAITS_RELAYS = 3,
+    CIPANGOHU_ENDED_WITH_NOTHING = 4,
+    CIPANGOHU_ENDED_WITH_MESSAGE = 5
+};
 
-static inline uint32_t cipangohu_value(uint64_t answer) { return (uint32_t)answer; }
+/* The values of step 5. Nothing is no message, not even an empty one. */
+enum cipangohu_results { CIPANGOHU_NOTHING = 0, CIPANGOHU_SETTLED = 1 };
 
-/* Step 1, the opening: writes a new state, and the root for the short agreement. Value: 32. Causes 1, 2, 3, 4, then 9 for the
- * state's buffer, then 9 for the root's. */
-uint64_t cipangohu_open(size_t n, size_t t, size_t own, const uint8_t *message, size_t message_len,
-                        uint8_t *state, size_t state_len, uint8_t *root, size_t root_len);
+/* What a call answers. */
+typedef struct cipangohu_answer {
+    uint32_t value;
+    uint32_t cause;
+} cipangohu_answer;
 
-/* Step 2, the agreed root. Value: the party's bit, 0 or 1, for the second short agreement. Causes 5, 6, 7. */
-uint64_t cipangohu_agree_root(uint8_t *state, size_t state_len, const uint8_t *root, size_t root_len);
+/* Bytes that lie in a buffer of the host; no address where there are none to tell of. */
+typedef struct cipangohu_bytes {
+    const uint8_t *at;
+    size_t len;
+} cipangohu_bytes;
+
+/* The library gives an answer in one register, the value in its lower half. */
+#if !defined(__BYTE_ORDER__) || __BYTE_ORDER__ != __ORDER_LITTLE_ENDIAN__
+#error the library is for machines whose numbers have the lowest byte first
+#endif
+typedef char cipangohu_answer_has_8_bytes[sizeof(cipangohu_answer) == 8 ? 1 : -1];
+typedef char cipangohu_size_has_8_bytes[sizeof(size_t) == 8 ? 1 : -1];
+
+/* Compilers warn where an answer is not used. */
+#if (defined(__cplusplus) && __cplusplus >= 201703L) || (defined(__STDC_VERSION__) && __STDC_VERSION__ > 201710L)
+#define CIPANGOHU_MUST_USE [[nodiscard]]
+#elif defined(__GNUC__)
+#define CIPANGOHU_MUST_USE __attribute__((__warn_unused_result__))
+#else
+#define CIPANGOHU_MUST_USE
+#endif
+
+/* Step 1, the opening: writes a new state, and the root for the short agreement. Value: CIPANGOHU_ROOT. Causes 1, 2, 3, 4, then 9 for the state's
+ * buffer, then 9 for the root's. */
+CIPANGOHU_MUST_USE cipangohu_answer cipangohu_open(size_t n, size_t t, size_t own, const uint8_t *message, size_t message_len,
+                                                   uint8_t *state, size_t state_len, uint8_t *root, size_t root_len);
+
+/* Step 2, the agreed root. Value: the party's bit, 1 if it is happy, else 0, for the second short agreement. Causes 5, 6, 7. */
+CIPANGOHU_MUST_USE cipangohu_answer cipangohu_agree_root(uint8_t *state, size_t state_len, const uint8_t *root, size_t root_len);
 
 /* Step 3, the agreed bit: writes n entries to out, each the packet for that party, all of length 0 where nothing is to be sent. On bit 0
  * the party has ended with nothing. Value: the bytes written. Causes 5, 6, 7, 9. */
-uint64_t cipangohu_agree_bit(uint8_t *state, size_t state_len, uint8_t bit, uint8_t *out, size_t out_len);
+CIPANGOHU_MUST_USE cipangohu_answer cipangohu_agree_bit(uint8_t *state, size_t state_len, size_t bit, uint8_t *out, size_t out_len);
 
 /* Step 4, the first inbox: writes the packet to relay to all others. Value: the bytes written, 0 if there is none. Causes 5, 6, 8, 9. */
-uint64_t cipangohu_take_shares(uint8_t *state, size_t state_len, const uint8_t *inbox, size_t inbox_len,
-                               uint8_t *out, size_t out_len);
+CIPANGOHU_MUST_USE cipangohu_answer cipangohu_take_shares(uint8_t *state, size_t state_len, const uint8_t *inbox, size_t inbox_len,
+                                                          uint8_t *out, size_t out_len);
 
-/* Step 5, the second inbox: writes the message. Value: its length, or CIPANGOHU_NOTHING, which writes nothing. Causes 5, 6, 8, and 9 where a
- * message was found. */
-uint64_t cipangohu_take_relays(uint8_t *state, size_t state_len, const uint8_t *inbox, size_t inbox_len,
-                               uint8_t *out, size_t out_len);
+/* Step 5, the second inbox: writes the message, if the result is one. Value: CIPANGOHU_SETTLED, and then cipangohu_result_length tells the length,
+ * or CIPANGOHU_NOTHING. Causes 5, 6, 8, and 9 where a message was found. */
+CIPANGOHU_MUST_USE cipangohu_answer cipangohu_take_relays(uint8_t *state, size_t state_len, const uint8_t *inbox, size_t inbox_len,
+                                                          uint8_t *out, size_t out_len);
 
-/* Reads a packet among n parties. Value: 0 for silence (no bytes, or one zero byte), else count * 2^24 + number * 2^16 + the share's length; the share
- * begins at byte 4, and its path of `count` hashes follows it. Causes 1, 10. */
-uint64_t cipangohu_read_packet(size_t n, const uint8_t *packet, size_t packet_len);
+/* The length of the message that a party ended with. Causes 5, and 6 where it has not ended, or with nothing. */
+CIPANGOHU_MUST_USE cipangohu_answer cipangohu_result_length(const uint8_t *state, size_t state_len);
+
+/* The stage of a party. Cause 5. */
+CIPANGOHU_MUST_USE cipangohu_answer cipangohu_stage(const uint8_t *state, size_t state_len);
+
+/* The own number of a party. Cause 5. */
+CIPANGOHU_MUST_USE cipangohu_answer cipangohu_own(const uint8_t *state, size_t state_len);
+
+/* Reads a packet among n parties. Value: 0 for silence (no bytes, or one zero byte), else what cipangohu_packet_number and the three beside it take
+ * apart: count * 2^24 + number * 2^16 + the share's length, where count is that of the path's hashes. Causes 1, 10. */
+CIPANGOHU_MUST_USE cipangohu_answer cipangohu_read_packet(size_t n, const uint8_t *packet, size_t packet_len);
 
 /* Whether a path of hashes leads from share j of n to the root. Value: 1 yes, 0 no; a path that is not as many whole hashes as
  * n and j give is a no. Causes 1, 3, 4 (a share over CIPANGOHU_HASHED - 2 bytes), 7. */
-uint64_t cipangohu_check_path(size_t n, size_t j, const uint8_t *share, size_t share_len,
-                              const uint8_t *path, size_t path_len, const uint8_t *root, size_t root_len);
+CIPANGOHU_MUST_USE cipangohu_answer cipangohu_check_path(size_t n, size_t j, const uint8_t *share, size_t share_len,
+                                                         const uint8_t *path, size_t path_len, const uint8_t *root, size_t root_len);
 
 /* Writes the n shares of a message, of equal length, concatenated. Value: the bytes written. Causes 1, 2, 4, 9. */
-uint64_t cipangohu_shares(size_t n, size_t t, const uint8_t *message, size_t message_len, uint8_t *out, size_t out_len);
+CIPANGOHU_MUST_USE cipangohu_answer cipangohu_shares(size_t n, size_t t, const uint8_t *message, size_t message_len,
+                                                     uint8_t *out, size_t out_len);
 
 /* Rebuilds the message from n entries, each a share, of length 0 if it is missing; of those present the n - t lowest-numbered are used. Value:
  * the bytes written. Causes 1, 2, 8, 11, 12, and 9 where a message was found. */
-uint64_t cipangohu_rebuild(size_t n, size_t t, const uint8_t *entries, size_t entries_len, uint8_t *out, size_t out_len);
+CIPANGOHU_MUST_USE cipangohu_answer cipangohu_rebuild(size_t n, size_t t, const uint8_t *entries, size_t entries_len,
+                                                      uint8_t *out, size_t out_len);
 
-/* SHA-256 of up to CIPANGOHU_HASHED bytes. Value: 32. Causes 4, 9. */
-uint64_t cipangohu_hash(const uint8_t *message, size_t message_len, uint8_t *out, size_t out_len);
+/* SHA-256 of up to CIPANGOHU_HASHED bytes. Value: CIPANGOHU_ROOT. Causes 4, 9. */
+CIPANGOHU_MUST_USE cipangohu_answer cipangohu_hash(const uint8_t *message, size_t message_len, uint8_t *out, size_t out_len);
+
+/* The library's CIPANGOHU_VERSION. */
+uint32_t cipangohu_version(void);
+
+/* The library's CIPANGOHU_STATE. */
+size_t cipangohu_state_size(void);
+
+/* A cause in words. */
+static inline const char *cipangohu_cause_text(uint32_t cause) {
+    switch (cause) {
+    case CIPANGOHU_ACCEPTED: return "accepted";
+    case CIPANGOHU_CAUSE_PARTIES: return "the number of parties is out of range";
+    case CIPANGOHU_CAUSE_FAULTS: return "the fault limit is half of the parties or more";
+    case CIPANGOHU_CAUSE_NUMBER: return "the number is no party's";
+    case CIPANGOHU_CAUSE_LENGTH: return "the message, string, share or entry is too long";
+    case CIPANGOHU_CAUSE_STATE: return "the bytes are no state";
+    case CIPANGOHU_CAUSE_STEP: return "the party is not at this step";
+    case CIPANGOHU_CAUSE_ROOT_OR_BIT: return "the root has not the length of a hash, or the bit is not 0 or 1";
+    case CIPANGOHU_CAUSE_ENTRIES: return "the entries run short or leave bytes over";
+    case CIPANGOHU_CAUSE_ROOM: return "the buffer is too short";
+    case CIPANGOHU_CAUSE_PACKET: return "the packet is neither silence nor readable";
+    case CIPANGOHU_CAUSE_FEW_SHARES: return "too few shares are present";
+    case CIPANGOHU_CAUSE_NO_MESSAGE: return "the shares are of no message";
+    default: return "an unknown cause";
+    }
+}
+
+/* Entry j, from 1, of an outbox or of any entries; no address where the bytes end before it does. */
+static inline cipangohu_bytes cipangohu_entry(const uint8_t *entries, size_t entries_len, size_t j) {
+    cipangohu_bytes found = {NULL, 0};
+    size_t at = 0;
+    while (j > 0 && entries_len - at >= 2) {
+        size_t len = (size_t)entries[at] * 256 + entries[at + 1];
+        at += 2;
+        if (entries_len - at < len) break;
+        if (--j == 0) {
+            found.at = entries + at;
+            found.len = len;
+        }
+        at += len;
+    }
+    return found;
+}
+
+/* Writes bytes as an entry behind the first `used` bytes of a buffer, which are those of the entries before it. Value: the bytes then used. Causes
+ * 4 (over CIPANGOHU_ENTRY bytes), 9. */
+CIPANGOHU_MUST_USE static inline cipangohu_answer cipangohu_append(uint8_t *entries, size_t entries_len, size_t used,
+                                                                   const uint8_t *bytes, size_t bytes_len) {
+    cipangohu_answer answer = {0, CIPANGOHU_CAUSE_LENGTH};
+    if (bytes_len > CIPANGOHU_ENTRY) return answer;
+    answer.value = (uint32_t)(used + 2 + bytes_len);
+    answer.cause = CIPANGOHU_CAUSE_ROOM;
+    if (used > entries_len || entries_len - used < 2 + bytes_len) return answer;
+    entries[used] = (uint8_t)(bytes_len / 256);
+    entries[used + 1] = (uint8_t)(bytes_len % 256);
+    if (bytes_len > 0) memcpy(entries + used + 2, bytes, bytes_len);
+    answer.cause = CIPANGOHU_ACCEPTED;
+    return answer;
+}
+
+/* The message that a party ended with, where it lies in the state; no address where there is none. */
+static inline cipangohu_bytes cipangohu_result(const uint8_t *state, size_t state_len) {
+    cipangohu_bytes result = {NULL, 0};
+    cipangohu_answer length = cipangohu_result_length(state, state_len);
+    if (length.cause != CIPANGOHU_ACCEPTED) return result;
+    result.at = state + 9 + CIPANGOHU_ROOT;
+    result.len = length.value;
+    return result;
+}
+
+/* The number that a packet bears, of the value that cipangohu_read_packet gave; 0 for silence. */
+static inline size_t cipangohu_packet_number(uint32_t value) { return value >> 16 & 0xFF; }
+
+/* How many hashes the path in a packet has, of the same value. */
+static inline size_t cipangohu_packet_count(uint32_t value) { return value >> 24; }
+
+/* The share in a packet, of the same value; no address for silence. */
+static inline cipangohu_bytes cipangohu_packet_share(const uint8_t *packet, uint32_t value) {
+    cipangohu_bytes share = {NULL, 0};
+    if (value == 0) return share;
+    share.at = packet + 4;
+    share.len = value & 0xFFFF;
+    return share;
+}
+
+/* The path in a packet, of the same value, its hashes concatenated; no address for silence. */
+static inline cipangohu_bytes cipangohu_packet_path(const uint8_t *packet, uint32_t value) {
+    cipangohu_bytes path = cipangohu_packet_share(packet, value);
+    if (value == 0) return path;
+    path.at += path.len;
+    path.len = cipangohu_packet_count(value) * CIPANGOHU_ROOT;
+    return path;
+}
 
 #ifdef __cplusplus
 }

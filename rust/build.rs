@@ -1,6 +1,6 @@
 //! Finds libcipangohu.a: in the folder that CIPANGOHU_LIB names, else in ../dist, where
-//! `scripts/build-library` puts it. Where it is not found the build ends here, with the reason: the
-//! linker would not give it.
+//! `scripts/build-library` puts it. Where it is not found a warning says so, since the linker would
+//! not: documents and checks need no archive.
 
 use std::env;
 use std::path::{Path, PathBuf};
@@ -21,26 +21,22 @@ fn folder() -> Result<PathBuf, String> {
     }
 }
 
-fn archive(folder: &Path) -> Result<PathBuf, String> {
-    let archive = folder.join("libcipangohu.a");
-    match archive.is_file() {
-        true => Ok(archive),
-        false => Err(format!(
-            "{} is missing: run scripts/build-library, or name its folder in CIPANGOHU_LIB",
-            archive.display()
-        )),
-    }
-}
-
 fn main() {
     println!("cargo::rerun-if-env-changed=CIPANGOHU_LIB");
-    let found = folder().and_then(|folder| Ok((archive(&folder)?, folder)));
-    let (archive, folder) = match found {
-        Ok(found) => found,
+    let folder = match folder() {
+        Ok(folder) => folder,
         Err(reason) => return println!("cargo::error={reason}"),
     };
-    println!("cargo::rerun-if-changed={}", archive.display());
+    let archive = folder.join("libcipangohu.a");
+    let name = archive.display();
+    println!("cargo::rerun-if-changed={name}");
+    println!("cargo::rustc-env=CIPANGOHU_ARCHIVE={name}");
+    if !archive.is_file() {
+        return println!(
+            "cargo::warning={name} is missing, so that nothing can be linked: \
+             run scripts/build-library, or name its folder in CIPANGOHU_LIB"
+        );
+    }
     println!("cargo::rustc-link-search=native={}", folder.display());
     println!("cargo::rustc-link-lib=static=cipangohu");
-    println!("cargo::rustc-env=CIPANGOHU_ARCHIVE={}", archive.display());
 }

@@ -151,7 +151,9 @@ fn encoding(others: &Others, rounds: u32) -> Times {
     let mut frame = coder::frame_of(B, &message);
     let (mut ours, mut theirs) = ([0; N * S], [0; N * S]);
     let mut contest = Contest::of("all shares of a book", || {
-        calls::shares((N, GREATEST.t), black_box(&message), &mut ours).expect("lawful");
+        calls::shares((N, GREATEST.t), black_box(&message), &mut ours)
+            .accepted()
+            .expect("lawful");
     });
     contest.against(FOREIGN, || {
         coder::encode(N, GREATEST.t, black_box(&message), &mut theirs);
@@ -197,7 +199,9 @@ fn rebuilding(others: &Others, rounds: u32) -> Times {
     let entries = lay_out(&shares);
     let (mut ours, mut theirs) = ([0; MAX_MESSAGE], [0; MAX_MESSAGE]);
     let mut contest = Contest::of("a book from b shares", || {
-        calls::rebuild((N, GREATEST.t), black_box(&entries), &mut ours).expect("lawful");
+        calls::rebuild((N, GREATEST.t), black_box(&entries), &mut ours)
+            .accepted()
+            .expect("lawful");
     });
     contest.against(FOREIGN, || {
         coder::rebuild(N, GREATEST.t, black_box(&entries), &mut theirs);
@@ -254,7 +258,9 @@ fn hashing(others: &Others, rounds: u32) -> Vec<Times> {
         let message = Random::new(3).bytes(length);
         let mut digest = [0; HASH];
         let mut contest = Contest::of(name, || {
-            calls::hash(black_box(&message), &mut digest).expect("lawful");
+            calls::hash(black_box(&message), &mut digest)
+                .accepted()
+                .expect("lawful");
         });
         contest.against(FOREIGN, || {
             black_box(sha256::hash(black_box(&message)));

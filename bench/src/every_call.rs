@@ -1,8 +1,8 @@
 //! Every function of the archive along each of its ways, for whoever wants to run them all.
 
+use cipangohu::calls::{self, Answer};
 use cipangohu::{
-    calls, entries, lay_out, read_packet, Cause, HASH, MAX_HASHED, MAX_MESSAGE, MAX_OUTBOX,
-    MAX_PATH, STATE,
+    entries, lay_out, read_packet, HASH, MAX_HASHED, MAX_MESSAGE, MAX_OUTBOX, MAX_PATH, STATE,
 };
 
 use crate::party::{Party, Proved};
@@ -42,8 +42,14 @@ fn session(setting: Setting, visit: Visit) {
         unhappy_steps(setting.n, &at, visit);
     }
     no_state(&at, visit);
+    told(&at, visit);
     code(setting, visit);
     read(setting.n, &at, visit);
+}
+
+/// The value of a call that has to be accepted.
+fn accepted(answer: Answer) -> u32 {
+    answer.accepted().expect("the call is accepted")
 }
 
 /// Makes a call on a copy of a state.
@@ -103,7 +109,7 @@ fn unhappy_steps(n: usize, at: &Moments<Proved>, visit: Visit) {
 /// Each step on bytes that are no state. All bear one name, so that its figure is the greatest.
 fn no_state(at: &Moments<Proved>, visit: Visit) {
     let name = "any step, no state";
-    let refused = |answer: Result<u32, Cause>| assert_eq!(answer.map_err(|it| it.number), Err(5));
+    let refused = |answer: Answer| assert_eq!(answer.cause, 5);
     let (mut none, mut out) = ([0xFF; STATE], vec![0; MAX_OUTBOX]);
     visit(name, &mut || {
         refused(calls::agree_root(&mut none, &at.root))
@@ -119,33 +125,44 @@ fn no_state(at: &Moments<Proved>, visit: Visit) {
     });
 }
 
+/// What a state tells.
+fn told(at: &Moments<Proved>, visit: Visit) {
+    visit("result_length, stage, own", &mut || {
+        let state = at.relayed[0].state();
+        assert_eq!(calls::result_length(state).cause, 6);
+        assert_eq!(accepted(calls::stage(state)), 3);
+        assert_eq!(accepted(calls::own(state)), 1);
+    });
+}
+
 /// The coder.
 fn code(setting: Setting, visit: Visit) {
     let group = (setting.n, setting.t);
     let message = setting.message(1);
     let mut out = vec![0; MAX_OUTBOX];
     visit("shares", &mut || {
-        calls::shares(group, &message, &mut out).expect("shares");
+        accepted(calls::shares(group, &message, &mut out));
     });
     let shares = cipangohu::shares(setting.n, setting.t, &message).expect("shares");
     let shares = lay_out(&shares);
     visit("rebuild", &mut || {
-        calls::rebuild(group, &shares, &mut out).expect("a message");
+        accepted(calls::rebuild(group, &shares, &mut out));
     });
 }
 
 /// What is done with a packet.
 fn read(n: usize, at: &Moments<Proved>, visit: Visit) {
-    let relays = entries(&at.second).expect("entries");
+    let mut relays = entries(&at.second).expect("entries");
+    let relay = relays.next().expect("a relay");
     visit("read_packet", &mut || {
-        calls::read_packet(n, relays[0]).expect("a packet or silence");
+        accepted(calls::read_packet(n, relay));
     });
-    let Ok(Some(packet)) = read_packet(n, relays[0]) else {
+    let Ok(Some(packet)) = read_packet(n, relay) else {
         return;
     };
     visit("check_path, a share", &mut || {
         let passes = calls::check_path((n, 1), packet.share, packet.path, &at.root);
-        assert_eq!(passes, Ok(1));
+        assert_eq!(accepted(passes), 1);
     });
 }
 
@@ -154,12 +171,12 @@ fn strings(visit: Visit) {
     let string = vec![7; MAX_HASHED];
     let mut digest = [0; HASH];
     visit("hash", &mut || {
-        calls::hash(&string, &mut digest).expect("a digest");
+        accepted(calls::hash(&string, &mut digest));
     });
     let path = [0; MAX_PATH * HASH];
     visit("check_path, the longest string", &mut || {
         let share = &string[..MAX_HASHED - 2];
         let passes = calls::check_path((GREATEST.n, 1), share, &path, &digest);
-        assert_eq!(passes, Ok(0));
+        assert_eq!(accepted(passes), 0);
     });
 }

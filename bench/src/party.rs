@@ -1,6 +1,7 @@
 //! One party of either implementation, behind one trait, so that both play the same sessions.
 
-use cipangohu::{calls, Hash, HASH, STATE};
+use cipangohu::calls::{self, Answer};
+use cipangohu::{Hash, HASH, STATE};
 use foreign::party::{Given, State};
 
 /// Each step changes the state that the caller keeps. The calls made here are lawful: a refusal ends
@@ -23,29 +24,39 @@ pub struct Foreign(State);
 
 const LAWFUL: &str = "the call is lawful";
 
+impl Proved {
+    pub fn state(&self) -> &[u8] {
+        &self.0
+    }
+}
+
+fn lawful(answer: Answer) -> usize {
+    answer.accepted().expect(LAWFUL) as usize
+}
+
 impl Party for Proved {
     fn open((n, t): (usize, usize), own: usize, message: &[u8]) -> (Self, Hash) {
         let mut party = Proved([0; STATE]);
         let mut root = [0; HASH];
-        calls::open((n, t, own), message, &mut party.0, &mut root).expect(LAWFUL);
+        lawful(calls::open((n, t, own), message, &mut party.0, &mut root));
         (party, root)
     }
 
     fn agree_root(&mut self, root: &Hash) -> bool {
-        calls::agree_root(&mut self.0, root).expect(LAWFUL) == 1
+        lawful(calls::agree_root(&mut self.0, root)) == 1
     }
 
     fn agree_bit(&mut self, bit: u8, out: &mut [u8]) -> usize {
-        calls::agree_bit(&mut self.0, bit, out).expect(LAWFUL) as usize
+        lawful(calls::agree_bit(&mut self.0, bit.into(), out))
     }
 
     fn take_shares(&mut self, inbox: &[u8], out: &mut [u8]) -> usize {
-        calls::take_shares(&mut self.0, inbox, out).expect(LAWFUL) as usize
+        lawful(calls::take_shares(&mut self.0, inbox, out))
     }
 
     fn take_relays(&mut self, inbox: &[u8], out: &mut [u8]) -> Option<usize> {
-        let length = calls::take_relays(&mut self.0, inbox, out).expect(LAWFUL);
-        (length != u32::MAX).then_some(length as usize)
+        let settled = lawful(calls::take_relays(&mut self.0, inbox, out)) == 1;
+        settled.then(|| lawful(calls::result_length(&self.0)))
     }
 }
 

@@ -82,7 +82,7 @@ fn send_all<P: Party>(parties: &mut [P]) -> Vec<Vec<u8>> {
 fn deliver(outboxes: &[Vec<u8>]) -> Vec<Vec<u8>> {
     let sent = outboxes
         .iter()
-        .map(|outbox| entries(outbox).expect("an outbox"));
+        .map(|outbox| entries(outbox).expect("an outbox").collect());
     let sent: Vec<Vec<&[u8]>> = sent.collect();
     let inbox = |place| {
         lay_out(

@@ -1,4 +1,4 @@
-//! Packets as the boxes send them: how one is written, read, and held against the number
+//! Packets as the parties send them: how one is written, read, and held against the number
 //! demanded of it and the agreed root.
 
 use crate::inbox;
@@ -34,7 +34,7 @@ pub struct Place {
     pub hashes: usize,
 }
 
-/// What a packet is worth to a box that demands a number under a root.
+/// What a packet is worth to a party that demands a number under a root.
 #[derive(Debug, PartialEq)]
 pub enum Standing {
     Silent,
@@ -124,7 +124,7 @@ fn hashes(bytes: &[u8]) -> Vec<Hash> {
     bytes.chunks(32).map(hash).collect()
 }
 
-/// The packet's standing for a box that demands number j under the root, or the lowest
+/// The packet's standing for a party that demands number j under the root, or the lowest
 /// cause against n and j.
 pub fn classify(n: usize, j: usize, root: Hash, bytes: &[u8]) -> Result<Standing, u32> {
     let reading = read(n, bytes);

@@ -240,6 +240,11 @@ impl State {
         }
     }
 
+    /// Whether the state breaks no limit.
+    pub fn is_lawful(&self) -> bool {
+        self.lawful().is_some()
+    }
+
     /// The state's values, if none breaks a limit; lengths are judged at every stage.
     fn lawful(&self) -> Option<Party> {
         let (n, t, own) = group(self.n, self.t, self.own).ok()?;

@@ -66,8 +66,17 @@ fn program() -> String {
         text.extend(here.iter().map(|limit| equal(proved, &limit.to_string())));
     }
     text += &equal("MAX_PLAN", &LONGEST_PLAN.to_string());
-    text += &equal("CIPANGOHU_ROOT", &host::HASH.to_string());
-    text + &equal("CIPANGOHU_STATE", &host::STATE.to_string())
+    let hosts = [
+        ("ROOT", host::HASH),
+        ("STATE", host::STATE),
+        ("SHARES", host::MAX_SHARES),
+        ("INBOX", host::MAX_INBOX),
+        ("LAYOUT", host::LAYOUT.into()),
+    ];
+    for (name, number) in hosts {
+        text += &equal(&format!("CIPANGOHU_{name}"), &number.to_string());
+    }
+    text
 }
 
 /// What a limit of docs/REFERENCE.md has to be, in the words of C.

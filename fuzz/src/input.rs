@@ -63,6 +63,15 @@ impl<'a> Input<'a> {
         }
     }
 
+    /// A bit: 1 for a zero, 0 for a one, and what is none else, also such as would be a bit if it
+    /// were cut.
+    pub fn bit(&mut self) -> usize {
+        match self.byte() {
+            byte @ 0..=191 => usize::from(byte ^ 1),
+            byte => ODD[usize::from(byte) % ODD.len()].wrapping_add(usize::from(byte / 8 % 2)),
+        }
+    }
+
     /// The length of a buffer that needs so many bytes: exact, a little off, or any.
     pub fn room(&mut self, needed: usize) -> usize {
         match self.byte() {

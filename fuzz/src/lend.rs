@@ -6,12 +6,15 @@ use std::sync::atomic::{AtomicU64, Ordering::Relaxed};
 use crate::call::{answered, beside, Answer, Call, Lent};
 
 /// Each function with the causes that the header lists for it, 0 for accepted.
-const LISTED: [(&str, &[u32]); 10] = [
+const LISTED: [(&str, &[u32]); 13] = [
     ("open", &[0, 1, 2, 3, 4, 9]),
     ("agree_root", &[0, 5, 6, 7]),
     ("agree_bit", &[0, 5, 6, 7, 9]),
     ("take_shares", &[0, 5, 6, 8, 9]),
     ("take_relays", &[0, 5, 6, 8, 9]),
+    ("result_length", &[0, 5, 6]),
+    ("stage", &[0, 5]),
+    ("own", &[0, 5]),
     ("read_packet", &[0, 1, 10]),
     ("check_path", &[0, 1, 3, 4, 7]),
     ("shares", &[0, 1, 2, 4, 9]),
@@ -20,7 +23,8 @@ const LISTED: [(&str, &[u32]); 10] = [
 ];
 
 /// How often each function had each cause.
-static TIMES: [[AtomicU64; 13]; 10] = [const { [const { AtomicU64::new(0) }; 13] }; 10];
+static TIMES: [[AtomicU64; 13]; LISTED.len()] =
+    [const { [const { AtomicU64::new(0) }; 13] }; LISTED.len()];
 
 /// The library's answer. A clone's allocations have no room to spare, and an empty one has none.
 fn library(call: &Call, lent: &mut Lent) -> Answer {
@@ -35,13 +39,14 @@ fn library(call: &Call, lent: &mut Lent) -> Answer {
 /// Makes a call, held to all that is known of it.
 pub fn checked(call: &Call, lent: &mut Lent) -> Answer {
     let answer = beside(call, lent, library);
-    let (cause, needed) = answer
-        .err()
-        .map_or((0, 0), |cause| (cause.number, cause.needed));
+    let Answer { value, cause } = answer;
     let place = LISTED.iter().position(|(name, _)| *name == call.name());
     let place = place.expect("a listed function");
     assert!(LISTED[place].1.contains(&cause), "{call:?}: cause {cause}");
-    assert!(cause == 9 || needed == 0, "{call:?}: value {needed}");
+    assert!(
+        matches!(cause, 0 | 9) || value == 0,
+        "{call:?}: value {value}"
+    );
     TIMES[place][cause as usize].fetch_add(1, Relaxed);
     answer
 }

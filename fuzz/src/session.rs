@@ -3,13 +3,13 @@
 
 use std::mem::take;
 
-use cipangohu::{entries, lay_out, Cause, HASH, MAX_HASHED, MAX_MESSAGE, MAX_PARTIES, STATE};
+use cipangohu::{entries, lay_out, HASH, LAYOUT, MAX_HASHED, MAX_MESSAGE, MAX_PARTIES, STATE};
 use foreign::liars::Sharing;
 
-use crate::call::{Call, Lent};
+use crate::call::{Answer, Call, Lent};
 use crate::input::Input;
 use crate::lend::checked;
-use crate::reference::AT_SHARE;
+use crate::reference::{AT_GROUP, AT_HELD, AT_LENGTH, AT_ROOT, AT_SHARE, AT_STAGE};
 
 const PARTIES: usize = 4;
 
@@ -85,7 +85,7 @@ fn put(bytes: &mut [u8], at: usize, new: &[u8]) {
 impl Session<'_> {
     /// The numbers of the turns are those of fuzz/seeds.
     fn turn(&mut self) {
-        let (kind, party) = (self.input.below(13), self.input.below(PARTIES));
+        let (kind, party) = (self.input.below(14), self.input.below(PARTIES));
         match kind {
             0 => self.open(party),
             1 => self.agree_root(party),
@@ -99,23 +99,24 @@ impl Session<'_> {
             9 => self.hash(),
             10 => self.spoil(party),
             11 => self.parties[party] = self.parties[self.input.below(PARTIES)].clone(),
-            _ => self.forge(party),
+            12 => self.forge(party),
+            _ => self.ask(party),
         }
     }
 
     /// Makes a call on a party's state and, where it lacks room, again with as much as the input
-    /// says. Gives what it wrote.
+    /// says. Gives as many bytes of the buffer as its value says, which most calls have written.
     fn made(&mut self, party: usize, call: &Call) -> Option<Vec<u8>> {
         let state = take(&mut self.parties[party].state);
         let out = dirt(self.input.room(0));
         let mut lent = Lent { state, out };
         let mut answer = checked(call, &mut lent);
-        if let Err(Cause { number: 9, needed }) = answer {
-            lent.out = dirt(self.input.room(needed));
+        if let Answer { value, cause: 9 } = answer {
+            lent.out = dirt(self.input.room(value as usize));
             answer = checked(call, &mut lent);
         }
         self.parties[party].state = lent.state;
-        lent.out.truncate(answer.ok()? as usize);
+        lent.out.truncate(answer.accepted().ok()? as usize);
         Some(lent.out)
     }
 
@@ -182,7 +183,7 @@ impl Session<'_> {
     fn inbox(&mut self, party: usize, exchange: usize) -> Vec<u8> {
         let state = &self.parties[party].state;
         let at = |place| state.get(place).map_or(0, |&byte: &u8| usize::from(byte));
-        let (n, own) = (at(0).min(MAX_PARTIES + 1), at(2));
+        let (n, own) = (at(AT_GROUP).min(MAX_PARTIES + 1), at(AT_GROUP + 2));
         let way = self.input.below(4);
         let number = |sender| [own, sender][exchange];
         let packets: Vec<Vec<u8>> = match way {
@@ -208,7 +209,7 @@ impl Session<'_> {
             state: dirt(self.input.room(STATE)),
             out: dirt(self.input.room(HASH)),
         };
-        if checked(&call, &mut lent).is_ok() {
+        if checked(&call, &mut lent).cause == 0 {
             self.parties[party].root = lent.out[..HASH].to_vec();
         }
         self.parties[party].state = lent.state;
@@ -219,9 +220,8 @@ impl Session<'_> {
         self.made(party, &Call::AgreeRoot(root));
     }
 
-    /// A zero in the input stands for bit 1, on which the session goes on.
     fn agree_bit(&mut self, party: usize) {
-        let bit = self.input.byte() ^ 1;
+        let bit = self.input.bit();
         let outbox = self.made(party, &Call::AgreeBit(bit)).unwrap_or_default();
         let packets = entries(&outbox).expect("an outbox of entries");
         for (number, packet) in (1..).zip(packets) {
@@ -245,6 +245,13 @@ impl Session<'_> {
     fn take_relays(&mut self, party: usize) {
         let call = Call::TakeRelays(self.inbox(party, 1));
         self.made(party, &call);
+    }
+
+    /// Asks all that a state tells.
+    fn ask(&mut self, party: usize) {
+        for call in [Call::ResultLength, Call::Stage, Call::Own] {
+            self.made(party, &call);
+        }
     }
 
     fn read_packet(&mut self) {
@@ -307,29 +314,30 @@ impl Session<'_> {
     }
 
     /// Changes a party's state as no host should: bytes anywhere, the stage, a number, a length near
-    /// its limit, its own length, the root, the share held, or all of it.
+    /// its limit, its own length, the root, the share held, the layout's version, or all of it.
     fn spoil(&mut self, party: usize) {
         let mut state = take(&mut self.parties[party].state);
-        match self.input.below(8) {
+        match self.input.below(9) {
             0 => self.input.bend(&mut state),
-            1 => put(&mut state, 3, &[self.input.byte() % 8]),
+            1 => put(&mut state, AT_STAGE, &[self.input.byte() % 8]),
             2 => {
-                let place = self.input.below(3);
+                let place = AT_GROUP + self.input.below(3);
                 put(&mut state, place, &[EDGES[self.input.below(EDGES.len())]]);
             }
             3 => {
-                let place = 4 + 2 * self.input.below(2);
+                let place = [AT_LENGTH, AT_HELD][self.input.below(2)];
                 let length = (MAX_MESSAGE + self.input.below(5)) as u16;
                 put(&mut state, place, &length.to_be_bytes());
             }
             4 => state.resize(STATE, 0),
-            5 => put(&mut state, 8, &self.root()),
+            5 => put(&mut state, AT_ROOT, &self.root()),
             6 => {
                 let number = self.input.number(party + 1);
                 let (share, _) = parts(&self.packet(number));
-                put(&mut state, 6, &(share.len() as u16).to_be_bytes());
+                put(&mut state, AT_HELD, &(share.len() as u16).to_be_bytes());
                 put(&mut state, AT_SHARE, &share);
             }
+            7 => put(&mut state, 0, &[LAYOUT.wrapping_add(self.input.byte())]),
             _ => state = dirt(self.input.room(STATE)),
         }
         self.parties[party].state = state;

@@ -1,6 +1,6 @@
 //! A stand-in for the short agreement, a service that all trust. It keeps document 01's rule while
-//! at most t boxes lie: all get one value, and if all good boxes put in the same value, it is that
-//! one. A real host runs a protocol among the boxes in its place.
+//! at most t parties lie: all get one value, and if all good parties put in the same value, it is
+//! that one. A real host runs a protocol among the parties in its place.
 
 use std::collections::BTreeMap;
 use std::io::{Error, ErrorKind, Result};
@@ -18,11 +18,11 @@ use crate::wire::{self, Hello, Token, ROUNDS};
 pub struct Terms {
     pub parties: usize,
     pub faults: usize,
-    /// How much later than another a good box may speak.
+    /// How much later than another a good party may speak.
     pub limit: Duration,
     /// By number from 1.
     pub tokens: Vec<Token>,
-    /// Breaks the rule: each box gets back what it put in.
+    /// Breaks the rule: each party gets back what it put in.
     pub echo: bool,
 }
 
@@ -67,9 +67,9 @@ fn lawful(round: usize, value: &[u8]) -> bool {
     }
 }
 
-/// The value of n − t boxes, as soon as there is one. They are more than t, so that a good box is
-/// among them, and it is the good ones' common value if they have one. Where all have spoken or the
-/// time is up, and no such value came, the lowest-numbered box's is as good as any.
+/// The value of n − t parties, as soon as there is one. They are more than t, so that a good party
+/// is among them, and it is the good ones' common value if they have one. Where all have spoken or
+/// the time is up, and no such value came, the lowest-numbered party's is as good as any.
 fn settle(
     values: &BTreeMap<usize, Vec<u8>>,
     parties: usize,
@@ -88,7 +88,7 @@ fn settle(
 }
 
 impl Service {
-    /// Serves one box until it goes away or breaks the form.
+    /// Serves one party until it goes away or breaks the form.
     fn attend(&self, mut stream: TcpStream) -> Result<()> {
         let hello = wire::read_hello(&mut stream)?;
         let place = hello.sender.wrapping_sub(1);
@@ -108,9 +108,9 @@ impl Service {
         }
     }
 
-    /// Puts a box's first value of this round in, and waits for the agreed one. The time starts
-    /// when more than t boxes have spoken: one of them is good, so that liars cannot let it run out
-    /// before the good boxes are there.
+    /// Puts a party's first value of this round in, and waits for the agreed one. The time starts
+    /// when more than t parties have spoken: one of them is good, so that liars cannot let it run
+    /// out before the good parties are there.
     fn agreed(&self, round: usize, sender: usize, value: Vec<u8>) -> Vec<u8> {
         let Terms {
             parties,
@@ -147,7 +147,7 @@ impl Service {
     }
 }
 
-/// One box's connection to the service.
+/// One party's connection to the service.
 pub struct Agreement {
     stream: TcpStream,
 }
@@ -202,7 +202,7 @@ mod tests {
 
     const LIMIT: Duration = Duration::from_millis(50);
 
-    /// A service for three boxes, one of which may lie. The token of each is its number.
+    /// A service for three parties, one of which may lie. The token of each is its number.
     fn service() -> u16 {
         let tokens = vec![[1; 16], [2; 16], [3; 16]];
         let terms = Terms {
@@ -215,7 +215,7 @@ mod tests {
         serve(terms).unwrap()
     }
 
-    /// A box that puts in a root of this byte.
+    /// A party that puts in a root of this byte.
     fn ask(port: u16, own: usize, value: u8) -> thread::JoinHandle<Vec<u8>> {
         thread::spawn(move || {
             let mut agreement = Agreement::join(port, own, [own as u8; 16], LIMIT).unwrap();

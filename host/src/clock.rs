@@ -1,7 +1,7 @@
 //! The clock of the two exchanges. Both ends are counted from one start, the arrival of the agreed
-//! bit, which all good boxes get at about the same time. Were the second counted from the end of a
-//! box's first, a box that heard everybody early would stop listening before one that waited for a
-//! silent liar has sent its relay.
+//! bit, which all good parties get at about the same time. Were the second counted from the end of
+//! a party's first, a party that heard everybody early would stop listening before one that waited
+//! for a silent liar has sent its relay.
 
 use std::time::{Duration, Instant};
 
@@ -18,12 +18,12 @@ impl Clock {
         }
     }
 
-    /// When a box takes what it has not heard in exchange 0 or 1 as no bytes.
+    /// When a party takes what it has not heard in exchange 0 or 1 as no bytes.
     pub fn end_of(&self, exchange: usize) -> Instant {
         self.start + self.limit * (exchange as u32 + 1)
     }
 
-    /// When good boxes have spoken in this exchange and still listen.
+    /// When good parties have spoken in this exchange and still listen.
     pub fn middle_of(&self, exchange: usize) -> Instant {
         self.end_of(exchange) - self.limit / 2
     }

@@ -1,22 +1,22 @@
-//! A good box's run: the five steps, with the host's part between them.
+//! A good party's run: the five steps, with the host's part between them.
 
-use std::io;
+use std::io::{self, ErrorKind};
 use std::thread;
 
-use cipangohu::{lay_out, Cause, Hash, Outcome, Party, MAX_OUTBOX, MAX_PACKET};
+use cipangohu::{lay_out, Cause, Hash, Party, Stage, MAX_OUTBOX, MAX_PACKET};
 
 use crate::agreement::Agreement;
 use crate::clock::Clock;
 use crate::links::{packets_in, Links};
 use crate::options::{Duty, Options};
 
-/// What a box settled on, and how many bytes of packets it sent.
+/// A party that has ended, and how many bytes of packets it sent.
 pub struct Report {
-    pub outcome: Outcome,
+    pub party: Party,
     pub sent: usize,
 }
 
-/// Why a box did not get to its end.
+/// Why a party did not get to its end.
 pub enum Failure {
     Refused(Cause),
     Link(io::Error),
@@ -34,33 +34,42 @@ impl From<io::Error> for Failure {
     }
 }
 
-/// Where the agreed root stands in a state.
-const ROOT: usize = 8;
-
-/// A party that has been given the agreed bit, its root, its packets by receiver, and the clock
-/// that the bit has started.
+/// A party that has been given the agreed bit, its packets by receiver, and the clock that the bit
+/// has started.
 struct Agreed {
     party: Party,
-    root: Hash,
-    bit: u8,
     packets: Vec<Vec<u8>>,
     clock: Clock,
+}
+
+/// The agreement's value is neither a root nor a bit.
+fn no_value() -> io::Error {
+    io::Error::new(ErrorKind::InvalidData, "the agreement's value has no form")
+}
+
+fn root_of(value: &[u8]) -> io::Result<Hash> {
+    value.try_into().map_err(|_| no_value())
+}
+
+fn bit_of(value: &[u8]) -> io::Result<bool> {
+    match value {
+        [bit @ (0 | 1)] => Ok(*bit == 1),
+        _ => Err(no_value()),
+    }
 }
 
 /// Steps 1 to 3.
 fn agree(options: &Options, own: usize, agreement: &mut Agreement) -> Result<Agreed, Failure> {
     let message = options.message_of(own);
     let (mut party, root) = Party::open(options.parties, options.faults, own, message)?;
-    let happy = party.agree_root(&agreement.agree(0, &root)?)?;
-    let agreed = agreement.agree(1, &[happy.into()])?;
+    let root = root_of(&agreement.agree(0, &root)?)?;
+    let happy = party.agree_root(&root)?;
+    let bit = bit_of(&agreement.agree(1, &[happy.into()])?)?;
     let clock = Clock::start(options.limit);
-    let bit = agreed.first().copied().unwrap_or(u8::MAX);
     let mut out = vec![0; MAX_OUTBOX];
     let length = party.agree_bit(bit, &mut out)?;
     Ok(Agreed {
         party,
-        root,
-        bit,
         packets: packets_in(&out[..length]),
         clock,
     })
@@ -75,16 +84,11 @@ pub fn run(
     let own = links.own;
     let Agreed {
         mut party,
-        root,
-        bit,
         packets,
         clock,
     } = agree(options, own, agreement)?;
-    if bit == 0 {
-        return Ok(Report {
-            outcome: Outcome::Nothing,
-            sent: 0,
-        });
+    if party.stage() == Stage::EndedWithNothing {
+        return Ok(Report { party, sent: 0 });
     }
     if options.breaks(Duty::Clock) && options.good().next() == Some(own) {
         thread::sleep(options.limit * 3);
@@ -93,7 +97,7 @@ pub fn run(
     let first = lay_out(&links.collect(0, clock.end_of(0)));
 
     if options.breaks(Duty::State) && options.good().next_back() == Some(own) {
-        party = meddled(&party, &root);
+        party = meddled(options, own)?;
     }
     let mut relay = vec![0; MAX_PACKET];
     let length = party.take_shares(&first, &mut relay)?;
@@ -102,14 +106,16 @@ pub fn run(
     let second = lay_out(&links.collect(1, clock.end_of(1)));
 
     let sent = packets.iter().map(Vec::len).sum::<usize>() + length * (options.parties - 1);
-    let outcome = party.take_relays(&second)?;
-    Ok(Report { outcome, sent })
+    party.take_relays(&second)?;
+    Ok(Report { party, sent })
 }
 
-/// The party with its own root written where the agreed one stood, by somebody who should not: it
-/// now takes itself for happy.
-fn meddled(party: &Party, root: &Hash) -> Party {
-    let mut state = *party.state();
-    state[ROOT..ROOT + root.len()].copy_from_slice(root);
-    Party::from_state(state)
+/// What somebody who should not puts in the place of a party's state: that of one whose own root
+/// was agreed on. The party now takes itself for happy.
+fn meddled(options: &Options, own: usize) -> Result<Party, Cause> {
+    let message = options.message_of(own);
+    let (mut party, root) = Party::open(options.parties, options.faults, own, message)?;
+    party.agree_root(&root)?;
+    party.agree_bit(true, &mut [0; MAX_OUTBOX])?;
+    Party::from_state(party.state())
 }

@@ -1,5 +1,5 @@
-//! What lying boxes do, by name. A liar knows the whole sitting, and may see what good boxes send
-//! before it speaks itself.
+//! What lying parties do, by name. A liar knows the whole sitting, and may see what good parties
+//! send before it speaks itself.
 
 use std::io::{self, Read};
 use std::net::Shutdown;
@@ -22,7 +22,7 @@ pub enum Lie {
     Noise,
     /// Its good share to some, with a bit turned to others.
     Split,
-    /// Insists on another book, whatever was agreed.
+    /// Insists on another message, whatever was agreed.
     OtherMessage,
     /// Sends on, as its own, what it heard from somebody else in the same exchange.
     Replay,
@@ -59,7 +59,7 @@ impl FromStr for Lie {
     }
 }
 
-/// What a good box would send for a book whose root was agreed.
+/// What a good party would send for a message whose root was agreed.
 struct Honest {
     root: Hash,
     packets: Vec<Vec<u8>>,
@@ -71,7 +71,7 @@ impl Honest {
         let (mut party, root) = Party::open(parties, faults, own, message)?;
         party.agree_root(&root)?;
         let mut out = vec![0; MAX_OUTBOX];
-        let length = party.agree_bit(1, &mut out)?;
+        let length = party.agree_bit(true, &mut out)?;
         let packets = packets_in(&out[..length]);
         let length = party.take_shares(&lay_out(&vec![[]; parties]), &mut out)?;
         out.truncate(length);

@@ -1,4 +1,4 @@
-//! The links among the boxes: one connection for each sender and receiver, opened by the sender
+//! The links among the parties: one connection for each sender and receiver, opened by the sender
 //! with the link's token, and the mailbox that what arrives is put into.
 
 use std::io::{Error, ErrorKind, Result};
@@ -33,8 +33,8 @@ pub fn connect(port: u16, hello: &Hello) -> Result<TcpStream> {
 
 /// The packets of an outbox by receiver.
 pub fn packets_in(outbox: &[u8]) -> Vec<Vec<u8>> {
-    let packets = entries(outbox).unwrap_or_default();
-    packets.into_iter().map(<[u8]>::to_vec).collect()
+    let packets = entries(outbox).into_iter().flatten();
+    packets.map(<[u8]>::to_vec).collect()
 }
 
 /// What arrived, by exchange and sender. The first frame of each counts.
@@ -98,7 +98,7 @@ impl Door {
     }
 }
 
-/// Takes in, in threads of its own, what others send to this box.
+/// Takes in, in threads of its own, what others send to this party.
 pub fn receive(listener: TcpListener, door: Door, mailbox: Arc<Mailbox>) {
     let door = Arc::new(door);
     thread::spawn(move || {
@@ -120,8 +120,8 @@ fn listen_to(mut stream: TcpStream, door: &Door, mailbox: &Mailbox) -> Result<()
     }
 }
 
-/// This box's own links to the others, by number from 1; none to itself, nor to a box that cannot
-/// be reached.
+/// This party's own links to the others, by number from 1; none to itself, nor to a party that
+/// cannot be reached.
 pub struct Links {
     pub own: usize,
     pub mailbox: Arc<Mailbox>,
@@ -129,8 +129,8 @@ pub struct Links {
 }
 
 impl Links {
-    /// Sends each other box its packet. A link that fails is the receiver's loss: it may be a liar
-    /// that has gone away.
+    /// Sends each other party its packet. A link that fails is the receiver's loss: it may be a
+    /// liar that has gone away.
     pub fn send(&mut self, exchange: usize, packets: &[Vec<u8>]) {
         for (stream, packet) in self.streams.iter_mut().zip(packets) {
             if let Some(stream) = stream {

@@ -1,6 +1,7 @@
-//! An example host: each box is a process of its own, linked with the others by TCP on the
-//! loopback. Some boxes may lie, and the host may be told to break one of its own duties;
-//! docs/HOSTING.md has sittings of each kind.
+//! An example host: each party is a process of its own, linked with the others by TCP on the
+//! loopback. Some parties may lie, and the host may be told to break one of its own duties;
+//! docs/HOSTING.md has sittings of each kind. A party is a box and a message a book: people read
+//! those words on the screen.
 
 mod agreement;
 mod clock;
@@ -18,10 +19,10 @@ use std::process::ExitCode;
 
 use options::{Options, USAGE};
 
-/// Wrong usage, a sitting without a good box, or a failure of the host itself.
+/// Wrong usage, a sitting without a good party, or a failure of the host itself.
 const FAILED: u8 = 2;
 
-/// Two good boxes differ, or a good box had an error.
+/// Two good parties differ, or a good party had an error.
 const DIFFER: u8 = 1;
 
 fn run(arguments: &[String]) -> Result<ExitCode, String> {

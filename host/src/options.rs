@@ -1,4 +1,4 @@
-//! The command line. Each box is started with the same words and its own number, so that all know
+//! The command line. Each party is started with the same words and its own number, so that all know
 //! the sitting in the same way.
 
 use std::collections::BTreeMap;
@@ -22,12 +22,12 @@ pub const USAGE: &str = "usage: host --parties N --faults T --book BOOK [--own-b
 pub enum Duty {
     /// Links: a number is believed without its token.
     Forge,
-    /// The clock: the lowest-numbered good box sends its first packets when the others have stopped
-    /// listening.
+    /// The clock: the lowest-numbered good party sends its first packets when the others have
+    /// stopped listening.
     Clock,
-    /// The agreement: each box gets back what it put in.
+    /// The agreement: each party gets back what it put in.
     Agreement,
-    /// The state: somebody else writes into the highest-numbered good box's.
+    /// The state: somebody else writes into the highest-numbered good party's.
     State,
 }
 
@@ -41,7 +41,7 @@ pub struct Options {
     pub limit: Duration,
     pub seed: u64,
     pub broken: Option<Duty>,
-    /// The number of the box that this process is; none for the process that starts the others.
+    /// The number of the party that this process is; none for the process that starts the others.
     pub own: Option<usize>,
 }
 
@@ -77,7 +77,7 @@ fn message(text: &str) -> Result<Vec<u8>, String> {
     }
 }
 
-/// A box's number, `=`, and what is said of it.
+/// A party's number, `=`, and what is said of it.
 fn of_box(text: &str) -> Result<(usize, &str), String> {
     let (own, rest) = text
         .split_once('=')
@@ -137,7 +137,7 @@ impl Options {
         Ok(())
     }
 
-    /// Whatever is said of a box must be said of one of the sitting's.
+    /// Whatever is said of a party must be said of one of the sitting's.
     fn check_numbers(&self) -> Result<(), String> {
         let named = self
             .own_messages
@@ -150,7 +150,7 @@ impl Options {
             .map_or(Ok(()), |own| Err(format!("there is no box {own}")))
     }
 
-    /// The book that a box opens with.
+    /// The message that a party opens with.
     pub fn message_of(&self, own: usize) -> &[u8] {
         self.own_messages.get(&own).unwrap_or(&self.message)
     }

@@ -1,5 +1,5 @@
-//! One box's process. On standard output it tells its port, then that it is ready, then its report;
-//! on standard input it is told its roster, then to go.
+//! One party's process. On standard output it tells its port, then that it is ready, then its
+//! report; on standard input it is told its roster, then to go.
 
 use std::io::{stdin, BufRead, Write};
 use std::net::TcpListener;
@@ -16,7 +16,7 @@ use crate::options::{Duty, Options};
 use crate::roster::{Peer, Roster};
 use crate::wire::Hello;
 
-/// The words between a box's process and the one that started it.
+/// The words between a party's process and the one that started it.
 pub const READY: &str = "ready";
 pub const GO: &str = "go";
 
@@ -36,14 +36,15 @@ fn tell(line: &str) -> Result<(), String> {
         .map_err(|error| error.to_string())
 }
 
-/// The line that reports how a good box ended: the bytes it sent, and its result as document 01
+/// The line that reports how a good party ended: the bytes it sent, and its result as document 01
 /// prints it.
 fn reported(ended: Result<Report, Failure>) -> String {
     match ended {
-        Ok(Report { outcome, sent }) => match outcome {
-            Outcome::Nothing => format!("{sent} -"),
-            Outcome::Message(message) if message.is_empty() => format!("{sent} ="),
-            Outcome::Message(message) => format!("{sent} = {}", hex::encode(&message)),
+        Ok(Report { party, sent }) => match party.result() {
+            Some(Outcome::Nothing) => format!("{sent} -"),
+            Some(Outcome::Message([])) => format!("{sent} ="),
+            Some(Outcome::Message(message)) => format!("{sent} = {}", hex::encode(message)),
+            None => String::from("0 error: the party has not ended"),
         },
         Err(Failure::Refused(cause)) => format!("0 error: {cause}"),
         Err(Failure::Link(error)) => format!("0 error: {error}"),
@@ -71,7 +72,7 @@ fn open_links(options: &Options, own: usize, roster: &Roster, listener: TcpListe
     }
 }
 
-/// Takes the box's part in the sitting.
+/// Takes the party's part in the sitting.
 pub fn run(options: &Options, own: usize) -> Result<(), String> {
     let text = |error: std::io::Error| error.to_string();
     let (listener, port) = listen().map_err(text)?;

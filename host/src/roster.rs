@@ -1,4 +1,4 @@
-//! What a box is told before a sitting begins: the ports of the others and of the agreement, and
+//! What a party is told before a sitting begins: the ports of the others and of the agreement, and
 //! the tokens of its own links and no others.
 
 use std::fs::File;
@@ -7,7 +7,8 @@ use std::io::{Read, Result};
 use crate::hex;
 use crate::wire::Token;
 
-/// A box's link with another: its port, the token to say there, and the token to demand from there.
+/// A party's link with another: its port, the token to say there, and the token to demand from
+/// there.
 #[derive(Clone, Debug, PartialEq)]
 pub struct Peer {
     pub port: u16,
@@ -53,8 +54,9 @@ impl Peer {
 }
 
 impl Roster {
-    /// The rosters of all boxes, by number from 1. Token n·i + j belongs to the link from box i + 1
-    /// to box j + 1; those behind them are the agreement's, which demands and says the same one.
+    /// The rosters of all parties, by number from 1. Token n·i + j belongs to the link from party i
+    /// + 1 to party j + 1; those behind them are the agreement's, which demands and says the same
+    /// one.
     pub fn all(ports: &[u16], agreement: u16, tokens: &[Token]) -> Vec<Roster> {
         let n = ports.len();
         let peer = |i: usize, j: usize| Peer {
@@ -78,7 +80,7 @@ impl Roster {
         peers.map(Peer::words).collect::<Vec<_>>().join(" ")
     }
 
-    /// The roster in a line for this many boxes.
+    /// The roster in a line for this many parties.
     pub fn read(line: &str, parties: usize) -> Option<Roster> {
         let mut words = line.split_whitespace();
         Some(Roster {

@@ -1,4 +1,4 @@
-//! The process that starts the boxes of a sitting, brings them together, and holds the good ones'
+//! The process that starts the parties of a sitting, brings them together, and holds the good ones'
 //! results against each other.
 
 use std::io::{BufRead, BufReader, Write};
@@ -15,7 +15,7 @@ use crate::options::{Duty, Options};
 use crate::process::{GO, READY};
 use crate::roster::{tokens, Roster};
 
-/// A box's process; it is ended with this.
+/// A party's process; it is ended with this.
 struct Process {
     own: usize,
     child: Child,
@@ -60,7 +60,7 @@ impl Process {
         writeln!(self.input, "{line}").map_err(|error| format!("box {}: {error}", self.own))
     }
 
-    /// The next line of the box, which does not wait for ever.
+    /// The next line of the party, which does not wait for ever.
     fn line(&self, patience: Duration) -> Result<String, String> {
         self.lines
             .recv_timeout(patience)
@@ -68,14 +68,14 @@ impl Process {
     }
 }
 
-/// How a good box ended: the bytes it sent, and its result as it is printed.
+/// How a good party ended: the bytes it sent, and its result as it is printed.
 struct Ended {
     own: usize,
     sent: usize,
     result: String,
 }
 
-/// A box that tells nothing that can be read has an error.
+/// A party that tells nothing that can be read has an error.
 fn ended(process: &Process, patience: Duration) -> Ended {
     let line = process
         .line(patience)
@@ -88,7 +88,7 @@ fn ended(process: &Process, patience: Duration) -> Ended {
     }
 }
 
-/// The limits are the box's: it says whether it would open with this number and book.
+/// The limits are the party's: it says whether it would open with this number and message.
 fn check_openings(options: &Options) -> Result<(), String> {
     for own in 1..=options.parties.max(1) {
         Party::open(
@@ -102,8 +102,8 @@ fn check_openings(options: &Options) -> Result<(), String> {
     Ok(())
 }
 
-/// Starts all boxes and the agreement, and tells each where the others are. All are ready when this
-/// returns, and none has gone ahead.
+/// Starts all parties and the agreement, and tells each where the others are. All are ready when
+/// this returns, and none has gone ahead.
 fn gather(options: &Options, arguments: &[String]) -> Result<Vec<Process>, String> {
     let text = |error: std::io::Error| error.to_string();
     let n = options.parties;
@@ -141,7 +141,7 @@ fn gather(options: &Options, arguments: &[String]) -> Result<Vec<Process>, Strin
     Ok(processes)
 }
 
-/// Runs a sitting and prints it; gives whether all good boxes ended, and ended alike.
+/// Runs a sitting and prints it; gives whether all good parties ended, and ended alike.
 pub fn run(options: &Options, arguments: &[String]) -> Result<bool, String> {
     check_openings(options)?;
     // No result would be shown, and whoever goes by the status must not take it for a settled one.

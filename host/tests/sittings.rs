@@ -56,7 +56,7 @@ fn host(words: &str) -> Run {
 }
 
 impl Run {
-    /// The results of good boxes.
+    /// The results of good parties.
     fn results(&self) -> Vec<&str> {
         let parts = self.lines.iter().filter_map(|line| line.split_once(' '));
         parts
@@ -66,7 +66,7 @@ impl Run {
     }
 }
 
-/// All good boxes must end with one of these results.
+/// All good parties must end with one of these results.
 fn settles(words: &str, good: usize, allowed: &[&str]) {
     let run = host(words);
     let results = run.results();
@@ -86,7 +86,7 @@ fn beside(sittings: Vec<Box<dyn Fn() + Send + Sync>>) {
     }
 }
 
-/// The words for a sitting in which `t` boxes, the lowest or the highest, tell the lie.
+/// The words for a sitting in which `t` parties, the lowest or the highest, tell the lie.
 fn liars(n: usize, t: usize, lie: &str, lowest: bool) -> String {
     let first = if lowest { 1 } else { n - t + 1 };
     let lies: Vec<String> = (first..first + t)
@@ -95,7 +95,7 @@ fn liars(n: usize, t: usize, lie: &str, lowest: bool) -> String {
     format!("--parties {n} --faults {t} {LIMIT} {}", lies.join(" "))
 }
 
-/// One common book is settled on; of two books one is, or nothing.
+/// One common message is settled on; of two messages one is, or nothing.
 #[test]
 fn liars_of_every_kind() {
     let mut sittings: Vec<Box<dyn Fn() + Send + Sync>> = Vec::new();
@@ -196,7 +196,7 @@ fn a_broken_duty_breaks_the_sitting() {
     }
 }
 
-/// Where not even t + 1 boxes speak, the agreement has no value; the good box says so and ends.
+/// Where not even t + 1 parties speak, the agreement has no value; the good party says so and ends.
 #[test]
 fn a_box_left_alone_ends_with_an_error() {
     let words = "--parties 3 --faults 1 --book 41 --lie 2=silent --lie 3=silent --limit-ms 100";

@@ -1,11 +1,35 @@
 //! The functions of the archive, one for one, on borrowed bytes. All that is `unsafe` stands here.
 //!
 //! Lengths are the caller's to choose: what does not fit is refused with a cause and changes
-//! nothing. An accepted call gives the value that the header `cipangohu.h` names.
+//! nothing. An accepted call gives the value that the header `cipangohu.h` names, which also tells
+//! what each function does.
+
+#![allow(missing_docs)]
 
 use crate::cause::Cause;
 
+/// What a call answers, as it comes: the archive gives both numbers in one register.
+#[derive(Clone, Copy, Debug, PartialEq, Eq)]
+#[must_use]
+#[repr(C)]
+pub struct Answer {
+    pub value: u32,
+    pub cause: u32,
+}
+
+impl Answer {
+    /// The value of an accepted call, or why it was refused.
+    pub fn accepted(self) -> Result<u32, Cause> {
+        match self.cause {
+            0 => Ok(self.value),
+            number => Err(Cause::of(number, self.value as usize)),
+        }
+    }
+}
+
 mod archive {
+    use super::Answer;
+
     extern "C" {
         pub fn cipangohu_open(
             n: usize,
@@ -17,20 +41,20 @@ mod archive {
             state_len: usize,
             root: *mut u8,
             root_len: usize,
-        ) -> u64;
+        ) -> Answer;
         pub fn cipangohu_agree_root(
             state: *mut u8,
             state_len: usize,
             root: *const u8,
             root_len: usize,
-        ) -> u64;
+        ) -> Answer;
         pub fn cipangohu_agree_bit(
             state: *mut u8,
             state_len: usize,
-            bit: u8,
+            bit: usize,
             out: *mut u8,
             out_len: usize,
-        ) -> u64;
+        ) -> Answer;
         pub fn cipangohu_take_shares(
             state: *mut u8,
             state_len: usize,
@@ -38,7 +62,7 @@ mod archive {
             inbox_len: usize,
             out: *mut u8,
             out_len: usize,
-        ) -> u64;
+        ) -> Answer;
         pub fn cipangohu_take_relays(
             state: *mut u8,
             state_len: usize,
@@ -46,8 +70,11 @@ mod archive {
             inbox_len: usize,
             out: *mut u8,
             out_len: usize,
-        ) -> u64;
-        pub fn cipangohu_read_packet(n: usize, packet: *const u8, packet_len: usize) -> u64;
+        ) -> Answer;
+        pub fn cipangohu_result_length(state: *const u8, state_len: usize) -> Answer;
+        pub fn cipangohu_stage(state: *const u8, state_len: usize) -> Answer;
+        pub fn cipangohu_own(state: *const u8, state_len: usize) -> Answer;
+        pub fn cipangohu_read_packet(n: usize, packet: *const u8, packet_len: usize) -> Answer;
         pub fn cipangohu_check_path(
             n: usize,
             j: usize,
@@ -57,7 +84,7 @@ mod archive {
             path_len: usize,
             root: *const u8,
             root_len: usize,
-        ) -> u64;
+        ) -> Answer;
         pub fn cipangohu_shares(
             n: usize,
             t: usize,
@@ -65,7 +92,7 @@ mod archive {
             message_len: usize,
             out: *mut u8,
             out_len: usize,
-        ) -> u64;
+        ) -> Answer;
         pub fn cipangohu_rebuild(
             n: usize,
             t: usize,
@@ -73,25 +100,15 @@ mod archive {
             entries_len: usize,
             out: *mut u8,
             out_len: usize,
-        ) -> u64;
+        ) -> Answer;
         pub fn cipangohu_hash(
             message: *const u8,
             message_len: usize,
             out: *mut u8,
             out_len: usize,
-        ) -> u64;
-    }
-}
-
-/// The cause stands in the upper half of an answer, the value in the lower.
-fn value(answer: u64) -> Result<u32, Cause> {
-    let value = answer as u32;
-    match (answer >> 32) as u32 {
-        0 => Ok(value),
-        number => Err(Cause {
-            number,
-            needed: value as usize,
-        }),
+        ) -> Answer;
+        pub fn cipangohu_version() -> u32;
+        pub fn cipangohu_state_size() -> usize;
     }
 }
 
@@ -100,9 +117,9 @@ pub fn open(
     message: &[u8],
     state: &mut [u8],
     root: &mut [u8],
-) -> Result<u32, Cause> {
+) -> Answer {
     // SAFETY: each pointer comes with its slice's length; slices that are written overlap no other.
-    value(unsafe {
+    unsafe {
         archive::cipangohu_open(
             n,
             t,
@@ -114,19 +131,19 @@ pub fn open(
             root.as_mut_ptr(),
             root.len(),
         )
-    })
+    }
 }
 
-pub fn agree_root(state: &mut [u8], root: &[u8]) -> Result<u32, Cause> {
+pub fn agree_root(state: &mut [u8], root: &[u8]) -> Answer {
     // SAFETY: each pointer comes with its slice's length; the state overlaps no other slice.
-    value(unsafe {
+    unsafe {
         archive::cipangohu_agree_root(state.as_mut_ptr(), state.len(), root.as_ptr(), root.len())
-    })
+    }
 }
 
-pub fn agree_bit(state: &mut [u8], bit: u8, out: &mut [u8]) -> Result<u32, Cause> {
+pub fn agree_bit(state: &mut [u8], bit: usize, out: &mut [u8]) -> Answer {
     // SAFETY: each pointer comes with its slice's length; the two slices do not overlap.
-    value(unsafe {
+    unsafe {
         archive::cipangohu_agree_bit(
             state.as_mut_ptr(),
             state.len(),
@@ -134,41 +151,57 @@ pub fn agree_bit(state: &mut [u8], bit: u8, out: &mut [u8]) -> Result<u32, Cause
             out.as_mut_ptr(),
             out.len(),
         )
-    })
+    }
 }
 
 /// A step that takes an inbox and writes.
-type Take = unsafe extern "C" fn(*mut u8, usize, *const u8, usize, *mut u8, usize) -> u64;
+type Take = unsafe extern "C" fn(*mut u8, usize, *const u8, usize, *mut u8, usize) -> Answer;
 
-fn take(step: Take, state: &mut [u8], inbox: &[u8], out: &mut [u8]) -> Result<u32, Cause> {
+fn take(step: Take, state: &mut [u8], inbox: &[u8], out: &mut [u8]) -> Answer {
     let (from, length) = (inbox.as_ptr(), inbox.len());
     let (to, room) = (out.as_mut_ptr(), out.len());
     // SAFETY: `step` is the archive's, each pointer comes with its slice's length, and slices that
     // are written overlap no other.
-    value(unsafe { step(state.as_mut_ptr(), state.len(), from, length, to, room) })
+    unsafe { step(state.as_mut_ptr(), state.len(), from, length, to, room) }
 }
 
-pub fn take_shares(state: &mut [u8], inbox: &[u8], out: &mut [u8]) -> Result<u32, Cause> {
+pub fn take_shares(state: &mut [u8], inbox: &[u8], out: &mut [u8]) -> Answer {
     take(archive::cipangohu_take_shares, state, inbox, out)
 }
 
-pub fn take_relays(state: &mut [u8], inbox: &[u8], out: &mut [u8]) -> Result<u32, Cause> {
+pub fn take_relays(state: &mut [u8], inbox: &[u8], out: &mut [u8]) -> Answer {
     take(archive::cipangohu_take_relays, state, inbox, out)
 }
 
-pub fn read_packet(n: usize, packet: &[u8]) -> Result<u32, Cause> {
-    // SAFETY: the pointer comes with its slice's length, and nothing is written.
-    value(unsafe { archive::cipangohu_read_packet(n, packet.as_ptr(), packet.len()) })
+/// What a state tells of its party.
+type Tell = unsafe extern "C" fn(*const u8, usize) -> Answer;
+
+fn tell(of: Tell, state: &[u8]) -> Answer {
+    // SAFETY: `of` is the archive's, the pointer comes with its slice's length, and nothing is
+    // written.
+    unsafe { of(state.as_ptr(), state.len()) }
 }
 
-pub fn check_path(
-    (n, j): (usize, usize),
-    share: &[u8],
-    path: &[u8],
-    root: &[u8],
-) -> Result<u32, Cause> {
+pub fn result_length(state: &[u8]) -> Answer {
+    tell(archive::cipangohu_result_length, state)
+}
+
+pub fn stage(state: &[u8]) -> Answer {
+    tell(archive::cipangohu_stage, state)
+}
+
+pub fn own(state: &[u8]) -> Answer {
+    tell(archive::cipangohu_own, state)
+}
+
+pub fn read_packet(n: usize, packet: &[u8]) -> Answer {
+    // SAFETY: the pointer comes with its slice's length, and nothing is written.
+    unsafe { archive::cipangohu_read_packet(n, packet.as_ptr(), packet.len()) }
+}
+
+pub fn check_path((n, j): (usize, usize), share: &[u8], path: &[u8], root: &[u8]) -> Answer {
     // SAFETY: each pointer comes with its slice's length, and nothing is written.
-    value(unsafe {
+    unsafe {
         archive::cipangohu_check_path(
             n,
             j,
@@ -179,31 +212,39 @@ pub fn check_path(
             root.as_ptr(),
             root.len(),
         )
-    })
+    }
 }
 
 /// A function of n and t that reads bytes and writes.
-type Code = unsafe extern "C" fn(usize, usize, *const u8, usize, *mut u8, usize) -> u64;
+type Code = unsafe extern "C" fn(usize, usize, *const u8, usize, *mut u8, usize) -> Answer;
 
-fn code(by: Code, group: (usize, usize), bytes: &[u8], out: &mut [u8]) -> Result<u32, Cause> {
+fn code(by: Code, group: (usize, usize), bytes: &[u8], out: &mut [u8]) -> Answer {
     let (n, t) = group;
     let (to, room) = (out.as_mut_ptr(), out.len());
     // SAFETY: `by` is the archive's, each pointer comes with its slice's length, and the buffer
     // overlaps no other slice.
-    value(unsafe { by(n, t, bytes.as_ptr(), bytes.len(), to, room) })
+    unsafe { by(n, t, bytes.as_ptr(), bytes.len(), to, room) }
 }
 
-pub fn shares(group: (usize, usize), message: &[u8], out: &mut [u8]) -> Result<u32, Cause> {
+pub fn shares(group: (usize, usize), message: &[u8], out: &mut [u8]) -> Answer {
     code(archive::cipangohu_shares, group, message, out)
 }
 
-pub fn rebuild(group: (usize, usize), entries: &[u8], out: &mut [u8]) -> Result<u32, Cause> {
+pub fn rebuild(group: (usize, usize), entries: &[u8], out: &mut [u8]) -> Answer {
     code(archive::cipangohu_rebuild, group, entries, out)
 }
 
-pub fn hash(message: &[u8], out: &mut [u8]) -> Result<u32, Cause> {
+pub fn hash(message: &[u8], out: &mut [u8]) -> Answer {
     // SAFETY: each pointer comes with its slice's length; the buffer overlaps no other slice.
-    value(unsafe {
-        archive::cipangohu_hash(message.as_ptr(), message.len(), out.as_mut_ptr(), out.len())
-    })
+    unsafe { archive::cipangohu_hash(message.as_ptr(), message.len(), out.as_mut_ptr(), out.len()) }
+}
+
+pub fn version() -> u32 {
+    // SAFETY: the function takes nothing and reads nothing.
+    unsafe { archive::cipangohu_version() }
+}
+
+pub fn state_size() -> usize {
+    // SAFETY: the function takes nothing and reads nothing.
+    unsafe { archive::cipangohu_state_size() }
 }

@@ -1,26 +1,38 @@
-//! One box (document 01) for programs in Rust: the proved functions of `libcipangohu.a` behind safe
-//! types. A box is a party here, a book a message.
+//! One party of a session for programs in Rust: the proved functions of `libcipangohu.a` behind safe
+//! types. A party is one box of a sitting, and a message is a test book; documents for people say
+//! box and book.
 //!
 //! A call is accepted, or turned away with a [`Cause`] and nothing changed; none panics. What the
-//! host owes is told in docs/HOSTING.md.
+//! host owes is told in docs/HOSTING.md. The crate needs no standard library; what needs an
+//! allocator stands behind the feature `alloc`, which is on unless it is switched off.
 //!
 //! ```
-//! use cipangohu::{lay_out, Outcome, Party, MAX_OUTBOX};
+//! use cipangohu::{lay_out, Outcome, Party, Stage, MAX_OUTBOX};
 //!
 //! # fn main() -> Result<(), cipangohu::Cause> {
-//! // A box alone: the agreements give back what it puts in, and nobody sends it anything.
+//! // A party alone: the agreements give back what it puts in, and nobody sends it anything.
 //! let (mut party, root) = Party::open(1, 0, 1, b"AB")?;
 //! let happy = party.agree_root(&root)?;
 //! let mut out = [0; MAX_OUTBOX];
-//! party.agree_bit(happy.into(), &mut out)?;
+//! party.agree_bit(happy, &mut out)?;
 //! let inbox = lay_out(&[b""]);
 //! party.take_shares(&inbox, &mut out)?;
-//! assert_eq!(party.take_relays(&inbox)?, Outcome::Message(b"AB".to_vec()));
+//! assert_eq!(party.stage(), Stage::AwaitsRelays);
+//! assert_eq!(party.take_relays(&inbox)?, Outcome::Message(b"AB"));
+//! assert_eq!(party.result(), Some(Outcome::Message(b"AB")));
 //! # Ok(())
 //! # }
 //! ```
 
+#![no_std]
+#![deny(missing_docs)]
+
+#[cfg(feature = "alloc")]
+extern crate alloc;
+
 mod cause;
+#[cfg(feature = "alloc")]
+mod code;
 mod entries;
 mod limits;
 mod packet;
@@ -33,39 +45,30 @@ mod party;
 pub mod calls;
 
 pub use cause::Cause;
-pub use entries::{entries, lay_out};
+#[cfg(feature = "alloc")]
+pub use code::{rebuild, shares};
+#[cfg(feature = "alloc")]
+pub use entries::lay_out;
+pub use entries::{entries, lay_out_in, Entries};
 pub use limits::{
-    HASH, MAX_ENTRY, MAX_HASHED, MAX_MESSAGE, MAX_OUTBOX, MAX_PACKET, MAX_PARTIES, MAX_PATH,
-    MAX_SHARE, STATE,
+    HASH, LAYOUT, MAX_ENTRY, MAX_HASHED, MAX_INBOX, MAX_MESSAGE, MAX_OUTBOX, MAX_PACKET,
+    MAX_PARTIES, MAX_PATH, MAX_SHARE, MAX_SHARES, STATE,
 };
 pub use packet::{check_path, read_packet, Packet};
-pub use party::{Outcome, Party};
+pub use party::{Outcome, Party, Stage};
 
 /// A SHA-256 hash.
 pub type Hash = [u8; HASH];
 
-/// The n shares of a message.
-pub fn shares(n: usize, t: usize, message: &[u8]) -> Result<Vec<Vec<u8>>, Cause> {
-    let mut out = vec![0; limits::MAX_SHARES];
-    let length = calls::shares((n, t), message, &mut out)? as usize;
-    out.truncate(length);
-    // They are equal in length, and no part of a division may be 0 even if the archive were not the
-    // proved one.
-    let each = (length / n.max(1)).max(1);
-    Ok(out.chunks(each).map(<[u8]>::to_vec).collect())
-}
-
-/// The message that the shares of parties 1 to n give; an empty share counts as missing.
-pub fn rebuild<S: AsRef<[u8]>>(n: usize, t: usize, shares: &[S]) -> Result<Vec<u8>, Cause> {
-    let mut out = vec![0; MAX_MESSAGE];
-    let length = calls::rebuild((n, t), &lay_out(shares), &mut out)?;
-    out.truncate(length as usize);
-    Ok(out)
-}
-
 /// SHA-256 of at most [`MAX_HASHED`] bytes.
 pub fn hash(message: &[u8]) -> Result<Hash, Cause> {
     let mut digest = [0; HASH];
-    calls::hash(message, &mut digest)?;
+    calls::hash(message, &mut digest).accepted()?;
     Ok(digest)
+}
+
+/// The version of the archive: major, minor and patch.
+pub fn version() -> (u8, u8, u8) {
+    let [_, major, minor, patch] = calls::version().to_be_bytes();
+    (major, minor, patch)
 }

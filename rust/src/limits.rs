@@ -27,11 +27,21 @@ pub const MAX_PACKET: usize = 4 + MAX_SHARE + MAX_PATH * HASH;
 
 /// Room for all shares of a message: n is less than 2·(n − t), so that they have less than twice
 /// the bytes of the longest frame with its zeros.
-pub(crate) const MAX_SHARES: usize = 2 * (MAX_SHARE + MAX_PARTIES);
+pub const MAX_SHARES: usize = 2 * (MAX_SHARE + MAX_PARTIES);
 
 /// Room for any outbox: all shares of a message, and beside each its entry's two-byte length, map,
 /// number, share length and path.
 pub const MAX_OUTBOX: usize = MAX_SHARES + MAX_PARTIES * (6 + MAX_PATH * HASH);
 
-/// The bytes of a party's state: numbers and lengths, the root, and room for a message and a share.
-pub const STATE: usize = 8 + HASH + MAX_MESSAGE + MAX_SHARE;
+/// Room for any inbox: for each party an entry's two-byte length and the longest entry.
+pub const MAX_INBOX: usize = MAX_PARTIES * (2 + MAX_ENTRY);
+
+/// The version of a state's layout, its first byte.
+pub const LAYOUT: u8 = 1;
+
+/// Where the message stands in a state, the result of a party that ended with one: behind the
+/// version, the numbers and the lengths, and the root.
+pub(crate) const AT_MESSAGE: usize = 9 + HASH;
+
+/// The bytes of a party's state, with room for a message and a share.
+pub const STATE: usize = AT_MESSAGE + MAX_MESSAGE + MAX_SHARE;

@@ -3,18 +3,39 @@
 
 use crate::calls;
 use crate::cause::Cause;
+use crate::Hash;
 
-/// A share with its number, and its path from the leaf upward, 32 bytes for each hash.
+/// A share with its number, and its path from the leaf upward.
 #[derive(Clone, Copy, Debug, PartialEq, Eq)]
 pub struct Packet<'a> {
+    /// The party whose share it is, from 1.
     pub number: usize,
+    /// The share.
     pub share: &'a [u8],
+    /// The hashes of the path, [`HASH`](crate::HASH) bytes each.
     pub path: &'a [u8],
 }
 
 /// What a packet among n parties holds, or nothing where it is silence.
+///
+/// ```
+/// use cipangohu::{check_path, entries, read_packet, Party, MAX_OUTBOX};
+///
+/// # fn main() -> Result<(), cipangohu::Cause> {
+/// let (mut party, root) = Party::open(3, 1, 1, b"AB")?;
+/// party.agree_root(&root)?;
+/// let mut out = [0; MAX_OUTBOX];
+/// let length = party.agree_bit(true, &mut out)?;
+/// let second = entries(&out[..length]).and_then(|mut entries| entries.nth(1));
+/// let packet = read_packet(3, second.unwrap())?.unwrap();
+/// assert_eq!((packet.number, packet.share), (2, &[0x82, 0x86][..]));
+/// assert!(check_path(3, 2, packet.share, packet.path, &root)?);
+/// assert_eq!(read_packet(3, b"")?, None);
+/// # Ok(())
+/// # }
+/// ```
 pub fn read_packet(n: usize, packet: &[u8]) -> Result<Option<Packet<'_>>, Cause> {
-    let found = calls::read_packet(n, packet)?;
+    let found = calls::read_packet(n, packet).accepted()?;
     if found == 0 {
         return Ok(None);
     }
@@ -36,7 +57,8 @@ pub fn check_path(
     j: usize,
     share: &[u8],
     path: &[u8],
-    root: &[u8],
+    root: &Hash,
 ) -> Result<bool, Cause> {
-    Ok(calls::check_path((n, j), share, path, root)? == 1)
+    let passes = calls::check_path((n, j), share, path, root);
+    Ok(passes.accepted()? == 1)
 }

@@ -1,39 +1,99 @@
 //! One party: its state, its opening and the four steps that follow.
 
+use core::fmt;
+
 use crate::calls;
 use crate::cause::Cause;
-use crate::limits::{HASH, MAX_MESSAGE, STATE};
+use crate::limits::{AT_MESSAGE, HASH, MAX_MESSAGE, STATE};
 use crate::Hash;
 
-/// The value of step 5 for the result nothing.
-const NOTHING: u32 = u32::MAX;
-
-/// How a party ended.
-#[derive(Clone, Debug, PartialEq, Eq)]
-pub enum Outcome {
+/// How a party ended. Nothing is no message, not even an empty one.
+#[derive(Clone, Copy, Debug, PartialEq, Eq)]
+pub enum Outcome<'a> {
+    /// The parties settled on no message.
     Nothing,
-    Message(Vec<u8>),
+    /// The message that they settled on.
+    Message(&'a [u8]),
 }
 
-/// A party's state. It cannot be cloned: a step done twice from one state would send two different
-/// things.
-#[derive(Debug, PartialEq, Eq)]
+/// What a party waits for, or how it ended.
+#[derive(Clone, Copy, Debug, PartialEq, Eq, Hash)]
+pub enum Stage {
+    /// It waits for the agreed root: [`Party::agree_root`] is due.
+    AwaitsRoot,
+    /// It waits for the agreed bit: [`Party::agree_bit`] is due.
+    AwaitsBit,
+    /// It waits for the first inbox: [`Party::take_shares`] is due.
+    AwaitsShares,
+    /// It waits for the second inbox: [`Party::take_relays`] is due.
+    AwaitsRelays,
+    /// It ended with nothing.
+    EndedWithNothing,
+    /// It ended with a message.
+    EndedWithMessage,
+}
+
+/// The stages, by their numbers in a state.
+const STAGES: [Stage; 6] = [
+    Stage::AwaitsRoot,
+    Stage::AwaitsBit,
+    Stage::AwaitsShares,
+    Stage::AwaitsRelays,
+    Stage::EndedWithNothing,
+    Stage::EndedWithMessage,
+];
+
+/// What the bytes of a state say of its party; [`Cause::State`] if they are none.
+fn told(state: &[u8]) -> Result<(Stage, usize), Cause> {
+    let stage = calls::stage(state).accepted()? as usize;
+    let stage = STAGES.get(stage).ok_or(Cause::State)?;
+    Ok((*stage, calls::own(state).accepted()? as usize))
+}
+
+/// A party, by its state. It cannot be cloned: a step done twice from one state would send two
+/// different things.
+#[derive(PartialEq, Eq)]
 pub struct Party {
     state: [u8; STATE],
+    stage: Stage,
+    own: usize,
+}
+
+impl fmt::Debug for Party {
+    /// Own number and stage: the state has too many bytes to read.
+    fn fmt(&self, f: &mut fmt::Formatter) -> fmt::Result {
+        let mut shown = f.debug_struct("Party");
+        shown.field("own", &self.own).field("stage", &self.stage);
+        shown.finish_non_exhaustive()
+    }
 }
 
 impl Party {
-    /// Step 1; with the party comes the root that goes to the short agreement.
+    /// Step 1: party `own` of n, of which t may be bad, opens with a message. With it comes the root
+    /// that goes to the short agreement.
     pub fn open(n: usize, t: usize, own: usize, message: &[u8]) -> Result<(Party, Hash), Cause> {
-        let mut party = Party { state: [0; STATE] };
-        let mut root = [0; HASH];
-        calls::open((n, t, own), message, &mut party.state, &mut root)?;
-        Ok((party, root))
+        let (mut state, mut root) = ([0; STATE], [0; HASH]);
+        calls::open((n, t, own), message, &mut state, &mut root).accepted()?;
+        Ok((Party::from_state(&state)?, root))
     }
 
-    /// A party whose state was saved; the steps judge it, whatever stands in it.
-    pub fn from_state(state: [u8; STATE]) -> Party {
-        Party { state }
+    /// A party whose state was saved; of more bytes the first [`STATE`] count.
+    ///
+    /// ```
+    /// use cipangohu::{Cause, Party};
+    ///
+    /// # fn main() -> Result<(), Cause> {
+    /// let (party, _) = Party::open(3, 1, 2, b"AB")?;
+    /// let saved = party.state().to_vec();
+    /// assert_eq!(Party::from_state(&saved)?, party);
+    /// assert_eq!(Party::from_state(&saved[1..]), Err(Cause::State));
+    /// # Ok(())
+    /// # }
+    /// ```
+    pub fn from_state(state: &[u8]) -> Result<Party, Cause> {
+        let (stage, own) = told(state)?;
+        let state = *state.first_chunk().ok_or(Cause::State)?;
+        Ok(Party { state, stage, own })
     }
 
     /// The state, to be saved.
@@ -41,33 +101,62 @@ impl Party {
         &self.state
     }
 
-    /// Step 2: takes the agreed root. The answer, whether the party is happy, goes to the second
-    /// agreement.
-    pub fn agree_root(&mut self, root: &[u8]) -> Result<bool, Cause> {
-        Ok(calls::agree_root(&mut self.state, root)? == 1)
+    /// The party's number, from 1.
+    pub fn own(&self) -> usize {
+        self.own
     }
 
-    /// Step 3: takes the agreed bit and writes the outbox; the answer is its length.
-    pub fn agree_bit(&mut self, bit: u8, out: &mut [u8]) -> Result<usize, Cause> {
-        Ok(calls::agree_bit(&mut self.state, bit, out)? as usize)
+    /// What the party waits for, or how it ended.
+    pub fn stage(&self) -> Stage {
+        self.stage
+    }
+
+    /// How the party ended, if it has.
+    pub fn result(&self) -> Option<Outcome<'_>> {
+        match self.stage {
+            Stage::EndedWithNothing => Some(Outcome::Nothing),
+            Stage::EndedWithMessage => {
+                let length = calls::result_length(&self.state).accepted().ok()? as usize;
+                let message = self.state.get(AT_MESSAGE..)?.get(..length)?;
+                Some(Outcome::Message(message))
+            }
+            _ => None,
+        }
+    }
+
+    /// Step 2: takes the agreed root. The answer, whether the party is happy, goes to the second
+    /// agreement.
+    pub fn agree_root(&mut self, root: &Hash) -> Result<bool, Cause> {
+        let answer = calls::agree_root(&mut self.state, root);
+        Ok(self.stepped(answer)? == 1)
+    }
+
+    /// Step 3: takes the agreed bit and writes the outbox; the answer is its length. Room for any is
+    /// [`MAX_OUTBOX`](crate::MAX_OUTBOX). On `false` the party has ended with nothing.
+    pub fn agree_bit(&mut self, bit: bool, out: &mut [u8]) -> Result<usize, Cause> {
+        let answer = calls::agree_bit(&mut self.state, bit.into(), out);
+        Ok(self.stepped(answer)? as usize)
     }
 
     /// Step 4: takes the first inbox and writes the relay for all others; the answer is its length.
+    /// Room for any is [`MAX_PACKET`](crate::MAX_PACKET).
     pub fn take_shares(&mut self, inbox: &[u8], out: &mut [u8]) -> Result<usize, Cause> {
-        Ok(calls::take_shares(&mut self.state, inbox, out)? as usize)
+        let answer = calls::take_shares(&mut self.state, inbox, out);
+        Ok(self.stepped(answer)? as usize)
     }
 
-    /// Step 5: takes the second inbox; the answer is the result.
-    pub fn take_relays(&mut self, inbox: &[u8]) -> Result<Outcome, Cause> {
-        let mut message = vec![0; MAX_MESSAGE];
-        Ok(
-            match calls::take_relays(&mut self.state, inbox, &mut message)? {
-                NOTHING => Outcome::Nothing,
-                length => {
-                    message.truncate(length as usize);
-                    Outcome::Message(message)
-                }
-            },
-        )
+    /// Step 5: takes the second inbox; the answer is the result, which [`Party::result`] gives from
+    /// then on.
+    pub fn take_relays(&mut self, inbox: &[u8]) -> Result<Outcome<'_>, Cause> {
+        let answer = calls::take_relays(&mut self.state, inbox, &mut [0; MAX_MESSAGE]);
+        self.stepped(answer)?;
+        self.result().ok_or(Cause::State)
+    }
+
+    /// The value of a step that was accepted, after which the state tells anew where it is.
+    fn stepped(&mut self, answer: calls::Answer) -> Result<u32, Cause> {
+        let value = answer.accepted()?;
+        (self.stage, self.own) = told(&self.state)?;
+        Ok(value)
     }
 }

@@ -1,7 +1,8 @@
 //! One call of the library with its arguments, made on lent buffers by the library and by the
 //! foreign implementation.
 
-use cipangohu::{calls, Cause};
+use cipangohu::calls;
+pub use cipangohu::calls::Answer;
 
 use crate::reference;
 
@@ -9,17 +10,18 @@ use crate::reference;
 pub enum Call {
     Open((usize, usize, usize), Vec<u8>),
     AgreeRoot(Vec<u8>),
-    AgreeBit(u8),
+    AgreeBit(usize),
     TakeShares(Vec<u8>),
     TakeRelays(Vec<u8>),
+    ResultLength,
+    Stage,
+    Own,
     ReadPacket(usize, Vec<u8>),
     CheckPath((usize, usize), Vec<u8>, Vec<u8>, Vec<u8>),
     Shares((usize, usize), Vec<u8>),
     Rebuild((usize, usize), Vec<u8>),
     Hash(Vec<u8>),
 }
-
-pub type Answer = Result<u32, Cause>;
 
 /// What a call may write; a call without a state or a buffer leaves it alone. The root of an
 /// opening is its buffer.
@@ -37,6 +39,9 @@ impl Call {
             Call::AgreeBit(_) => "agree_bit",
             Call::TakeShares(_) => "take_shares",
             Call::TakeRelays(_) => "take_relays",
+            Call::ResultLength => "result_length",
+            Call::Stage => "stage",
+            Call::Own => "own",
             Call::ReadPacket(..) => "read_packet",
             Call::CheckPath(..) => "check_path",
             Call::Shares(..) => "shares",
@@ -54,6 +59,9 @@ pub fn answered(call: &Call, state: &mut [u8], out: &mut [u8]) -> Answer {
         Call::AgreeBit(bit) => calls::agree_bit(state, *bit, out),
         Call::TakeShares(inbox) => calls::take_shares(state, inbox, out),
         Call::TakeRelays(inbox) => calls::take_relays(state, inbox, out),
+        Call::ResultLength => calls::result_length(state),
+        Call::Stage => calls::stage(state),
+        Call::Own => calls::own(state),
         Call::ReadPacket(n, packet) => calls::read_packet(*n, packet),
         Call::CheckPath(place, share, path, root) => calls::check_path(*place, share, path, root),
         Call::Shares(group, message) => calls::shares(*group, message, out),
@@ -79,7 +87,7 @@ pub fn beside(
         "{call:?} on {before:?} left {lent:?}, not {expected:?}"
     );
     assert!(
-        answer.is_ok() || *lent == before,
+        answer.cause == 0 || *lent == before,
         "{call:?} refused with bytes changed"
     );
     answer

@@ -1,11 +1,11 @@
 //! Random arguments: groups, messages, inboxes with good and bad packets, states with bytes
 //! changed.
 
-use cipangohu::{lay_out, MAX_MESSAGE, MAX_PARTIES, MAX_SHARE, STATE};
+use cipangohu::{lay_out, LAYOUT, MAX_MESSAGE, MAX_PARTIES, MAX_SHARE, STATE};
 use foreign::liars::{Lie, Scene, Sharing, Way};
 use foreign::random::Random;
 
-use crate::reference::AT_SHARE;
+use crate::reference::{AT_GROUP, AT_HELD, AT_LENGTH, AT_ROOT, AT_SHARE, AT_STAGE};
 
 /// A number that no group has.
 pub const ODD: [usize; 8] = [
@@ -133,7 +133,7 @@ pub fn room(needed: usize, random: &mut Random) -> usize {
 
 /// Changes a state in one way that its holder should not.
 pub fn spoil(state: &mut Vec<u8>, play: &Play, random: &mut Random) {
-    match random.below(12) {
+    match random.below(13) {
         0 => {
             let length = STATE - 1 - random.below(STATE);
             state.truncate(length);
@@ -144,18 +144,19 @@ pub fn spoil(state: &mut Vec<u8>, play: &Play, random: &mut Random) {
         }
         2 => *state = dirt(state.len(), random),
         _ if state.len() < STATE => state.resize(STATE, 0),
-        3 => state[random.below(3)] = random.pick(&[0, 1, 2, 3, MOST, MOST + 1, 255]),
+        3 => state[AT_GROUP + random.below(3)] = random.pick(&[0, 1, 2, 3, MOST, MOST + 1, 255]),
         4 | 5 => {
-            state[3] = random.pick(&[0, 1, 2, 3, 2, 3, 4, 5, 6, 255]);
+            state[AT_STAGE] = random.pick(&[0, 1, 2, 3, 2, 3, 4, 5, 6, 255]);
             if random.once_in(3) {
                 other_length(state, MESSAGE_LENGTH, random);
             }
         }
         6 => other_length(state, MESSAGE_LENGTH, random),
         7 => other_length(state, SHARE_LENGTH, random),
-        8 => put(state, 8, &play.scene.agreed.root),
+        8 => put(state, AT_ROOT, &play.scene.agreed.root),
         9 => hold(state, play),
         10 => past_lengths(state, random),
+        11 => state[0] = random.pick(&[0, LAYOUT, LAYOUT + 1, 255]),
         _ => {
             let place = random.below(state.len());
             state[place] ^= 1 << random.below(8);
@@ -170,8 +171,8 @@ fn put(state: &mut [u8], at: usize, bytes: &[u8]) {
 const MOST: u8 = MAX_PARTIES as u8;
 
 /// Where a length stands in a state, and its limit.
-const MESSAGE_LENGTH: (usize, u16) = (4, MAX_MESSAGE as u16);
-const SHARE_LENGTH: (usize, u16) = (6, MAX_SHARE as u16);
+const MESSAGE_LENGTH: (usize, u16) = (AT_LENGTH, MAX_MESSAGE as u16);
+const SHARE_LENGTH: (usize, u16) = (AT_HELD, MAX_SHARE as u16);
 
 fn other_length(state: &mut [u8], (at, limit): (usize, u16), random: &mut Random) {
     let lengths = [0, 1, 2, 24, limit - 1, limit, limit + 1, u16::MAX];
@@ -181,7 +182,7 @@ fn other_length(state: &mut [u8], (at, limit): (usize, u16), random: &mut Random
 /// Puts the share that the party should have been sent into its state.
 fn hold(state: &mut [u8], play: &Play) {
     let share = &play.scene.agreed.shares[play.group.2 - 1];
-    put(state, 6, &(share.len() as u16).to_be_bytes());
+    put(state, AT_HELD, &(share.len() as u16).to_be_bytes());
     put(state, AT_SHARE, share);
 }
 

@@ -10,12 +10,13 @@ mod reference;
 mod safe;
 mod tally;
 
-use cipangohu::{lay_out, MAX_HASHED, MAX_MESSAGE, MAX_OUTBOX, MAX_PARTIES, MAX_SHARE, STATE};
+use cipangohu::{lay_out, MAX_HASHED, MAX_MESSAGE, MAX_PARTIES, MAX_SHARE, STATE};
 use foreign::liars::{flip, Lie, Scene, Sharing, Way};
 use foreign::random::Random;
 
-use call::{Call, Lent};
+use call::{Answer, Call, Lent};
 use made::{dirt, group, message, odd_group, room, spoil, Play, ODD};
+use reference::AT_STAGE;
 use tally::{compare, Tally};
 
 /// How many cases a test runs.
@@ -24,14 +25,14 @@ fn times(usual: usize) -> usize {
     usual * rounds.map_or(1, |text| text.parse().expect("COMPARE_ROUNDS is a number"))
 }
 
-/// How many bytes the call writes when it has room.
+/// How many bytes the call writes when it has room: as many as it asks for where it has none.
 fn needed(call: &Call, state: &[u8]) -> usize {
     let mut lent = Lent {
         state: state.to_vec(),
-        out: vec![0; MAX_OUTBOX],
+        out: Vec::new(),
     };
     match reference::answer(call, &mut lent) {
-        Ok(length) if (length as usize) <= MAX_OUTBOX => length as usize,
+        Answer { value, cause: 9 } => value as usize,
         _ => 0,
     }
 }
@@ -47,7 +48,7 @@ fn in_every_room(call: &Call, state: &mut Vec<u8>, random: &mut Random, tally: &
             state: before.clone(),
             out: dirt(length, random),
         };
-        compare(call, &mut lent, tally).ok();
+        compare(call, &mut lent, tally).accepted().ok();
         *state = lent.state;
     }
 }
@@ -55,6 +56,17 @@ fn in_every_room(call: &Call, state: &mut Vec<u8>, random: &mut Random, tally: &
 /// A call without a state.
 fn stateless(call: &Call, random: &mut Random, tally: &mut Tally) {
     in_every_room(call, &mut Vec::new(), random, tally);
+}
+
+/// The calls that ask something of a state.
+fn ask(state: &[u8], tally: &mut Tally) {
+    for call in [Call::ResultLength, Call::Stage, Call::Own] {
+        let mut lent = Lent {
+            state: state.to_vec(),
+            out: Vec::new(),
+        };
+        compare(&call, &mut lent, tally).accepted().ok();
+    }
 }
 
 /// The step that is in turn, mostly, or any other.
@@ -72,7 +84,10 @@ fn some_step(play: &Play, stage: u8, random: &mut Random) -> Call {
             }
             Call::AgreeRoot(root)
         }
-        1 => Call::AgreeBit(random.pick(&[1, 1, 1, 1, 1, 1, 0, 2, 255])),
+        1 => {
+            let odd = random.pick(&ODD).wrapping_add(random.below(2));
+            Call::AgreeBit(random.pick(&[1, 1, 1, 1, 1, 1, 0, 2, 255, odd]))
+        }
         2 => Call::TakeShares(play.inbox(0, random)),
         _ => Call::TakeRelays(play.inbox(1, random)),
     }
@@ -88,14 +103,15 @@ fn lists_of_calls() {
             state: dirt(STATE, &mut random),
             out: dirt(32, &mut random),
         };
-        assert_eq!(compare(&opening, &mut lent, &mut tally), Ok(32));
+        assert_eq!(compare(&opening, &mut lent, &mut tally).cause, 0);
         let mut state = lent.state;
         for _ in 0..16 {
             // Every other list keeps to lawful states, so that it gets to the end.
             if list % 2 == 1 && random.once_in(4) {
                 spoil(&mut state, &play, &mut random);
             }
-            let stage = state.get(3).copied().unwrap_or(0);
+            ask(&state, &mut tally);
+            let stage = state.get(AT_STAGE).copied().unwrap_or(0);
             if stage > 3 && random.once_in(2) {
                 break;
             }
@@ -107,6 +123,9 @@ fn lists_of_calls() {
     tally.expect("agree_bit", &[0, 5, 6, 7, 9]);
     tally.expect("take_shares", &[0, 5, 6, 8, 9]);
     tally.expect("take_relays", &[0, 5, 6, 8, 9]);
+    tally.expect("result_length", &[0, 5, 6]);
+    tally.expect("stage", &[0, 5]);
+    tally.expect("own", &[0, 5]);
 }
 
 #[test]
@@ -130,7 +149,8 @@ fn openings() {
             state: dirt(state, &mut random),
             out: dirt(root, &mut random),
         };
-        compare(&Call::Open((n, t, own), message), &mut lent, &mut tally).ok();
+        let call = Call::Open((n, t, own), message);
+        compare(&call, &mut lent, &mut tally).accepted().ok();
     }
     tally.expect("open", &[0, 1, 2, 3, 4, 9]);
 }
@@ -191,7 +211,7 @@ fn paths() {
             state: Vec::new(),
             out: Vec::new(),
         };
-        yes += usize::from(compare(&call, &mut lent, &mut tally) == Ok(1));
+        yes += compare(&call, &mut lent, &mut tally).value;
     }
     println!("check_path: yes {yes} times");
     assert!(yes >= 100);

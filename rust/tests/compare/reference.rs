@@ -1,6 +1,6 @@
 //! The foreign implementation behind the calls of the library: answers, and states as bytes.
 
-use cipangohu::{Cause, HASH, MAX_MESSAGE, STATE};
+use cipangohu::{HASH, LAYOUT, MAX_MESSAGE, STATE};
 use foreign::coder::{self, encode, rebuild};
 use foreign::limits::{LONGEST_STRING, MOST_HASHES};
 use foreign::packet::{self, Reading};
@@ -9,30 +9,49 @@ use foreign::{sha256, tree};
 
 use crate::call::{Answer, Call, Lent};
 
-const NOTHING: u32 = u32::MAX;
-
-/// Where the message and the share stand in a state.
-const AT_MESSAGE: usize = 8 + HASH;
+/// Where things stand in a state: behind the version of the layout n, t and the own number, the
+/// stage, the lengths of the message and of the share, the root, the message and the share.
+pub const AT_GROUP: usize = 1;
+pub const AT_STAGE: usize = 4;
+pub const AT_LENGTH: usize = 5;
+pub const AT_HELD: usize = 7;
+pub const AT_ROOT: usize = 9;
+const AT_MESSAGE: usize = AT_ROOT + HASH;
 pub const AT_SHARE: usize = AT_MESSAGE + MAX_MESSAGE;
 
-fn refused(number: u32, needed: usize) -> Answer {
-    Err(Cause { number, needed })
+fn accepted(value: usize) -> Answer {
+    let value = u32::try_from(value).expect("a value of 32 bits");
+    Answer { value, cause: 0 }
+}
+
+/// With cause 9 comes the length needed, with any other 0.
+fn refused(cause: u32, needed: usize) -> Answer {
+    let value = u32::try_from(needed).expect("a value of 32 bits");
+    Answer { value, cause }
 }
 
 pub fn answer(call: &Call, lent: &mut Lent) -> Answer {
     let Lent { state, out } = lent;
     match call {
         Call::Open(group, message) => open(*group, message, state, out),
-        Call::AgreeRoot(root) => step(state, |s| s.agree_root(root), u32::from),
-        Call::AgreeBit(bit) => step(state, |s| s.agree_bit(*bit, out), |length| length as u32),
-        Call::TakeShares(inbox) => {
-            step(state, |s| s.take_shares(inbox, out), |length| length as u32)
+        Call::AgreeRoot(root) => step(state, |s| s.agree_root(root), usize::from),
+        Call::AgreeBit(bit) => {
+            // A number that is no byte is no bit either.
+            let bit = u8::try_from(*bit).unwrap_or(u8::MAX);
+            step(state, |s| s.agree_bit(bit, out), |length| length)
         }
+        Call::TakeShares(inbox) => step(state, |s| s.take_shares(inbox, out), |length| length),
         Call::TakeRelays(inbox) => step(
             state,
             |s| s.take_relays(inbox, out),
-            |length| length.map_or(NOTHING, |length| length as u32),
+            |length| usize::from(length.is_some()),
         ),
+        Call::ResultLength => told(state, |s| match s.stage {
+            Stage::Ended(Outcome::Message(length)) => accepted(length as usize),
+            _ => refused(6, 0),
+        }),
+        Call::Stage => told(state, |s| accepted(stage_number(s.stage).into())),
+        Call::Own => told(state, |s| accepted(s.own as usize)),
         Call::ReadPacket(n, packet) => read(*n, packet),
         Call::CheckPath(place, share, path, root) => check(*place, share, path, root),
         Call::Shares((n, t), message) => coded(encode(*n, *t, message, out)),
@@ -46,11 +65,11 @@ fn number(bytes: &[u8]) -> u64 {
     u64::from(bytes[0]) * 256 + u64::from(bytes[1])
 }
 
-/// The state in the bytes; none if they are too few or the stage is none.
+/// The state in the bytes; none if they are too few, or the version or the stage is none.
 pub fn decoded(bytes: &[u8]) -> Option<State> {
-    let bytes = bytes.get(..STATE)?;
-    let length = number(&bytes[4..]);
-    let (stage, len) = match bytes[3] {
+    let bytes = bytes.get(..STATE).filter(|bytes| bytes[0] == LAYOUT)?;
+    let length = number(&bytes[AT_LENGTH..]);
+    let (stage, len) = match bytes[AT_STAGE] {
         0 => (Stage::Root, length),
         1 => (Stage::Bit, length),
         2 => (Stage::First, length),
@@ -60,31 +79,40 @@ pub fn decoded(bytes: &[u8]) -> Option<State> {
         _ => return None,
     };
     Some(State {
-        n: bytes[0].into(),
-        t: bytes[1].into(),
-        own: bytes[2].into(),
+        n: bytes[AT_GROUP].into(),
+        t: bytes[AT_GROUP + 1].into(),
+        own: bytes[AT_GROUP + 2].into(),
         stage,
         len,
-        held: number(&bytes[6..]),
-        root: bytes[8..AT_MESSAGE].try_into().expect("a root"),
+        held: number(&bytes[AT_HELD..]),
+        root: bytes[AT_ROOT..AT_MESSAGE].try_into().expect("a root"),
         message: bytes[AT_MESSAGE..AT_SHARE].try_into().expect("a message"),
         share: bytes[AT_SHARE..].try_into().expect("a share"),
     })
 }
 
+fn stage_number(stage: Stage) -> u8 {
+    match stage {
+        Stage::Root => 0,
+        Stage::Bit => 1,
+        Stage::First => 2,
+        Stage::Second => 3,
+        Stage::Ended(Outcome::Nothing) => 4,
+        Stage::Ended(Outcome::Message(_)) => 5,
+    }
+}
+
 /// The bytes of a state within its limits.
 pub fn encoded(state: &State) -> Vec<u8> {
-    let (stage, length) = match state.stage {
-        Stage::Root => (0, state.len),
-        Stage::Bit => (1, state.len),
-        Stage::First => (2, state.len),
-        Stage::Second => (3, state.len),
-        Stage::Ended(Outcome::Nothing) => (4, 0),
-        Stage::Ended(Outcome::Message(length)) => (5, length),
+    let length = match state.stage {
+        Stage::Ended(Outcome::Nothing) => 0,
+        Stage::Ended(Outcome::Message(length)) => length,
+        _ => state.len,
     };
     let byte = |number: u64| u8::try_from(number).expect("a byte");
     let two = |number: u64| u16::try_from(number).expect("two bytes").to_be_bytes();
-    let mut bytes = vec![byte(state.n), byte(state.t), byte(state.own), stage];
+    let mut bytes = vec![LAYOUT, byte(state.n), byte(state.t), byte(state.own)];
+    bytes.push(stage_number(state.stage));
     bytes.extend(two(length));
     bytes.extend(two(state.held));
     bytes.extend(state.root);
@@ -112,13 +140,21 @@ fn open(
     }
     state[..STATE].copy_from_slice(&encoded(&opened));
     out[..HASH].copy_from_slice(&root);
-    Ok(HASH as u32)
+    accepted(HASH)
+}
+
+/// What is asked of a state, if the bytes are one.
+fn told(state: &[u8], ask: impl FnOnce(State) -> Answer) -> Answer {
+    match decoded(state).filter(State::is_lawful) {
+        Some(state) => ask(state),
+        None => refused(5, 0),
+    }
 }
 
 fn step<T>(
     state: &mut [u8],
     call: impl FnOnce(State) -> Given<T>,
-    value: impl FnOnce(T) -> u32,
+    value: impl FnOnce(T) -> usize,
 ) -> Answer {
     let Some(before) = decoded(state) else {
         return refused(5, 0);
@@ -127,7 +163,7 @@ fn step<T>(
     match answer {
         Ok(given) => {
             state[..STATE].copy_from_slice(&encoded(&after));
-            Ok(value(given))
+            accepted(value(given))
         }
         Err(refusal) => refused(refusal.cause, refusal.needed),
     }
@@ -136,12 +172,12 @@ fn step<T>(
 fn read(n: usize, packet: &[u8]) -> Answer {
     match packet::read(n, packet) {
         Reading::Refused(cause) => refused(cause, 0),
-        Reading::Silence => Ok(0),
+        Reading::Silence => accepted(0),
         Reading::Share {
             number,
             share,
             path,
-        } => Ok(((path.len() << 24) + (number << 16) + share.len()) as u32),
+        } => accepted((path.len() << 24) + (number << 16) + share.len()),
     }
 }
 
@@ -158,7 +194,7 @@ fn check(place: (usize, usize), share: &[u8], path: &[u8], root: &[u8]) -> Answe
         hash.copy_from_slice(bytes);
     }
     match tree::judge(place, share, &hashes, count, root) {
-        Ok(yes) => Ok(yes.into()),
+        Ok(yes) => accepted(yes.into()),
         Err(cause) => refused(cause, 0),
     }
 }
@@ -167,7 +203,7 @@ fn coded(answer: coder::Answer) -> Answer {
     match answer {
         coder::Answer::Refused(cause) => refused(cause, 0),
         coder::Answer::Short(needed) => refused(9, needed),
-        coder::Answer::Done(length) => Ok(length as u32),
+        coder::Answer::Done(length) => accepted(length),
     }
 }
 
@@ -179,5 +215,5 @@ fn hash(message: &[u8], out: &mut [u8]) -> Answer {
         return refused(9, HASH);
     }
     out[..HASH].copy_from_slice(&sha256::hash(message));
-    Ok(HASH as u32)
+    accepted(HASH)
 }

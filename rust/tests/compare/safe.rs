@@ -2,8 +2,9 @@
 //! shares, rebuilding.
 
 use cipangohu::{
-    check_path, entries, hash, lay_out, read_packet, rebuild, shares, Cause, Outcome, Party,
-    MAX_ENTRY, MAX_OUTBOX, MAX_PACKET, MAX_PARTIES, STATE,
+    calls, check_path, entries, hash, lay_out, lay_out_in, read_packet, rebuild, shares, version,
+    Cause, Hash, Outcome, Party, Stage, HASH, MAX_ENTRY, MAX_OUTBOX, MAX_PACKET, MAX_PARTIES,
+    STATE,
 };
 use foreign::coder::{self, frame_of, shares_of};
 use foreign::limits::LONGEST_MESSAGE;
@@ -12,17 +13,23 @@ use foreign::party::{Refusal, State};
 use foreign::random::Random;
 use foreign::{inbox, packet, sha256};
 
-use crate::call::{Call, Lent};
+use crate::call::{Answer, Call, Lent};
 use crate::made::{group, message, spoil, Play};
-use crate::reference::{self, encoded};
+use crate::reference::{self, encoded, AT_STAGE};
 use crate::{some_step, times};
+
+/// A cause by its number, with what a buffer needs.
+fn cause(number: u32, needed: usize) -> Cause {
+    let answer = Answer {
+        value: needed as u32,
+        cause: number,
+    };
+    answer.accepted().expect_err("a cause")
+}
 
 /// An answer of the foreign implementation in the library's words.
 fn told<T>(answer: Result<T, Refusal>) -> Result<T, Cause> {
-    answer.map_err(|Refusal { cause, needed }| Cause {
-        number: cause,
-        needed,
-    })
+    answer.map_err(|refusal| cause(refusal.cause, refusal.needed))
 }
 
 /// What a step wrote, or its cause.
@@ -30,55 +37,74 @@ fn wrote(answer: Result<usize, Cause>, out: &[u8]) -> Result<Vec<u8>, Cause> {
     answer.map(|length| out[..length].to_vec())
 }
 
-/// The four steps on the library's party and on the foreign state; gives the outcome.
-fn steps(play: &Play, random: &mut Random) -> Outcome {
+/// The four steps on the library's party and on the foreign state; tells whether it ended with a
+/// message.
+fn steps(play: &Play, random: &mut Random) -> bool {
     let (n, t, own) = play.group;
     let (mut party, root) = Party::open(n, t, own, &play.message).expect("a lawful opening");
     let (state, expected) = State::open(n as u64, t as u64, own as u64, &play.message);
     assert_eq!(Ok(root), expected);
+    assert_eq!((party.own(), party.stage()), (own, Stage::AwaitsRoot));
     let (state, happy) = state.agree_root(&play.scene.agreed.root);
     assert_eq!(party.agree_root(&play.scene.agreed.root), told(happy));
     let (mut out, mut theirs) = (vec![0; MAX_OUTBOX], vec![0; MAX_OUTBOX]);
     let (state, length) = state.agree_bit(1, &mut theirs);
-    let outbox = wrote(party.agree_bit(1, &mut out), &out).expect("a step in turn");
+    let outbox = wrote(party.agree_bit(true, &mut out), &out).expect("a step in turn");
     assert_eq!(wrote(told(length), &theirs), Ok(outbox.clone()));
-    assert_eq!(entries(&outbox), inbox::entries(n, &outbox).ok());
+    let packets = entries(&outbox).map(|entries| entries.collect());
+    assert_eq!(packets, inbox::entries(n, &outbox).ok());
     let first = play.inbox(0, random);
     let (state, length) = state.take_shares(&first, &mut theirs);
     let relay = wrote(party.take_shares(&first, &mut out[..MAX_PACKET]), &out);
     assert_eq!(relay, wrote(told(length), &theirs));
     let second = play.inbox(1, random);
     let (state, length) = state.take_relays(&second, &mut theirs);
-    let outcome = party.take_relays(&second);
     let expected = told(length).map(|length| match length {
-        Some(length) => Outcome::Message(theirs[..length].to_vec()),
+        Some(length) => Outcome::Message(&theirs[..length]),
         None => Outcome::Nothing,
     });
-    assert_eq!(outcome, expected);
+    assert_eq!(party.take_relays(&second), expected);
+    assert_eq!(party.result(), expected.ok());
     assert_eq!(party.state()[..], encoded(&state));
-    outcome.unwrap_or(Outcome::Nothing)
+    assert_eq!(Party::from_state(party.state()).as_ref(), Ok(&party));
+    party.stage() == Stage::EndedWithMessage
 }
 
 #[test]
 fn parties() {
     let mut random = Random::new(7);
-    let (mut books, mut nothing) = (0, 0);
+    let (mut messages, mut nothing) = (0, 0);
     for _ in 0..times(1_500) {
         match steps(&Play::new(&mut random), &mut random) {
-            Outcome::Message(_) => books += 1,
-            Outcome::Nothing => nothing += 1,
+            true => messages += 1,
+            false => nothing += 1,
         }
     }
-    println!("parties: {books} ended with a message, {nothing} with nothing or refused");
-    assert!(books >= 100 && nothing >= 100);
+    println!("parties: {messages} ended with a message, {nothing} with nothing or refused");
+    assert!(messages >= 100 && nothing >= 100);
 }
 
-/// The cause that a step of a party has on any state, which must be the foreign one's.
+/// A step with such arguments as the types of a party's methods have room for.
+fn typed(call: Call) -> Call {
+    match call {
+        Call::AgreeRoot(mut root) => {
+            root.resize(HASH, 7);
+            Call::AgreeRoot(root)
+        }
+        Call::AgreeBit(bit) => Call::AgreeBit(bit.min(1)),
+        other => other,
+    }
+}
+
+/// The cause that a step of a party has, which must be the foreign one's.
 fn judged(call: &Call, party: &mut Party) -> Option<Cause> {
     let mut out = vec![0; MAX_OUTBOX];
     match call {
-        Call::AgreeRoot(root) => party.agree_root(root).err(),
-        Call::AgreeBit(bit) => party.agree_bit(*bit, &mut out).err(),
+        Call::AgreeRoot(root) => {
+            let root: &Hash = root[..].try_into().expect("a root");
+            party.agree_root(root).err()
+        }
+        Call::AgreeBit(bit) => party.agree_bit(*bit == 1, &mut out).err(),
         Call::TakeShares(inbox) => party.take_shares(inbox, &mut out).err(),
         Call::TakeRelays(inbox) => party.take_relays(inbox).err(),
         other => panic!("{other:?} is no step"),
@@ -96,13 +122,21 @@ fn any_state_is_judged() {
         let mut state = party.state().to_vec();
         (0..3).for_each(|_| spoil(&mut state, &play, &mut random));
         state.resize(STATE, 0);
-        let call = some_step(&play, state[3], &mut random);
-        let mut party = Party::from_state(state.clone().try_into().expect("a whole state"));
+        let call = typed(some_step(&play, state[AT_STAGE], &mut random));
+        let restored = Party::from_state(&state);
         let out = vec![0; MAX_OUTBOX];
         let mut lent = Lent { state, out };
-        let expected = reference::answer(&call, &mut lent).err();
+        let expected = reference::answer(&call, &mut lent).accepted().err();
+        let Ok(mut party) = restored else {
+            assert_eq!(
+                (restored, expected),
+                (Err(Cause::State), Some(Cause::State))
+            );
+            continue;
+        };
         assert_eq!(judged(&call, &mut party), expected, "{call:?}");
         assert_eq!(party.state()[..], lent.state);
+        assert_eq!(Party::from_state(&lent.state), Ok(party));
         accepted += usize::from(expected.is_none());
     }
     println!("any state: {accepted} steps accepted");
@@ -112,7 +146,7 @@ fn any_state_is_judged() {
 /// Reads a packet on both sides and checks its path on the way.
 fn reads(n: usize, bytes: &[u8], root: &[u8; 32]) {
     let expected = match packet::read(n, bytes) {
-        Reading::Refused(number) => Err(Cause { number, needed: 0 }),
+        Reading::Refused(number) => Err(cause(number, 0)),
         Reading::Silence => Ok(None),
         Reading::Share {
             number,
@@ -137,7 +171,7 @@ fn packets_read() {
     for _ in 0..times(600) {
         let play = Play::new(&mut random);
         let inbox = play.inbox(random.below(2), &mut random);
-        for bytes in entries(&inbox).unwrap_or_default() {
+        for bytes in entries(&inbox).into_iter().flatten() {
             reads(play.group.0, bytes, &play.scene.agreed.root);
         }
     }
@@ -160,8 +194,8 @@ fn shares_made_and_joined() {
         let mut out = vec![0; LONGEST_MESSAGE];
         let expected = match coder::rebuild(n, t, &lay_out(&made), &mut out) {
             coder::Answer::Done(length) => Ok(out[..length].to_vec()),
-            coder::Answer::Refused(number) => Err(Cause { number, needed: 0 }),
-            coder::Answer::Short(needed) => Err(Cause { number: 9, needed }),
+            coder::Answer::Refused(number) => Err(cause(number, 0)),
+            coder::Answer::Short(needed) => Err(cause(9, needed)),
         };
         assert_eq!(rebuild(n, t, &made), expected);
     }
@@ -169,13 +203,33 @@ fn shares_made_and_joined() {
 
 #[test]
 fn bytes_too_many_for_a_length_stand_as_none() {
-    assert_eq!(lay_out(&[vec![1; MAX_ENTRY + 1], vec![2]]), [0, 0, 0, 1, 2]);
-    assert_eq!(entries(&[0, 1]), None);
+    let parts = [vec![1; MAX_ENTRY + 1], vec![2]];
+    assert_eq!(lay_out(&parts), [0, 0, 0, 1, 2]);
+    let mut lent = [7; 6];
+    assert_eq!(lay_out_in(&parts, &mut lent), Ok(5));
+    assert_eq!(lent, [0, 0, 0, 1, 2, 7]);
+    for short in 0..5 {
+        let refused = lay_out_in(&parts, &mut lent[..short]);
+        assert_eq!(refused, Err(Cause::Room { needed: 5 }));
+    }
+    assert!(entries(&[0, 1]).is_none() && entries(&[0]).is_none());
+    assert_eq!(shares(MAX_PARTIES + 1, 0, b""), Err(Cause::Parties));
+}
+
+/// What is told of the archive is what this crate was written for.
+#[test]
+fn the_archive_is_this_version() {
+    let (major, minor, patch) = version();
     assert_eq!(
-        shares(MAX_PARTIES + 1, 0, b""),
-        Err(Cause {
-            number: 1,
-            needed: 0
-        })
+        env!("CARGO_PKG_VERSION"),
+        format!("{major}.{minor}.{patch}")
     );
+    assert_eq!(calls::state_size(), STATE);
+}
+
+#[test]
+fn a_party_is_shown_in_short() {
+    let (party, _) = Party::open(3, 1, 2, b"AB").expect("a lawful opening");
+    let shown = format!("{party:?}");
+    assert_eq!(shown, "Party { own: 2, stage: AwaitsRoot, .. }");
 }

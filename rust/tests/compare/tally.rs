@@ -41,8 +41,7 @@ pub struct Tally(BTreeMap<(&'static str, u32), usize>);
 
 impl Tally {
     fn count(&mut self, call: &Call, answer: Answer) {
-        let cause = answer.err().map_or(0, |cause| cause.number);
-        *self.0.entry((call.name(), cause)).or_default() += 1;
+        *self.0.entry((call.name(), answer.cause)).or_default() += 1;
     }
 
     /// Prints the counts; the call must have had each of its causes, and no other.

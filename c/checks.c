@@ -1,0 +1,93 @@
+/* Checks of what the header itself defines, for the tests: a failed one ends the program with its line. Prints the causes in words. */
+#include <stdio.h>
+#include <stdlib.h>
+#include <string.h>
+#include "cipangohu.h"
+#define CHECK(what) ((what) ? (void)0 : (printf("line %d: %s\n", __LINE__, #what), exit(1)))
+
+static uint8_t state[CIPANGOHU_STATE], root[CIPANGOHU_ROOT], out[CIPANGOHU_OUTBOX], long_entry[CIPANGOHU_ENTRY + 1];
+
+/* Entries are found whole or not at all, whatever the bytes: here all strings of up to six bytes that are 0, 1 or 2. */
+static void check_any_bytes(void) {
+    uint8_t bytes[6];
+    for (unsigned number = 0; number < 729; number++) {
+        for (unsigned place = 0, rest = number; place < 6; place++, rest /= 3) bytes[place] = (uint8_t)(rest % 3);
+        for (size_t len = 0; len <= 6; len++) {
+            size_t at = 0, j = 1;
+            cipangohu_bytes entry = cipangohu_entry(bytes, len, 1);
+            for (; entry.at != NULL; entry = cipangohu_entry(bytes, len, ++j)) {
+                CHECK(entry.at == bytes + at + 2 && entry.len == bytes[at] * 256u + bytes[at + 1]);
+                at += 2 + entry.len;
+                CHECK(at <= len);
+            }
+            CHECK(entry.len == 0 && (len - at < 2 || len - at - 2 < bytes[at] * 256u + bytes[at + 1]));
+            CHECK(cipangohu_entry(bytes, len, 0).at == NULL && cipangohu_entry(bytes, len, SIZE_MAX).at == NULL);
+        }
+    }
+    CHECK(cipangohu_entry(NULL, 0, 1).at == NULL);
+}
+
+/* What is appended is found again, and what does not fit changes nothing. */
+static void check_append(void) {
+    uint8_t entries[9];
+    cipangohu_answer answer;
+    memset(entries, 7, sizeof entries);
+    answer = cipangohu_append(entries, 8, 0, NULL, 0);
+    CHECK(answer.cause == CIPANGOHU_ACCEPTED && answer.value == 2);
+    answer = cipangohu_append(entries, 8, 2, (const uint8_t *)"ABCD", 4);
+    CHECK(answer.cause == CIPANGOHU_ACCEPTED && answer.value == 8);
+    CHECK(memcmp(entries, "\0\0\0\4ABCD\7", 9) == 0);
+    CHECK(cipangohu_entry(entries, 8, 1).len == 0 && cipangohu_entry(entries, 8, 2).at == entries + 4);
+    for (size_t used = 0; used <= 9; used++) {
+        answer = cipangohu_append(entries, 8, used, (const uint8_t *)"1234567", 7);
+        CHECK(answer.cause == CIPANGOHU_CAUSE_ROOM && answer.value == used + 9);
+    }
+    answer = cipangohu_append(entries, SIZE_MAX, 0, long_entry, sizeof long_entry);
+    CHECK(answer.cause == CIPANGOHU_CAUSE_LENGTH && answer.value == 0);
+    CHECK(memcmp(entries, "\0\0\0\4ABCD\7", 9) == 0);
+}
+
+/* A packet of party 1 for party 2 is taken apart into what passes the check; silence into nothing. */
+static void check_packet(uint32_t outbox_len) {
+    cipangohu_bytes packet = cipangohu_entry(out, outbox_len, 2), share, path;
+    uint32_t value = cipangohu_read_packet(3, packet.at, packet.len).value;
+    share = cipangohu_packet_share(packet.at, value);
+    path = cipangohu_packet_path(packet.at, value);
+    CHECK(cipangohu_packet_number(value) == 2 && cipangohu_packet_count(value) == 2);
+    CHECK(share.at == packet.at + 4 && path.at == share.at + share.len && path.at + path.len == packet.at + packet.len);
+    CHECK(cipangohu_check_path(3, 2, share.at, share.len, path.at, path.len, root, sizeof root).value == 1);
+    CHECK(cipangohu_packet_number(0) == 0 && cipangohu_packet_count(0) == 0);
+    CHECK(cipangohu_packet_share(packet.at, 0).at == NULL && cipangohu_packet_path(packet.at, 0).at == NULL);
+}
+
+/* Stage, own number and result of party 1 along its steps, of which it hears nothing but its own. */
+static void check_party(void) {
+    const uint8_t silence[6] = {0};
+    cipangohu_answer answer = cipangohu_open(3, 1, 1, (const uint8_t *)"AB", 2, state, sizeof state, root, sizeof root);
+    CHECK(answer.cause == CIPANGOHU_ACCEPTED && answer.value == CIPANGOHU_ROOT && state[0] == CIPANGOHU_LAYOUT);
+    CHECK(cipangohu_stage(state, sizeof state).value == CIPANGOHU_AWAITS_ROOT && cipangohu_own(state, sizeof state).value == 1);
+    CHECK(cipangohu_agree_root(state, sizeof state, root, sizeof root).value == 1);
+    CHECK(cipangohu_stage(state, sizeof state).value == CIPANGOHU_AWAITS_BIT);
+    CHECK(cipangohu_agree_bit(state, sizeof state, 256, out, sizeof out).cause == CIPANGOHU_CAUSE_ROOT_OR_BIT);
+    answer = cipangohu_agree_bit(state, sizeof state, 1, out, sizeof out);
+    CHECK(answer.cause == CIPANGOHU_ACCEPTED && cipangohu_stage(state, sizeof state).value == CIPANGOHU_AWAITS_SHARES);
+    check_packet(answer.value);
+    CHECK(cipangohu_take_shares(state, sizeof state, silence, sizeof silence, out, sizeof out).cause == CIPANGOHU_ACCEPTED);
+    CHECK(cipangohu_stage(state, sizeof state).value == CIPANGOHU_AWAITS_RELAYS);
+    CHECK(cipangohu_result_length(state, sizeof state).cause == CIPANGOHU_CAUSE_STEP);
+    CHECK(cipangohu_result(state, sizeof state).at == NULL);
+    CHECK(cipangohu_take_relays(state, sizeof state, silence, sizeof silence, out, sizeof out).value == CIPANGOHU_SETTLED);
+    CHECK(cipangohu_stage(state, sizeof state).value == CIPANGOHU_ENDED_WITH_MESSAGE);
+    CHECK(cipangohu_result(state, sizeof state).len == 2 && memcmp(cipangohu_result(state, sizeof state).at, "AB", 2) == 0);
+    state[0] = CIPANGOHU_LAYOUT + 1;
+    CHECK(cipangohu_result(state, sizeof state).at == NULL && cipangohu_own(state, sizeof state).cause == CIPANGOHU_CAUSE_STATE);
+}
+
+int main(void) {
+    CHECK(cipangohu_version() == CIPANGOHU_VERSION && cipangohu_state_size() == CIPANGOHU_STATE);
+    check_any_bytes();
+    check_append();
+    check_party();
+    for (uint32_t cause = 0; cause <= CIPANGOHU_CAUSE_NO_MESSAGE + 1; cause++) printf("%u %s\n", (unsigned)cause, cipangohu_cause_text(cause));
+    return 0;
+}

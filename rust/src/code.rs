@@ -1,0 +1,38 @@
+//! The coder: a message as n shares, and back.
+
+use alloc::vec;
+use alloc::vec::Vec;
+
+use crate::calls;
+use crate::cause::Cause;
+use crate::entries::lay_out;
+use crate::limits::{MAX_MESSAGE, MAX_SHARES};
+
+/// The n shares of a message, of which any n − t give it back.
+///
+/// ```
+/// # fn main() -> Result<(), cipangohu::Cause> {
+/// let mut shares = cipangohu::shares(3, 1, b"AB")?;
+/// assert_eq!(shares, [[0x41, 0x40], [0x82, 0x86], [0xC3, 0xC4]]);
+/// shares[0].clear();
+/// assert_eq!(cipangohu::rebuild(3, 1, &shares)?, b"AB");
+/// # Ok(())
+/// # }
+/// ```
+pub fn shares(n: usize, t: usize, message: &[u8]) -> Result<Vec<Vec<u8>>, Cause> {
+    let mut out = vec![0; MAX_SHARES];
+    let length = calls::shares((n, t), message, &mut out).accepted()? as usize;
+    out.truncate(length);
+    // They are equal in length, and no part of a division may be 0 even if the archive were not the
+    // proved one.
+    let each = (length / n.max(1)).max(1);
+    Ok(out.chunks(each).map(<[u8]>::to_vec).collect())
+}
+
+/// The message that the shares of parties 1 to n give; an empty share counts as missing.
+pub fn rebuild<S: AsRef<[u8]>>(n: usize, t: usize, shares: &[S]) -> Result<Vec<u8>, Cause> {
+    let mut out = vec![0; MAX_MESSAGE];
+    let length = calls::rebuild((n, t), &lay_out(shares), &mut out).accepted()?;
+    out.truncate(length as usize);
+    Ok(out)
+}
