@@ -2,7 +2,7 @@
 -- tree, of the commitment and of the hash. Assumes nothing.
 use mathlib.Core.Path.{_≡_, refl, sym, ap, ap₂, _∙_, subst}
 use mathlib.Core.List.{List, [], _∷_, _++_}
-use Prim.Native.Nat.{ℕ, _+_, _-_, _*_, _/_, _^_, _≤_, _<_}
+use Prim.Native.Nat.{ℕ, _+_, _-_, _*_, _/_, _%_, _≤_, _<_}
 use native.Mathlib.Omega.{arith}
 use borrow.Author.Tests.{lt-ltb, le-ltb}
 use lib.ListN.{length, getD, take, drop}
@@ -13,19 +13,18 @@ use Rattle.erasure.proofs.Complete.{rebuild-complete}
 use Rattle.erasure.proofs.Sound.{rebuild-sound}
 use Rattle.sha256.specs.Sha256.{sha256}
 use Rattle.sha256.specs.Constants.{round-constants, initial-words}
-use Rattle.sha256.specs.Cases.{abc}
+use Rattle.sha256.specs.Cases.{abc, two-blocks}
 use Rattle.sha256.proofs.Laws.{sha256-length}
 use Rattle.merkle.specs.Tree.{split, shape, size, nodeString, root, path}
 use Rattle.merkle.specs.Shares.{leafString, leafStrings}
 use Rattle.merkle.proofs.Shape.{split-largest, shape-leaf, shape-node, size-shape}
 use Rattle.merkle.proofs.Shares.{tree-root}
 use Rattle.merkle.proofs.Trees.{path-made}
-use Rattle.packet.specs.Format.{shared, readOf}
+use Rattle.packet.specs.Format.{chained, packetOf}
 use Rattle.packet.specs.Class.{valid, classOf}
-use Rattle.packet.proofs.Class.{passing}
 use Rattle.commitment.specs.Commitment.{messageRoot, packetWith}
 use Rattle.commitment.specs.Private.{Coded}
-use Rattle.commitment.proofs.Messages.{fine, cut}
+use Rattle.commitment.proofs.Messages.{fine, cut, pathTo}
 use Rattle.commitment.proofs.Packets.{packet-valid}
 use Rattle.commitment.proofs.Binding.{valid-share, one-root}
 use Rattle.claims.specs.Terms.{leaves}
@@ -93,17 +92,21 @@ module _ (n t : ℕ) (m : List ℕ) (B : Book n t m) where
   its-root = tree-root sha256 n (shares n (n - t) m) (fine n t m c) (c .low) (c .high) ∙ ap (root sha256 (shape n)) its-leaves
 
   module _ (j : ℕ) (first : 1 ≤ j) (last : j ≤ n) where
+    its-path : pathTo sha256 sha256-length n t m c j first last ≡ path sha256 (shape n) (j - 1) (leaves n t m)
+    its-path =
+        path-made sha256 sha256-length n (shares n (n - t) m) (fine n t m c) j first last ∙ ap (path sha256 (shape n) (j - 1)) its-leaves
+
     its-packet : classOf sha256 n j (messageRoot sha256 n t m) (packetWith sha256 n t m j)
         ≡ valid (share (n - t) j m) (path sha256 (shape n) (j - 1) (leaves n t m))
     its-packet =
         packet-valid sha256 sha256-length n t m c j first last (messageRoot sha256 n t m) refl
-        ∙ ap (valid (share (n - t) j m)) (path-made sha256 sha256-length n (shares n (n - t) m) (fine n t m c) j first last
-        ∙ ap (path sha256 (shape n) (j - 1)) its-leaves)
+        ∙ ap (valid (share (n - t) j m)) its-path
 
-    its-path : readOf n (packetWith sha256 n t m j) ≡ shared j (share (n - t) j m) (path sha256 (shape n) (j - 1) (leaves n t m))
-    its-path =
-        passing sha256 n j (messageRoot sha256 n t m) (packetWith sha256 n t m j) (share (n - t) j m)
-        (path sha256 (shape n) (j - 1) (leaves n t m)) its-packet .reads
+    its-bytes : packetWith sha256 n t m j
+        ≡ 0x07 ∷ j ∷ length (share (n - t) j m) / 256 ∷ length (share (n - t) j m) % 256
+        ∷ (share (n - t) j m ++ chained (path sha256 (shape n) (j - 1) (leaves n t m)))
+    unfolding packetOf
+    its-bytes = ap (λ (p : List (List ℕ)). packetOf j (share (n - t) j m) p) its-path
 
 pub roots-and-paths-are-rfc-6962s : RootsAndPathsAreRFC6962s
 roots-and-paths-are-rfc-6962s =
@@ -115,7 +118,7 @@ roots-and-paths-are-rfc-6962s =
       path-left = λ n i ds more. path-first n more i ds;
       path-right = λ n i ds more. path-others n more i ds;
       book-root = its-root;
-      book-path = λ n t j m B. its-path n t m B j;
+      book-path = λ n t j m B. its-bytes n t m B j;
     }
 
 pub a-root-has-one-book : ARootHasOneBook
@@ -127,4 +130,4 @@ a-root-has-one-book =
     }
 
 pub hashes-are-fips-180-4s : HashesAreFIPS180-4s
-hashes-are-fips-180-4s = record { constants = round-constants; words = initial-words; abc = abc }
+hashes-are-fips-180-4s = record { constants = round-constants; words = initial-words; examples = ap₂ (λ (a b : List ℕ). a ∷ b ∷ []) abc two-blocks }

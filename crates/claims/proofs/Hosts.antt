@@ -1,7 +1,7 @@
 -- What holds of parties holds of hosts: a call on bytes is the step on the state that they say, so that what is seen of a host is what is seen of the party
 -- with its number, book and calls. From the laws of the C interface. Assumes nothing.
 use mathlib.Core.Path.{_≡_, refl, sym, ap, ap₂, _∙_, subst}
-use mathlib.Core.Logic.{_≢_}
+use mathlib.Core.Logic.{_⊎_, inl, inr, _≢_}
 use mathlib.Core.Bool.{Bool, true, false, cond, not}
 use mathlib.Core.List.{List, [], _∷_, map, List·Memᴰ}
 use mathlib.Core.Option.{Option, none, some}
@@ -30,16 +30,17 @@ use Rattle.agreement.specs.Calls.{Call, agreeRoot, agreeBit, takeShares, takeRe
 use Rattle.agreement.specs.Agreement.{Good}
 use Rattle.agreement.proofs.Run.{endedWith, did2, did3, did4, did5, event}
 use Rattle.agreement.proofs.Ran.{opened-is}
-use Rattle.state_bytes.specs.Layout.{stateLength, stateOf}
+use Rattle.state_bytes.specs.Layout.{stateLength, stateBytes, stateOf}
 use Rattle.capi.specs.Calls.{packed, Replies, valueShown, numberOf, openCall, called, resultLengthCall}
 use Rattle.capi.specs.Lists.{left, lengthOf}
-use Rattle.capi.proofs.Answers.{over-written, over-left, open-refused, open-state, open-root, open-done}
+use Rattle.capi.proofs.Answers.{value-fits, over-written, over-left, open-refused, open-state, open-root, open-done}
 use Rattle.capi.proofs.Small.{call-small, call-halves}
 use Rattle.capi.proofs.Kept.{call-kept, calls-kept, length-kept, open-kept}
-use Rattle.claims.specs.Terms.{when, lowest, lent, Done, ended, doneBy, Box, partyBox, Host, seenBy, seen, hostBox}
-use Rattle.claims.specs.Claims.{EveryCallOfAHostTellsItsOutcome, AllGoodHostsEndWithOneResult, Sitting, OneResult}
+use Rattle.claims.specs.Terms.{Act, ended, Box, partyBox, Host, actSeen, actsSeen, hostBox, boxOf}
+use Rattle.claims.specs.Claims.{HostOpeningTells, HostStepTells, EveryCallTellsItsOutcome, Sitting, OneResult, AllGoodHostsEndWithOneResult}
 use Rattle.claims.proofs.Lists.{in-map, map-map, map-same}
-use Rattle.claims.proofs.Steps.{every-step-tells-its-outcome}
+use Rattle.claims.proofs.Steps.{opening-tells, step-tells}
+use Rattle.claims.proofs.Tools.{shares-told, rebuild-told, hash-told, check-told, check-passed, check-passes}
 use Rattle.claims.proofs.Parties.{view, all-good-boxes-end-with-one-result}
 
 -- a call: its number, and the buffer
@@ -51,12 +52,15 @@ called-out : (s : List ℕ) (c : Call) → called sha256 s c .out ≡ made sha25
 unfolding called
 called-out s c = refl
 
-refused-bytes : (s : List ℕ) (c : Call) → made sha256 (stateOf s) c .cause ≢ 0 → (called sha256 s c .state ≡ s) × (called sha256 s c .out ≡ lent c)
+host-step-tells : (s : List ℕ) (c : Call) → HostStepTells s c (made sha256 (stateOf s) c) (called sha256 s c)
 unfolding called
-refused-bytes s c d = (
-  ap (λ (r : Replies). r .state) (over-left s (made sha256 (stateOf s) c) d),
-  every-step-tells-its-outcome .refused (stateOf s) c d .1,
-)
+host-step-tells s c =
+    let r = made sha256 (stateOf s) c in
+    record {
+      number = (refl, value-fits (r .result) (r .value) (call-small sha256 sha256-length (stateOf s) c));
+      refused = λ d. (ap (λ (q : Replies). q .state) (over-left s r d), step-tells (stateOf s) c .refused d .1);
+      accepted = λ e. (ap (λ (q : Replies). q .state) (over-written s r e), refl, call-kept sha256 s c);
+    }
 
 -- the opening: its outcomes
 data Outcome (n t own : ℕ) (m s z : List ℕ) : Type 0 where
@@ -79,82 +83,94 @@ unfolding packed
 upper k v h = omega (arith, h)
 
 module _ (n t own : ℕ) (m s z : List ℕ) where
-  opening-told : openCall sha256 n t own m s z .number / 2 ^ 32
-      ≡ lowest (openOf sha256 n t own m .cause ∷ when 9 (ltb (length s) stateLength) ∷ when 9 (ltb (length z) 32) ∷ [])
-  unfolding lowest
-  opening-told = go (outcome n t own m s z)
+  abbrev r : Opened
+  r = openOf sha256 n t own m
+
+  abbrev q : Replies
+  q = openCall sha256 n t own m s z
+
+  number-told : q .number ≡ cond (eqb (r .cause) 0)
+      (cond (ltb (length s) stateLength) (packed 9 stateLength) (cond (ltb (length z) 32) (packed 9 32) (packed 0 32))) (packed (r .cause) 0)
+  number-told = go (outcome n t own m s z)
     where
-      go : Outcome n t own m s z → openCall sha256 n t own m s z .number / 2 ^ 32
-          ≡ lowest (openOf sha256 n t own m .cause ∷ when 9 (ltb (length s) stateLength) ∷ when 9 (ltb (length z) 32) ∷ [])
-      go (turned d) =
-          rw (open-refused sha256 n t own m s z d, ne-eqb (openOf sha256 n t own m .cause) 0 d) (upper (openOf sha256 n t own m .cause) 0 (omega arith))
-      go (short-state e a) =
-          rw (open-state sha256 n t own m s z e a, eq-eqb (openOf sha256 n t own m .cause) 0 e, lt-ltb (length s) stateLength a)
-          (upper 9 stateLength (omega arith))
+      go : Outcome n t own m s z → q .number ≡ cond (eqb (r .cause) 0)
+          (cond (ltb (length s) stateLength) (packed 9 stateLength) (cond (ltb (length z) 32) (packed 9 32) (packed 0 32))) (packed (r .cause) 0)
+      go (turned d) = rw (open-refused sha256 n t own m s z d, ne-eqb (r .cause) 0 d)
+      go (short-state e a) = rw (open-state sha256 n t own m s z e a, eq-eqb (r .cause) 0 e, lt-ltb (length s) stateLength a)
       go (short-root e a b) =
-          rw (open-root sha256 n t own m s z e a b, eq-eqb (openOf sha256 n t own m .cause) 0 e, le-ltb (length s) stateLength a, lt-ltb (length z) 32 b)
-          (upper 9 32 (omega arith))
+          rw (open-root sha256 n t own m s z e a b, eq-eqb (r .cause) 0 e, le-ltb (length s) stateLength a, lt-ltb (length z) 32 b)
       go (taken e a b) =
-          rw (open-done sha256 n t own m s z e a b, eq-eqb (openOf sha256 n t own m .cause) 0 e, le-ltb (length s) stateLength a, le-ltb (length z) 32 b)
-          (upper 0 32 (omega arith))
+          rw (open-done sha256 n t own m s z e a b, eq-eqb (r .cause) 0 e, le-ltb (length s) stateLength a, le-ltb (length z) 32 b)
 
   -- an opening that was taken
-  opening-taken : openCall sha256 n t own m s z .number / 2 ^ 32 ≡ 0
-      → (openOf sha256 n t own m .cause ≡ 0) × (stateLength ≤ length s) × (32 ≤ length z)
-  unfolding lowest
-  opening-taken e = go (outcome n t own m s z) (sym opening-told ∙ e)
+  taken-is : q .number / 2 ^ 32 ≡ 0 → (r .cause ≡ 0) × (stateLength ≤ length s) × (32 ≤ length z)
+  taken-is e = go (outcome n t own m s z)
     where
-      go : Outcome n t own m s z
-          → lowest (openOf sha256 n t own m .cause ∷ when 9 (ltb (length s) stateLength) ∷ when 9 (ltb (length z) 32) ∷ []) ≡ 0
-          → (openOf sha256 n t own m .cause ≡ 0) × (stateLength ≤ length s) × (32 ≤ length z)
-      go (turned d) q = absurd (d (rw (ne-eqb (openOf sha256 n t own m .cause) 0 d) at q))
-      go (short-state c a) q =
-          let nine : _≡_ {A = ℕ} 9 0 = rw (eq-eqb (openOf sha256 n t own m .cause) 0 c, lt-ltb (length s) stateLength a) at q in absurd (omega arith)
-      go (short-root c a b) q =
-          let nine : _≡_ {A = ℕ} 9 0 =
-          rw (eq-eqb (openOf sha256 n t own m .cause) 0 c, le-ltb (length s) stateLength a, lt-ltb (length z) 32 b) at q in absurd (omega arith)
-      go (taken c a b) q = (c, a, b)
+      go : Outcome n t own m s z → (r .cause ≡ 0) × (stateLength ≤ length s) × (32 ≤ length z)
+      go (turned d) =
+          absurd (d (sym (upper (r .cause) 0 (omega arith)) ∙ sym (ap (λ (y : Replies). y .number / 2 ^ 32) (open-refused sha256 n t own m s z d)) ∙ e))
+      go (short-state c a) =
+          let nine : _≡_ {A = ℕ} 9 0 = sym (upper 9 stateLength (omega arith)) ∙ sym (ap (λ (y : Replies). y .number / 2 ^ 32) (open-state sha256 n t own m s z c a)) ∙ e in
+          absurd (omega arith)
+      go (short-root c a b) =
+          let nine : _≡_ {A = ℕ} 9 0 = sym (upper 9 32 (omega arith)) ∙ sym (ap (λ (y : Replies). y .number / 2 ^ 32) (open-root sha256 n t own m s z c a b)) ∙ e in
+          absurd (omega arith)
+      go (taken c a b) = (c, a, b)
 
-  opening-kept : openCall sha256 n t own m s z .number / 2 ^ 32 ≢ 0
-      → (openCall sha256 n t own m s z .state ≡ s) × (openCall sha256 n t own m s z .out ≡ z)
+  opening-kept : q .number ≢ packed 0 32 → (q .state ≡ s) × (q .out ≡ z)
   opening-kept d = go (outcome n t own m s z)
     where
-      go : Outcome n t own m s z → (openCall sha256 n t own m s z .state ≡ s) × (openCall sha256 n t own m s z .out ≡ z)
+      go : Outcome n t own m s z → (q .state ≡ s) × (q .out ≡ z)
       go (turned c) = rw (open-refused sha256 n t own m s z c) (refl, refl)
       go (short-state c a) = rw (open-state sha256 n t own m s z c a) (refl, refl)
       go (short-root c a b) = rw (open-root sha256 n t own m s z c a b) (refl, refl)
-      go (taken c a b) = absurd (d (ap (λ (r : Replies). r .number / 2 ^ 32) (open-done sha256 n t own m s z c a b) ∙ upper 0 32 (omega arith)))
+      go (taken c a b) = absurd (d (ap (λ (y : Replies). y .number) (open-done sha256 n t own m s z c a b)))
 
-  root-length : openOf sha256 n t own m .cause ≡ 0 → length (openOf sha256 n t own m .root) ≡ 32
+  opening-written : q .number / 2 ^ 32 ≡ 0
+      → (q .state ≡ written (stateBytes (r .state)) s .buffer) × (q .out ≡ written (r .root) z .buffer) × (stateOf (q .state) ≡ r .state)
+  opening-written e =
+      let a = taken-is e in
+      let o = open-done sha256 n t own m s z (a .0) (a .1) (a .2) in
+      (ap (λ (y : Replies). y .state) o, ap (λ (y : Replies). y .out) o, open-kept sha256 n t own m s z (a .0) (a .1) (a .2))
+
+  host-opening-tells : HostOpeningTells s z r q
+  host-opening-tells =
+      record {
+        number = number-told;
+        refused = opening-kept;
+        accepted = λ e. opening-written (ap (λ (k : ℕ). k / 2 ^ 32) e ∙ upper 0 32 (omega arith));
+      }
+
+  -- the root that it wrote
+  root-length : r .cause ≡ 0 → length (r .root) ≡ 32
   unfolding messageRoot
   root-length c =
       let o = opened-is sha256 n t own m c in
-      ap (λ (r : Opened). length (r .root)) (o .1)
+      ap (λ (y : Opened). length (y .root)) (o .1)
       ∙ length-root sha256 sha256-length n (shares n (n - t) m) (fine n t m (open-coded n t own m (o .0)))
 
-  room-written : (bs out : List ℕ) → length bs ≤ length out → written bs out .buffer ≡ spliced out 0 bs
+  root-given : q .number / 2 ^ 32 ≡ 0 → take 32 (q .out) ≡ r .root
   unfolding written
-  room-written bs out h = rw (le-ltb (length out) (length bs) h)
+  root-given e =
+      let a = taken-is e in
+      let w = root-length (a .0) in
+      let fits : length (r .root) ≤ length z = omega (arith, w, a .2) in
+      let out : q .out ≡ spliced z 0 (r .root) = opening-written e .1 ∙ rw (le-ltb (length z) (length (r .root)) fits) in
+      ap (take 32) out ∙ ap (λ (k : ℕ). take k (spliced z 0 (r .root))) (sym w) ∙ take-spliced z (r .root)
 
-  opening-gives : openCall sha256 n t own m s z .number / 2 ^ 32 ≡ 0
-      → (stateOf (openCall sha256 n t own m s z .state) ≡ openOf sha256 n t own m .state)
-      × (openCall sha256 n t own m s z .out ≡ spliced z 0 (openOf sha256 n t own m .root))
-  opening-gives e =
-      let a = opening-taken e in (
-        open-kept sha256 n t own m s z (a .0) (a .1) (a .2),
-        ap (λ (r : Replies). r .out) (open-done sha256 n t own m s z (a .0) (a .1) (a .2))
-            ∙ room-written (openOf sha256 n t own m .root) z (omega (arith, root-length (a .0), a .2)),
-      )
-
-pub every-call-of-a-host-tells-its-outcome : EveryCallOfAHostTellsItsOutcome
-every-call-of-a-host-tells-its-outcome =
+pub every-call-tells-its-outcome : EveryCallTellsItsOutcome
+every-call-tells-its-outcome =
     record {
-      opening = opening-told;
-      step = called-number;
-      opening-refused = opening-kept;
-      refused = refused-bytes;
-      opened = opening-gives;
-      accepted = λ s c. (call-kept sha256 s c, called-out s c);
+      opening = opening-tells;
+      step = step-tells;
+      host-opening = host-opening-tells;
+      host-step = host-step-tells;
+      shares = shares-told;
+      rebuild = rebuild-told;
+      hash = hash-told;
+      check = check-told;
+      check-yes = check-passed;
+      check-no = check-passes;
     }
 
 -- an accepted call, as a host sees it
@@ -180,7 +196,7 @@ module _ (s : List ℕ) where
       let l : resultLengthCall (r .state) ≡ length m = b ∙ omega arith in
       rw (a, l, c) (ap settled (take-spliced out m))
 
-  seen-view : (c : Call) → made sha256 x c .cause ≡ 0 → seenBy c (called sha256 s c) ≡ view (event sha256 x c)
+  seen-view : (c : Call) → made sha256 x c .cause ≡ 0 → actSeen c (called sha256 s c) ≡ view (event sha256 x c)
   seen-view (agreeRoot z) e =
       rw (number-plain (agreeRoot z) e (ap (λ (r : Stepped). r .result) (did2 sha256 x z e .1)))
   seen-view (agreeBit bit out) e =
@@ -192,19 +208,19 @@ module _ (s : List ℕ) where
       let c = takeRelays inbox out in
       let d = did5 sha256 x inbox out e .1 in
       let shown : made sha256 x c .result ≡ some R = ap (λ (r : Stepped). r .result) d in
-      ap {B = Done} (λ (q : Result). ended inbox (some q))
+      ap {B = Act} (λ (q : Result). ended inbox (some q))
       (ended-seen inbox out R (called sha256 s c)
       (called-number s c ∙ number-value (made sha256 x c) e ∙ told R (made sha256 x c .result) (made sha256 x c .value) shown)
       (length-kept sha256 s inbox out e) (called-out s c ∙ ap (λ (r : Stepped). r .buffer) d))
-      ∙ ap {B = Done} (ended inbox) (sym shown)
+      ∙ ap {B = Act} (ended inbox) (sym shown)
     where
       told : (R : Result) (o : Option Result) (v : ℕ) → o ≡ some R → valueShown o v ≡ valueShown (some R) 0
       told nothing o v q = ap (λ (r : Option Result). valueShown r v) q
       told (settled m) o v q = ap (λ (r : Option Result). valueShown r v) q
 
 -- and a list of calls
-seen-all : (s : List ℕ) (cs : List Call) → seen s cs ≡ map view (accepted (events sha256 (stateOf s) cs))
-unfolding seen accepted events
+seen-all : (s : List ℕ) (cs : List Call) → actsSeen s cs ≡ map view (accepted (events sha256 (stateOf s) cs))
+unfolding actsSeen accepted events
 seen-all s [] = refl
 seen-all s (c ∷ cs) =
     go (way (eqb (made sha256 (stateOf s) c .cause) 0))
@@ -224,15 +240,15 @@ seen-all s (c ∷ cs) =
         (omega (arith, d, called-number s c, call-halves sha256 sha256-length (stateOf s) c .0))
 
     go : Way (eqb (made sha256 (stateOf s) c .cause) 0)
-        → seen (called sha256 s c .state) cs ≡ map view (accepted (events sha256 (made sha256 (stateOf s) c .state) cs))
-        → cond (ltb (called sha256 s c .number) (2 ^ 32)) (seenBy c (called sha256 s c) ∷ seen (called sha256 s c .state) cs)
-        (seen (called sha256 s c .state) cs)
+        → actsSeen (called sha256 s c .state) cs ≡ map view (accepted (events sha256 (made sha256 (stateOf s) c .state) cs))
+        → cond (ltb (called sha256 s c .number) (2 ^ 32)) (actSeen c (called sha256 s c) ∷ actsSeen (called sha256 s c .state) cs)
+        (actsSeen (called sha256 s c .state) cs)
         ≡ map view (cond (eqb (made sha256 (stateOf s) c .cause) 0)
         (event sha256 (stateOf s) c ∷ accepted (events sha256 (made sha256 (stateOf s) c .state) cs))
         (accepted (events sha256 (made sha256 (stateOf s) c .state) cs)))
     go (on y) r =
         let e = eqb-true (made sha256 (stateOf s) c .cause) 0 y in
-        rw (y, below e) (ap₂ (λ (d : Done) (ds : List Done). d ∷ ds) (seen-view s c e) r)
+        rw (y, below e) (ap₂ (λ (d : Act) (ds : List Act). d ∷ ds) (seen-view s c e) r)
     go (off y) r = rw (y, above (eqb-false (made sha256 (stateOf s) c .cause) 0 y)) r
 
 -- the party with a host's number, book and calls
@@ -244,26 +260,32 @@ unfolding did
 box-same n t h e =
     let own = h .own in
     let m = h .book in
-    let r = openCall sha256 n t own m (h .state) (h .root) in
-    let o = opening-gives n t own m (h .state) (h .root) e in
-    let c = opening-taken n t own m (h .state) (h .root) e in
-    let width = root-length n t own m (h .state) (h .root) (c .0) in
-    boxes (e ∙ sym (c .0))
-    (ap (take 32) (o .1) ∙ ap (λ (k : ℕ). take k (spliced (h .root) 0 (openOf sha256 n t own m .root))) (sym width)
-    ∙ take-spliced (h .root) (openOf sha256 n t own m .root))
-    (seen-all (r .state) (h .calls) ∙ ap (λ (y : Party). map view (accepted (events sha256 y (h .calls)))) (o .0))
-    (ap resultIn (calls-kept sha256 (r .state) (h .calls) ∙ ap (λ (y : Party). final sha256 y (h .calls)) (o .0)))
+    let q = openCall sha256 n t own m (h .stateRoom) (h .rootRoom) in
+    let says = opening-written n t own m (h .stateRoom) (h .rootRoom) e .2 in
+    boxes (e ∙ sym (taken-is n t own m (h .stateRoom) (h .rootRoom) e .0)) (root-given n t own m (h .stateRoom) (h .rootRoom) e)
+    (seen-all (q .state) (h .calls) ∙ ap (λ (y : Party). map view (accepted (events sha256 y (h .calls)))) says)
+    (ap resultIn (calls-kept sha256 (q .state) (h .calls) ∙ ap (λ (y : Party). final sha256 y (h .calls)) says))
   where
-    boxes : {i : ℕ} {b : List ℕ} {k l : ℕ} {z y : List ℕ} {ds es : List Done} {q r : Option Result} {ss : List (List ℕ)} → k ≡ l → z ≡ y
-        → ds ≡ es → q ≡ r
-        → _≡_ {A = Box} (record { own = i; book = b; cause = k; root = z; done = ds; result = q; hashed = ss })
-        (record { own = i; book = b; cause = l; root = y; done = es; result = r; hashed = ss })
+    boxes : {i : ℕ} {b : List ℕ} {k l : ℕ} {z y : List ℕ} {as1 as2 : List Act} {q r : Option Result} {ss : List (List ℕ)} → k ≡ l → z ≡ y
+        → as1 ≡ as2 → q ≡ r
+        → _≡_ {A = Box} (record { own = i; book = b; cause = k; root = z; acts = as1; result = q; hashed = ss })
+        (record { own = i; book = b; cause = l; root = y; acts = as2; result = r; hashed = ss })
     boxes a b c d = rw (a, b, c, d)
 
+-- every good box is a party, seen as one
+abbrev party : Good ⊎ Host → Good
+party (inl A) = A
+party (inr h) = partyOf h
+
+either-same : (n t : ℕ) (g : Good ⊎ Host) → boxOf n t g .cause ≡ 0 → boxOf n t g ≡ partyBox n t (party g)
+either-same n t (inl A) e = refl
+either-same n t (inr h) e = box-same n t h e
+
 pub all-good-hosts-end-with-one-result : AllGoodHostsEndWithOneResult
-all-good-hosts-end-with-one-result n t hosts z bit P =
-    let same : map (hostBox n t) hosts ≡ map (partyBox n t) (map partyOf hosts) =
-    map-same (hostBox n t) (λ (h : Host). partyBox n t (partyOf h)) hosts (λ h i. box-same n t h (P .opened (hostBox n t h) (in-map (hostBox n t) i) .0))
-    ∙ sym (map-map partyOf (partyBox n t) hosts) in
+all-good-hosts-end-with-one-result n t good z bit P =
+    let same : map (boxOf n t) good ≡ map (partyBox n t) (map party good) =
+    map-same (boxOf n t) (λ (g : Good ⊎ Host). partyBox n t (party g)) good
+    (λ g i. either-same n t g (P .opened (boxOf n t g) (in-map (boxOf n t) i) .0))
+    ∙ sym (map-map party (partyBox n t) good) in
     subst (λ (boxes : List Box). (R : Result) × OneResult n t boxes z bit R) (sym same)
-    (all-good-boxes-end-with-one-result n t (map partyOf hosts) z bit (subst (λ (boxes : List Box). Sitting n t boxes z bit) same P))
+    (all-good-boxes-end-with-one-result n t (map party good) z bit (subst (λ (boxes : List Box). Sitting n t boxes z bit) same P))

@@ -1,5 +1,6 @@
 pub mod Lists
 pub mod Steps
+pub mod Tools
 pub mod Books
 pub mod Parties
 pub mod Hosts

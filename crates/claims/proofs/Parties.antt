@@ -20,19 +20,19 @@ use Rattle.agreement.specs.Calls as calls
 use Rattle.agreement.specs.Agreement.{Good, absent, different, sumOver, joinOver, step, Premises, sent as allSent, Conclusions}
 use Rattle.agreement.proofs.Lists.{same-some}
 use Rattle.agreement.proofs.Agreement.{agreement-sha256}
-use Rattle.claims.specs.Terms.{Done, rooted, sent, relayed, ended, stepIn, first, bytesIn, Box, doneBy, partyBox}
+use Rattle.claims.specs.Terms.{Act, rooted, sent, relayed, ended, stepIn, first, bytesIn, Box, actOf, partyBox}
 use Rattle.claims.specs.Claims.{Sitting, OneResult, bytesSent, AllGoodBoxesEndWithOneResult}
 use Rattle.claims.proofs.Lists.{in-map, all-map, map-map, sum-map, join-map}
 
 -- what is seen of an event
-abbrev pub view : Event → Done
-view e = doneBy (e .call) (e .reply)
+abbrev pub view : Event → Act
+view e = actOf (e .call) (e .reply)
 
-abbrev seen : Option Event → Option Done
+abbrev seen : Option Event → Option Act
 seen none = none
 seen (some e) = some (view e)
 
-view-step : (c : Call) (r : Stepped) → stepIn (doneBy c r) ≡ stepOf c
+view-step : (c : Call) (r : Stepped) → stepIn (actOf c r) ≡ stepOf c
 view-step (agreeRoot z) r = refl
 view-step (agreeBit bit out) r = refl
 view-step (takeShares inbox out) r = refl
@@ -48,32 +48,32 @@ view-first k (e ∷ es) = rw (view-step (e .call) (e .reply)) (go (eqb (stepOf (
     go true r = refl
     go false r = r
 
-unseen : (o : Option Event) (d : Done) → seen o ≡ some d → (e : Event) × (o ≡ some e) × (view e ≡ d)
+unseen : (o : Option Event) (d : Act) → seen o ≡ some d → (e : Event) × (o ≡ some e) × (view e ≡ d)
 unseen none d q = absurd (let z : _≡_ {A = ℕ} 0 1 = cc in omega arith)
 unseen (some e) d q = (e, refl, same-some q)
 
 -- and what an event was, of which that is seen
-was-rooted : (c : Call) (r : Stepped) (z : List ℕ) (b : ℕ) → doneBy c r ≡ rooted z b → (c ≡ agreeRoot z) × (r .value ≡ b)
+was-rooted : (c : Call) (r : Stepped) (z : List ℕ) (b : ℕ) → actOf c r ≡ rooted z b → (c ≡ agreeRoot z) × (r .value ≡ b)
 was-rooted (agreeRoot y) r z b q = (cc, cc)
 was-rooted (agreeBit bit out) r z b q = absurd (let k : _≡_ {A = ℕ} 0 1 = cc in omega arith)
 was-rooted (takeShares inbox out) r z b q = absurd (let k : _≡_ {A = ℕ} 0 1 = cc in omega arith)
 was-rooted (takeRelays inbox out) r z b q = absurd (let k : _≡_ {A = ℕ} 0 1 = cc in omega arith)
 
-was-sent : (c : Call) (r : Stepped) (bit : ℕ) (w : List ℕ) → doneBy c r ≡ sent bit w
+was-sent : (c : Call) (r : Stepped) (bit : ℕ) (w : List ℕ) → actOf c r ≡ sent bit w
     → (out : List ℕ) × (c ≡ agreeBit bit out) × (take (r .value) (r .buffer) ≡ w)
 was-sent (agreeRoot y) r bit w q = absurd (let k : _≡_ {A = ℕ} 0 1 = cc in omega arith)
 was-sent (agreeBit b out) r bit w q = (out, cc, cc)
 was-sent (takeShares inbox out) r bit w q = absurd (let k : _≡_ {A = ℕ} 0 1 = cc in omega arith)
 was-sent (takeRelays inbox out) r bit w q = absurd (let k : _≡_ {A = ℕ} 0 1 = cc in omega arith)
 
-was-relayed : (c : Call) (r : Stepped) (inbox w : List ℕ) → doneBy c r ≡ relayed inbox w
+was-relayed : (c : Call) (r : Stepped) (inbox w : List ℕ) → actOf c r ≡ relayed inbox w
     → (inboxIn c ≡ inbox) × (take (r .value) (r .buffer) ≡ w)
 was-relayed (agreeRoot y) r inbox w q = absurd (let k : _≡_ {A = ℕ} 0 1 = cc in omega arith)
 was-relayed (agreeBit b out) r inbox w q = absurd (let k : _≡_ {A = ℕ} 0 1 = cc in omega arith)
 was-relayed (takeShares i out) r inbox w q = (cc, cc)
 was-relayed (takeRelays i out) r inbox w q = absurd (let k : _≡_ {A = ℕ} 0 1 = cc in omega arith)
 
-was-ended : (c : Call) (r : Stepped) (inbox : List ℕ) (R : Option Result) → doneBy c r ≡ ended inbox R
+was-ended : (c : Call) (r : Stepped) (inbox : List ℕ) (R : Option Result) → actOf c r ≡ ended inbox R
     → (inboxIn c ≡ inbox) × (r .result ≡ R)
 was-ended (agreeRoot y) r inbox R q = absurd (let k : _≡_ {A = ℕ} 0 1 = cc in omega arith)
 was-ended (agreeBit b out) r inbox R q = absurd (let k : _≡_ {A = ℕ} 0 1 = cc in omega arith)
@@ -81,7 +81,7 @@ was-ended (takeShares i out) r inbox R q = absurd (let k : _≡_ {A = ℕ} 0 1 =
 was-ended (takeRelays i out) r inbox R q = (cc, cc)
 
 -- the bytes sent
-view-bytes : (n : ℕ) (c : Call) (r : Stepped) → bytesIn n (doneBy c r) ≡ sentIn n c (take (r .value) (r .buffer))
+view-bytes : (n : ℕ) (c : Call) (r : Stepped) → bytesIn n (actOf c r) ≡ sentIn n c (take (r .value) (r .buffer))
 view-bytes n (agreeRoot z) r = refl
 view-bytes n (agreeBit bit out) r = refl
 view-bytes n (takeShares inbox out) r = refl
@@ -100,7 +100,7 @@ module _ (n t : ℕ) (good : List Good) (z : List ℕ) (bit : ℕ) where
   In A = List·Memᴰ A good
 
   -- a party's first event of step k
-  event : (k : ℕ) (A : Good) (d : Done) → first k (box A .done) ≡ some d
+  event : (k : ℕ) (A : Good) (d : Act) → first k (box A .acts) ≡ some d
       → (e : Event) × (step sha256 n t good k A ≡ some e) × (view e ≡ d)
   event k A d q = unseen (step sha256 n t good k A) d (sym (view-first k (did sha256 n t (A .own) (A .message) (A .calls))) ∙ q)
 
@@ -122,7 +122,7 @@ module _ (n t : ℕ) (good : List Good) (z : List ℕ) (bit : ℕ) where
           };
           ruled = record {
             root = λ v f. P .root-rule v (all-map box (λ (B : Box). B .root ≡ v) good (λ A h. same-some (f A h)));
-            vote = λ v f. P .bit-rule v (all-map box (λ (B : Box). first 2 (B .done) ≡ some (rooted z v)) good (voted v f));
+            vote = λ v f. P .bit-rule v (all-map box (λ (B : Box). first 2 (B .acts) ≡ some (rooted z v)) good (voted v f));
           };
           delivered = λ b1. record { firstInbox = came b1; secondInbox = relay-came b1 };
           clean = λ x y h k. P .clean x y (rw (join-map box (λ (B : Box). B .hashed) good) h) (rw (join-map box (λ (B : Box). B .hashed) good) k);
@@ -154,7 +154,7 @@ module _ (n t : ℕ) (good : List Good) (z : List ℕ) (bit : ℕ) where
             (e .0, e .1)
 
         voted : (v : ℕ) → ((A : Good) → In A → bitGiven (step sha256 n t good 2 A) ≡ some v) → (A : Good) → In A
-            → first 2 (box A .done) ≡ some (rooted z v)
+            → first 2 (box A .acts) ≡ some (rooted z v)
         voted v f A h =
             let s = P .step2 (box A) (in-map box h) in
             let e = event 2 A (rooted z (s .0)) (s .1) in
@@ -191,11 +191,11 @@ module _ (n t : ℕ) (good : List Good) (z : List ℕ) (bit : ℕ) where
     bytes : bytesSent n t (map box good) z bit ≡ allSent sha256 n t good
     unfolding sentBy
     bytes =
-        sum-map box (λ (B : Box). sumOver (bytesIn n) (B .done)) (λ (A : Good). sentBy sha256 n t (A .own) (A .message) (A .calls))
+        sum-map box (λ (B : Box). sumOver (bytesIn n) (B .acts)) (λ (A : Good). sentBy sha256 n t (A .own) (A .message) (A .calls))
         (λ A. view-sent n (did sha256 n t (A .own) (A .message) (A .calls))) good
 
     shown : (R : Result) → bit ≡ 1 → (A : Good) → In A → resultShown (step sha256 n t good 5 A) ≡ some R
-        → (inbox : List ℕ) × (first 5 (box A .done) ≡ some (ended inbox (some R)))
+        → (inbox : List ℕ) × (first 5 (box A .acts) ≡ some (ended inbox (some R)))
     shown R b1 A h q =
         let s = P .step5 b1 (box A) (in-map box h) in
         let e = event 5 A (ended (s .0) (s .1)) (s .2) in
@@ -206,7 +206,7 @@ module _ (n t : ℕ) (good : List Good) (z : List ℕ) (bit : ℕ) where
     conclusions R C =
         record {
           held = all-map box (λ (B : Box). B .result ≡ some R) good (C .holds);
-          given = λ b1. all-map box (λ (B : Box). (inbox : List ℕ) × (first 5 (B .done) ≡ some (ended inbox (some R)))) good
+          given = λ b1. all-map box (λ (B : Box). (inbox : List ℕ) × (first 5 (B .acts) ≡ some (ended inbox (some R)))) good
               (λ A h. shown R b1 A h (C .gives b1 A h));
           somebodys = whose (C .somebodys);
           common = λ m f. C .common m (λ A h. f (box A) (in-map box h));

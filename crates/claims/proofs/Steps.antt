@@ -4,6 +4,7 @@ use mathlib.Core.Path.{_≡_, refl, sym, ap, _∙_, subst}
 use mathlib.Core.Logic.{_≢_}
 use mathlib.Core.Bool.{Bool, true, false, cond, not}
 use mathlib.Core.List.{List, [], _∷_}
+use mathlib.Core.Option.{none}
 use Prim.Native.Nat.{ℕ, _-_, _*_, _≤_, _<_}
 use native.Mathlib.Omega.{arith}
 use borrow.Author.Tests.{le-ltb, ltb-false, eqb-true, eqb-false, not-false}
@@ -17,32 +18,34 @@ use Rattle.buffer.proofs.Splice.{spliced-none}
 use Rattle.sha256.specs.Sha256.{sha256}
 use Rattle.commitment.specs.Commitment.{messageRoot, openCause}
 use Rattle.commitment.proofs.Opening.{open-bounds, spared}
-use Rattle.party.specs.State.{seatOf, Result, nothing, settled, resultBytes, messageIn, atFirst, atEnd, broken}
+use Rattle.merkle.specs.Shares.{blank}
+use Rattle.party.specs.State.{seatOf, Result, nothing, settled, resultBytes, messageIn, atRoot, atFirst, atEnd, blankState, broken}
 use Rattle.party.specs.Steps.{turnOf, stateCause, openOf, Stepped, refused, writes, ending, rootCause, agreeRootOf, bitCause, outboxOf, agreeBitOf}
 use Rattle.party.specs.Steps.{inboxCause, relayOf, heldOf, takeSharesOf, resultOf, takeRelaysOf}
 use Rattle.party.specs.declared.Party.{Party}
 use Rattle.party.specs.declared.Opened.{Opened}
 use Rattle.party.proofs.Ways.{Way, on, off, way}
 use Rattle.party.proofs.Causes.{fit-of}
+use Rattle.party.proofs.Outcomes.{open-refused, open-given}
 use Rattle.party.proofs.Progress.{open-accepted, root-accepted, bit-accepted, shares-accepted, relays-accepted}
 use Rattle.party.proofs.Progress.{root-whole, bit-whole, first-whole, second-whole, end-whole, message-short, held-short, result-short}
 use Rattle.agreement.specs.Calls.{Call, agreeRoot, agreeBit, takeShares, takeRelays, stepOf, made}
 use Rattle.agreement.proofs.Run.{endedWith, did2, did3, did4, did5}
 use Rattle.agreement.proofs.Ran.{opened-is}
 use Rattle.capi.proofs.Sound.{whole}
-use Rattle.claims.specs.Terms.{when, lowest, lent, due, wrong}
-use Rattle.claims.specs.Claims.{EveryStepTellsItsOutcome}
+use Rattle.claims.specs.Terms.{when, foremost, groupThen, lent, wrong, due, next, answered, outcome}
+use Rattle.claims.specs.Claims.{OpeningTells, StepTells}
 
 -- the opening
-open-lowest : (a b c d : Bool)
+open-foremost : (a b c d : Bool)
     → cond (not (eqb (cond a 1 (cond b 2 0)) 0)) (cond a 1 (cond b 2 0)) (cond c 3 (cond d 4 0))
-    ≡ lowest (when 1 a ∷ when 2 b ∷ when 3 c ∷ when 4 d ∷ [])
-unfolding lowest
-open-lowest true b c d = refl
-open-lowest false true c d = refl
-open-lowest false false true d = refl
-open-lowest false false false true = refl
-open-lowest false false false false = refl
+    ≡ foremost (when 1 a ∷ when 2 b ∷ when 3 c ∷ when 4 d ∷ [])
+unfolding foremost
+open-foremost true b c d = refl
+open-foremost false true c d = refl
+open-foremost false false true d = refl
+open-foremost false false false true = refl
+open-foremost false false false false = refl
 
 either : (b : Bool) (p q : Opened) → cond b p q .cause ≡ cond b (p .cause) (q .cause)
 either true p q = refl
@@ -56,26 +59,54 @@ or-none k = go (way (eqb k 0))
     go (off e) = rw e
 
 opening-told : (n t own : ℕ) (m : List ℕ) → openOf sha256 n t own m .cause
-    ≡ lowest (when 1 (not (parties n)) ∷ when 2 (leb n (2 * t)) ∷ when 3 (not (numbered n own)) ∷ when 4 (ltb maxMessage (length m)) ∷ [])
+    ≡ groupThen n t (when 3 (not (numbered n own)) ∷ when 4 (ltb maxMessage (length m)) ∷ [])
 unfolding openOf openCause groupCause
 opening-told n t own m =
     either (not (eqb (openCause n t own (length m)) 0)) _ _ ∙ or-none (openCause n t own (length m))
-    ∙ open-lowest (not (parties n)) (leb n (2 * t)) (not (numbered n own)) (ltb maxMessage (length m))
+    ∙ open-foremost (not (parties n)) (leb n (2 * t)) (not (numbered n own)) (ltb maxMessage (length m))
+
+opening-refused : (n t own : ℕ) (m : List ℕ) → openOf sha256 n t own m .cause ≢ 0
+    → (openOf sha256 n t own m .state ≡ blankState) × (openOf sha256 n t own m .root ≡ blank)
+opening-refused n t own m d = go (way (eqb (openCause n t own (length m)) 0))
+  where
+    go : Way (eqb (openCause n t own (length m)) 0) → (openOf sha256 n t own m .state ≡ blankState) × (openOf sha256 n t own m .root ≡ blank)
+    go (on e) = absurd (d (ap (λ (r : Opened). r .cause) (open-given sha256 n t own m (eqb-true (openCause n t own (length m)) 0 e))))
+    go (off e) = rw (open-refused sha256 n t own m (eqb-false (openCause n t own (length m)) 0 e)) (refl, refl)
+
+opening-accepted : (n t own : ℕ) (m : List ℕ) → openOf sha256 n t own m .cause ≡ 0 → (openOf sha256 n t own m .state ≡ atRoot (seatOf n t own) m)
+    × (openOf sha256 n t own m .root ≡ messageRoot sha256 n t m) × (broken (openOf sha256 n t own m .state) ≡ false)
+opening-accepted n t own m e =
+    let o = opened-is sha256 n t own m e in
+    let b = open-bounds n t own (length m) (o .0) in
+    let g = group-of n t (b .0) in (
+      ap (λ (r : Opened). r .state) (o .1),
+      ap (λ (r : Opened). r .root) (o .1),
+      ap (λ (r : Opened). broken (r .state)) (o .1) ∙ root-whole (seatOf n t own) (g .low) (g .high) (g .faults) (b .1) (b .2) m (b .3),
+    )
+
+pub opening-tells : (n t own : ℕ) (m : List ℕ) → OpeningTells n t own m (openOf sha256 n t own m)
+opening-tells n t own m =
+    record {
+      cause = opening-told n t own m;
+      refused = opening-refused n t own m;
+      accepted = opening-accepted n t own m;
+      lawful = open-accepted sha256 n t own m;
+    }
 
 -- a step: causes 5 and 6, then its argument's; then that of its buffer
 abbrev judged : ℕ → Party → Call → ℕ
 judged turn x c = cond (not (eqb (stateCause turn x) 0)) (stateCause turn x) (wrong x c)
 
-step-lowest : (a b d : Bool) (k : ℕ)
+step-foremost : (a b d : Bool) (k : ℕ)
     → cond (not (eqb (cond (not (eqb (cond a 5 (cond b 6 0)) 0)) (cond a 5 (cond b 6 0)) k) 0))
     (cond (not (eqb (cond a 5 (cond b 6 0)) 0)) (cond a 5 (cond b 6 0)) k) (when 9 d)
-    ≡ lowest (when 5 a ∷ when 6 b ∷ k ∷ when 9 d ∷ [])
-unfolding lowest
-step-lowest true b d k = refl
-step-lowest false true d k = refl
-step-lowest false false d k = go (eqb k 0) d
+    ≡ foremost (when 5 a ∷ when 6 b ∷ k ∷ when 9 d ∷ [])
+unfolding foremost
+step-foremost true b d k = refl
+step-foremost false true d k = refl
+step-foremost false false d k = go (eqb k 0) d
   where
-    go : (g d : Bool) → cond (not g) k (when 9 d) ≡ cond g (lowest (when 9 d ∷ [])) k
+    go : (g d : Bool) → cond (not g) k (when 9 d) ≡ cond g (foremost (when 9 d ∷ [])) k
     go true true = refl
     go true false = refl
     go false d = refl
@@ -86,6 +117,7 @@ record Does (x : Party) (c : Call) (k : ℕ) : Type 0 where
   is : made sha256 x c ≡ cond (not (eqb k 0)) (refused x k (lent c)) does
   cause : does .cause ≡ when 9 (ltb (length (lent c)) (length (due x c)))
   keeps : does .cause ≢ 0 → (does .state ≡ x) × (does .buffer ≡ lent c) × (does .value ≡ cond (eqb (does .cause) 9) (length (due x c)) 0)
+      × (does .result ≡ none)
 
 writes-cause : (x next : Party) (bs out : List ℕ) → writes x next bs out .cause ≡ when 9 (ltb (length out) (length bs))
 writes-cause x next bs out = go (way (ltb (length out) (length bs)))
@@ -95,13 +127,13 @@ writes-cause x next bs out = go (way (ltb (length out) (length bs)))
     go (off e) = rw e
 
 abbrev Kept : Party → List ℕ → List ℕ → Stepped → Type 0
-Kept x bs out r = r .cause ≢ 0 → (r .state ≡ x) × (r .buffer ≡ out) × (r .value ≡ cond (eqb (r .cause) 9) (length bs) 0)
+Kept x bs out r = r .cause ≢ 0 → (r .state ≡ x) × (r .buffer ≡ out) × (r .value ≡ cond (eqb (r .cause) 9) (length bs) 0) × (r .result ≡ none)
 
 writes-keeps : (x next : Party) (bs out : List ℕ) → Kept x bs out (writes x next bs out)
 writes-keeps x next bs out = go (way (ltb (length out) (length bs)))
   where
     go : Way (ltb (length out) (length bs)) → Kept x bs out (writes x next bs out)
-    go (on e) = rw e (λ d. (refl, refl, refl))
+    go (on e) = rw e (λ d. (refl, refl, refl, refl))
     go (off e) = rw e (λ d. absurd (d refl))
 
 ending-cause : (x : Party) (r : Result) (out : List ℕ) → ending x r out .cause ≡ when 9 (ltb (length out) (length (resultBytes r)))
@@ -117,7 +149,7 @@ ending-keeps x nothing out = λ d. absurd (d refl)
 ending-keeps x (settled m) out = go (way (ltb (length out) (length m)))
   where
     go : Way (ltb (length out) (length m)) → Kept x m out (ending x (settled m) out)
-    go (on e) = rw e (λ d. (refl, refl, refl))
+    go (on e) = rw e (λ d. (refl, refl, refl, refl))
     go (off e) = rw e (λ d. absurd (d refl))
 
 done : (x : Party) (c : Call) → Does x c (judged (stepOf c) x c)
@@ -136,7 +168,7 @@ either-step true p q = refl
 either-step false p q = refl
 
 step-told : (x : Party) (c : Call) → made sha256 x c .cause
-    ≡ lowest (when 5 (broken x) ∷ when 6 (not (eqb (turnOf (x .stage)) (stepOf c))) ∷ wrong x c
+    ≡ foremost (when 5 (broken x) ∷ when 6 (not (eqb (turnOf (x .stage)) (stepOf c))) ∷ wrong x c
     ∷ when 9 (ltb (length (lent c)) (length (due x c))) ∷ [])
 unfolding stateCause
 step-told x c =
@@ -144,7 +176,7 @@ step-told x c =
     let k : ℕ = judged (stepOf c) x c in
     ap (λ (r : Stepped). r .cause) (D .is) ∙ either-step (not (eqb k 0)) (refused x k (lent c)) (D .does)
     ∙ ap (λ (j : ℕ). cond (not (eqb k 0)) k j) (D .cause)
-    ∙ step-lowest (broken x) (not (eqb (turnOf (x .stage)) (stepOf c))) (ltb (length (lent c)) (length (due x c))) (wrong x c)
+    ∙ step-foremost (broken x) (not (eqb (turnOf (x .stage)) (stepOf c))) (ltb (length (lent c)) (length (due x c))) (wrong x c)
 
 -- cause 9 is the buffer's alone
 other : (k : ℕ) (b : Bool) → eqb k 9 ≡ false → eqb (when k b) 9 ≡ false
@@ -166,8 +198,7 @@ not-nine x c = go (broken x) (not (eqb (turnOf (x .stage)) (stepOf c))) (wrong x
     go false true k e = refl
     go false false k e = e
 
-refusal-keeps : (x : Party) (c : Call) → made sha256 x c .cause ≢ 0 → (made sha256 x c .state ≡ x) × (made sha256 x c .buffer ≡ lent c)
-    × (made sha256 x c .value ≡ cond (eqb (made sha256 x c .cause) 9) (length (due x c)) 0)
+refusal-keeps : (x : Party) (c : Call) → Kept x (due x c) (lent c) (made sha256 x c)
 refusal-keeps x c = go (way (eqb k 0))
   where
     k : ℕ
@@ -177,48 +208,46 @@ refusal-keeps x c = go (way (eqb k 0))
     D = done x c
 
     refusal : Kept x (due x c) (lent c) (refused x (judged (stepOf c) x c) (lent c))
-    refusal d = (refl, refl, rw (not-nine x c))
+    refusal d = (refl, refl, rw (not-nine x c), refl)
 
     go : Way (eqb (judged (stepOf c) x c) 0) → Kept x (due x c) (lent c) (made sha256 x c)
     go (on e) = rw (D .is, e) (D .keeps)
     go (off e) = rw (D .is, e) refusal
 
--- an accepted opening and an accepted step
-opened-told : (n t own : ℕ) (m : List ℕ) → openOf sha256 n t own m .cause ≡ 0
-    → (openOf sha256 n t own m .root ≡ messageRoot sha256 n t m) × (broken (openOf sha256 n t own m .state) ≡ false)
-opened-told n t own m e =
-    let o = opened-is sha256 n t own m e in
-    let b = open-bounds n t own (length m) (o .0) in
-    let g = group-of n t (b .0) in (
-      ap (λ (r : Opened). r .root) (o .1),
-      ap (λ (r : Opened). broken (r .state)) (o .1) ∙ root-whole (seatOf n t own) (g .low) (g .high) (g .faults) (b .1) (b .2) m (b .3),
-    )
-
+-- an accepted step
 ends : (x : Party) (r : Result) (out : List ℕ) → endedWith (x .seat) r out .buffer ≡ spliced out 0 (resultBytes r)
 ends x nothing out = sym (spliced-none out 0)
 ends x (settled m) out = refl
 
-accepted-told : (x : Party) (c : Call) → made sha256 x c .cause ≡ 0
-    → (made sha256 x c .buffer ≡ spliced (lent c) 0 (due x c)) × (broken (made sha256 x c .state) ≡ false)
-accepted-told x c e = go c e (whole sha256 x c e)
-  where
-    next : (b : Bool) (p q : Party) → broken p ≡ false → broken q ≡ false → broken (cond b p q) ≡ false
-    next true p q f g = f
-    next false p q f g = g
+abbrev Gives : Party → Call → Stepped → Type 0
+Gives x c r =
+    (r .state ≡ next x c) × (r .buffer ≡ spliced (lent c) 0 (due x c)) × (r .value ≡ answered x c) × (r .result ≡ outcome x c) × (broken (r .state) ≡ false)
 
-    go : (c : Call) → made sha256 x c .cause ≡ 0 → broken x ≡ false
-        → (made sha256 x c .buffer ≡ spliced (lent c) 0 (due x c)) × (broken (made sha256 x c .state) ≡ false)
+step-accepted : (x : Party) (c : Call) → made sha256 x c .cause ≡ 0 → Gives x c (made sha256 x c)
+step-accepted x c e = go c e (whole sha256 x c e)
+  where
+    sound : (b : Bool) (p q : Party) → broken p ≡ false → broken q ≡ false → broken (cond b p q) ≡ false
+    sound true p q f g = f
+    sound false p q f g = g
+
+    go : (c : Call) → made sha256 x c .cause ≡ 0 → broken x ≡ false → Gives x c (made sha256 x c)
     go (agreeRoot z) e w =
         let f = fit-of x w in
         rw (did2 sha256 x z e .1) (
+          refl,
           sym (spliced-none [] 0),
+          refl,
+          refl,
           bit-whole (x .seat) (f .low) (f .high) (omega (arith, f .faults)) (f .first) (f .last) (messageIn x) (message-short sha256 x w) z,
         )
     go (agreeBit bit out) e w =
         let f = fit-of x w in
         rw (did3 sha256 x bit out e .2) (
           refl,
-          next (eqb bit 0) (atEnd (x .seat) nothing) (atFirst (x .seat) (messageIn x) (x .root))
+          refl,
+          refl,
+          refl,
+          sound (eqb bit 0) (atEnd (x .seat) nothing) (atFirst (x .seat) (messageIn x) (x .root))
               (end-whole (x .seat) (f .low) (f .high) (omega (arith, f .faults)) (f .first) (f .last) nothing (omega arith))
               (first-whole (x .seat) (f .low) (f .high) (omega (arith, f .faults)) (f .first) (f .last) (messageIn x) (message-short sha256 x w) (x .root)),
         )
@@ -226,13 +255,19 @@ accepted-told x c e = go c e (whole sha256 x c e)
         let f = fit-of x w in
         rw (did4 sha256 x inbox out e .1) (
           refl,
+          refl,
+          refl,
+          refl,
           second-whole (x .seat) (f .low) (f .high) (omega (arith, f .faults)) (f .first) (f .last) (messageIn x) (message-short sha256 x w) (x .root)
               (heldOf sha256 x inbox) (held-short sha256 x w inbox),
         )
     go (takeRelays inbox out) e w =
         let f = fit-of x w in
         rw (did5 sha256 x inbox out e .1) (
+          refl,
           ends x (resultOf sha256 x inbox) out,
+          refl,
+          refl,
           end-whole (x .seat) (f .low) (f .high) (omega (arith, f .faults)) (f .first) (f .last) (resultOf sha256 x inbox) (result-short sha256 x w inbox),
         )
 
@@ -250,14 +285,5 @@ lawful x (takeRelays inbox out) w turn fine room =
     relays-accepted sha256 x w inbox out turn
     (not-false (fills (x .seat .n) inbox) (spared (not (fills (x .seat .n) inbox)) 7 0 fine .0)) room
 
-pub every-step-tells-its-outcome : EveryStepTellsItsOutcome
-every-step-tells-its-outcome =
-    record {
-      opening = opening-told;
-      step = step-told;
-      refused = refusal-keeps;
-      opened = opened-told;
-      accepted = accepted-told;
-      lawful-opening = open-accepted sha256;
-      lawful-step = lawful;
-    }
+pub step-tells : (x : Party) (c : Call) → StepTells x c (made sha256 x c)
+step-tells x c = record { cause = step-told x c; refused = refusal-keeps x c; accepted = step-accepted x c; lawful = lawful x c }

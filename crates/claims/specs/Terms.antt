@@ -1,17 +1,22 @@
--- The terms of the claims: causes in their order, what a step is lent and has to write, and what is seen of a good box from outside, whether it is
--- a party with its states or a host with bytes. Assumes nothing.
+-- The words of the claims: causes in their order, what a step is lent and has to do, and what is told of a good box, be it a party with its states or a
+-- host of the C interface with bytes. Assumes nothing.
 use mathlib.Core.Bool.{Bool, cond, not}
 use mathlib.Core.List.{List, [], _∷_, map}
+use mathlib.Core.Logic.{_⊎_, inl, inr}
 use mathlib.Core.Option.{Option, none, some}
 use Prim.Native.Nat.{ℕ, _+_, _-_, _*_, _/_, _^_}
-use lib.Dec.{ltb, eqb}
+use lib.Dec.{leb, ltb, eqb}
 use lib.ListN.{length, take}
+use Rattle.limits.specs.Limits.{parties}
 use Rattle.buffer.specs.Splice.{tabulate}
 use Rattle.buffer.specs.Entries.{fills, bodies}
+use Rattle.buffer.specs.Given.{Given, gave, written}
+use Rattle.buffer.specs.declared.Written.the-variants.{Refused}
 use Rattle.erasure.specs.Coding.{share}
+use Rattle.erasure.specs.Rebuild.{Recovered, cause, message}
 use Rattle.sha256.specs.Sha256.{sha256}
-use Rattle.party.specs.State.{Result, nothing, settled, resultBytes, resultIn}
-use Rattle.party.specs.Steps.{openOf, Stepped, outboxOf, relayOf, resultOf}
+use Rattle.party.specs.State.{Result, nothing, settled, resultBytes, resultIn, messageIn, atBit, atFirst, atSecond, atEnd, happy}
+use Rattle.party.specs.Steps.{openOf, Stepped, outboxOf, relayOf, heldOf, resultOf}
 use Rattle.party.specs.declared.Party.{Party}
 use Rattle.agreement.specs.Calls.{Call, agreeRoot, agreeBit, takeShares, takeRelays, Event, did, hashed, lengths, resultAfter}
 use Rattle.agreement.specs.Agreement.{Good}
@@ -19,26 +24,24 @@ use Rattle.state_bytes.specs.Layout.{stateOf}
 use Rattle.capi.specs.Calls.{Replies, openCall, called, resultLengthCall}
 use Rattle.capi.specs.Lists.{left}
 
--- a cause where it applies, and of causes in the order in which they are given the first that does; 0: none
+-- a cause where it applies; and of causes, listed in the order in which they are given, the first that applies; 0: none
 abbrev pub when : ℕ → Bool → ℕ
 when k b = cond b k 0
 
-unfoldable pub lowest : List ℕ → ℕ
-lowest [] = 0
-lowest (k ∷ ks) = cond (eqb k 0) (lowest ks) k
+unfoldable pub foremost : List ℕ → ℕ
+foremost [] = 0
+foremost (k ∷ ks) = cond (eqb k 0) (foremost ks) k
 
--- the buffer that a step is lent, what it has to write there, and what can be wrong with its argument
+-- causes 1 and 2 of n and t, and others behind them
+abbrev pub groupThen : ℕ → ℕ → List ℕ → ℕ
+groupThen n t ks = foremost (when 1 (not (parties n)) ∷ when 2 (leb n (2 * t)) ∷ ks)
+
+-- a step: the buffer that it is lent, and what can be wrong with what it is handed
 abbrev pub lent : Call → List ℕ
 lent (agreeRoot z) = []
 lent (agreeBit bit out) = out
 lent (takeShares inbox out) = out
 lent (takeRelays inbox out) = out
-
-abbrev pub due : Party → Call → List ℕ
-due x (agreeRoot z) = []
-due x (agreeBit bit out) = outboxOf sha256 x bit
-due x (takeShares inbox out) = relayOf sha256 x inbox
-due x (takeRelays inbox out) = resultBytes (resultOf sha256 x inbox)
 
 abbrev pub wrong : Party → Call → ℕ
 wrong x (agreeRoot z) = when 7 (not (eqb (length z) 32))
@@ -46,53 +49,107 @@ wrong x (agreeBit bit out) = when 7 (ltb 1 bit)
 wrong x (takeShares inbox out) = when 8 (not (fills (x .seat .n) inbox))
 wrong x (takeRelays inbox out) = when 8 (not (fills (x .seat .n) inbox))
 
--- leaf string j is 0x00, j and share j
+-- what an accepted one writes, the next state, the value that it answers, and the result, which step 5 alone has
+abbrev pub due : Party → Call → List ℕ
+due x (agreeRoot z) = []
+due x (agreeBit bit out) = outboxOf sha256 x bit
+due x (takeShares inbox out) = relayOf sha256 x inbox
+due x (takeRelays inbox out) = resultBytes (resultOf sha256 x inbox)
+
+abbrev pub next : Party → Call → Party
+next x (agreeRoot z) = atBit (x .seat) (messageIn x) z
+next x (agreeBit bit out) = cond (eqb bit 0) (atEnd (x .seat) nothing) (atFirst (x .seat) (messageIn x) (x .root))
+next x (takeShares inbox out) = atSecond (x .seat) (messageIn x) (x .root) (heldOf sha256 x inbox)
+next x (takeRelays inbox out) = atEnd (x .seat) (resultOf sha256 x inbox)
+
+abbrev pub answered : Party → Call → ℕ
+answered x (agreeRoot z) = cond (happy sha256 (atBit (x .seat) (messageIn x) z)) 1 0
+answered x (agreeBit bit out) = length (outboxOf sha256 x bit)
+answered x (takeShares inbox out) = length (relayOf sha256 x inbox)
+answered x (takeRelays inbox out) = length (resultBytes (resultOf sha256 x inbox))
+
+abbrev pub outcome : Party → Call → Option Result
+outcome x (agreeRoot z) = none
+outcome x (agreeBit bit out) = none
+outcome x (takeShares inbox out) = none
+outcome x (takeRelays inbox out) = some (resultOf sha256 x inbox)
+
+-- a tool that writes: turned away for a cause, or these bytes in the buffer (cause 9 where it is shorter)
+abbrev pub unless : ℕ → List ℕ → List ℕ → Given
+unless k bs out = cond (eqb k 0) (written bs out) (gave (Refused k) out)
+
+-- what comes of shares that are joined: cause 12, or a book
+abbrev pub causeJoined : Recovered → ℕ
+causeJoined (cause k) = k
+causeJoined (message m) = 0
+
+abbrev pub bookJoined : Recovered → List ℕ
+bookJoined (cause k) = []
+bookJoined (message m) = m
+
+-- leaf string j of a book is 0x00, j and share j
 abbrev pub leaves : ℕ → ℕ → List ℕ → List (List ℕ)
 leaves n t m = tabulate n (λ i. 0x00 ∷ (i + 1) ∷ share (n - t) (i + 1) m)
 
--- an accepted call as it is seen from outside: the agreed root and the bit answered; the agreed bit and the outbox; the first inbox and
--- the relay; the second inbox and the result
-pub data Done : Type 0 where
-  rooted : List ℕ → ℕ → Done
-  sent : ℕ → List ℕ → Done
-  relayed : List ℕ → List ℕ → Done
-  ended : List ℕ → Option Result → Done
+-- NIST's two examples for SHA-256, of one block and of two, and their digests
+abbrev pub exampleMessages : List (List ℕ)
+exampleMessages =
+    (0x61 ∷ 0x62 ∷ 0x63 ∷ [])
+    ∷ (0x61 ∷ 0x62 ∷ 0x63 ∷ 0x64 ∷ 0x62 ∷ 0x63 ∷ 0x64 ∷ 0x65 ∷ 0x63 ∷ 0x64 ∷ 0x65 ∷ 0x66 ∷ 0x64 ∷ 0x65 ∷ 0x66 ∷ 0x67
+    ∷ 0x65 ∷ 0x66 ∷ 0x67 ∷ 0x68 ∷ 0x66 ∷ 0x67 ∷ 0x68 ∷ 0x69 ∷ 0x67 ∷ 0x68 ∷ 0x69 ∷ 0x6a ∷ 0x68 ∷ 0x69 ∷ 0x6a ∷ 0x6b
+    ∷ 0x69 ∷ 0x6a ∷ 0x6b ∷ 0x6c ∷ 0x6a ∷ 0x6b ∷ 0x6c ∷ 0x6d ∷ 0x6b ∷ 0x6c ∷ 0x6d ∷ 0x6e ∷ 0x6c ∷ 0x6d ∷ 0x6e ∷ 0x6f
+    ∷ 0x6d ∷ 0x6e ∷ 0x6f ∷ 0x70 ∷ 0x6e ∷ 0x6f ∷ 0x70 ∷ 0x71 ∷ []) ∷ []
 
-abbrev pub stepIn : Done → ℕ
+abbrev pub exampleDigests : List (List ℕ)
+exampleDigests =
+    (0xba ∷ 0x78 ∷ 0x16 ∷ 0xbf ∷ 0x8f ∷ 0x01 ∷ 0xcf ∷ 0xea ∷ 0x41 ∷ 0x41 ∷ 0x40 ∷ 0xde ∷ 0x5d ∷ 0xae ∷ 0x22 ∷ 0x23
+    ∷ 0xb0 ∷ 0x03 ∷ 0x61 ∷ 0xa3 ∷ 0x96 ∷ 0x17 ∷ 0x7a ∷ 0x9c ∷ 0xb4 ∷ 0x10 ∷ 0xff ∷ 0x61 ∷ 0xf2 ∷ 0x00 ∷ 0x15 ∷ 0xad ∷ [])
+    ∷ (0x24 ∷ 0x8d ∷ 0x6a ∷ 0x61 ∷ 0xd2 ∷ 0x06 ∷ 0x38 ∷ 0xb8 ∷ 0xe5 ∷ 0xc0 ∷ 0x26 ∷ 0x93 ∷ 0x0c ∷ 0x3e ∷ 0x60 ∷ 0x39
+    ∷ 0xa3 ∷ 0x3c ∷ 0xe4 ∷ 0x59 ∷ 0x64 ∷ 0xff ∷ 0x21 ∷ 0x67 ∷ 0xf6 ∷ 0xec ∷ 0xed ∷ 0xd4 ∷ 0x19 ∷ 0xdb ∷ 0x06 ∷ 0xc1 ∷ []) ∷ []
+
+-- an accepted call, as whoever makes it sees it: the agreed root and the bit answered; the agreed bit and the outbox; the first inbox and the relay;
+-- the second inbox and the result
+pub data Act : Type 0 where
+  rooted : List ℕ → ℕ → Act
+  sent : ℕ → List ℕ → Act
+  relayed : List ℕ → List ℕ → Act
+  ended : List ℕ → Option Result → Act
+
+abbrev pub stepIn : Act → ℕ
 stepIn (rooted z b) = 2
 stepIn (sent b out) = 3
 stepIn (relayed inbox out) = 4
 stepIn (ended inbox r) = 5
 
 -- the first of step k
-unfoldable pub first : ℕ → List Done → Option Done
+unfoldable pub first : ℕ → List Act → Option Act
 first k [] = none
-first k (d ∷ ds) = cond (eqb (stepIn d) k) (some d) (first k ds)
+first k (a ∷ as') = cond (eqb (stepIn a) k) (some a) (first k as')
 
 -- bytes sent among n boxes: the packets without their lengths, a relay counted for each other box
-abbrev pub bytesIn : ℕ → Done → ℕ
+abbrev pub bytesIn : ℕ → Act → ℕ
 bytesIn n (rooted z b) = 0
 bytesIn n (sent b out) = lengths (bodies n out)
 bytesIn n (relayed inbox out) = (n - 1) * length out
 bytesIn n (ended inbox r) = 0
 
--- a good box: its number and book, the cause of its opening and the root that it gave, its accepted calls, the result that its state holds after all
--- its calls, and the strings that it hashed
+-- a good box: its number and book, the cause of its opening and the root that it gave, its accepted calls in their order, the result that its state
+-- holds after all calls, and the strings that it hashed, worked out from what it was given
 pub record Box : Type 0 where
   pub own : ℕ
   pub book : List ℕ
   pub cause : ℕ
   pub root : List ℕ
-  pub done : List Done
+  pub acts : List Act
   pub result : Option Result
   pub hashed : List (List ℕ)
 
 -- a party with its list of calls, as a box
-abbrev pub doneBy : Call → Stepped → Done
-doneBy (agreeRoot z) r = rooted z (r .value)
-doneBy (agreeBit bit out) r = sent bit (take (r .value) (r .buffer))
-doneBy (takeShares inbox out) r = relayed inbox (take (r .value) (r .buffer))
-doneBy (takeRelays inbox out) r = ended inbox (r .result)
+abbrev pub actOf : Call → Stepped → Act
+actOf (agreeRoot z) r = rooted z (r .value)
+actOf (agreeBit bit out) r = sent bit (take (r .value) (r .buffer))
+actOf (takeShares inbox out) r = relayed inbox (take (r .value) (r .buffer))
+actOf (takeRelays inbox out) r = ended inbox (r .result)
 
 abbrev pub partyBox : ℕ → ℕ → Good → Box
 partyBox n t A =
@@ -101,41 +158,47 @@ partyBox n t A =
       book = A .message;
       cause = openOf sha256 n t (A .own) (A .message) .cause;
       root = openOf sha256 n t (A .own) (A .message) .root;
-      done = map (λ (e : Event). doneBy (e .call) (e .reply)) (did sha256 n t (A .own) (A .message) (A .calls));
+      acts = map (λ (e : Event). actOf (e .call) (e .reply)) (did sha256 n t (A .own) (A .message) (A .calls));
       result = resultAfter sha256 n t (A .own) (A .message) (A .calls);
       hashed = hashed sha256 n t (A .own) (A .message) (A .calls);
     }
 
--- a host of the C interface, as a box: its number and book, the buffers that it lends to the opening for the state and for the root, and the calls that it
--- makes on the bytes of the state
+-- a host of the C interface: its number and book, the buffers that it lends to the opening, for the state and for the root, and the calls that it makes
+-- on the state's bytes
 pub record Host : Type 0 where
   pub own : ℕ
   pub book : List ℕ
-  pub state : List ℕ
-  pub root : List ℕ
+  pub stateRoom : List ℕ
+  pub rootRoom : List ℕ
   pub calls : List Call
 
--- a call was accepted where its number is below 2^32, which is then its value; after step 5 the length of a message is asked of the state
-abbrev pub seenBy : Call → Replies → Done
-seenBy (agreeRoot z) r = rooted z (r .number)
-seenBy (agreeBit bit out) r = sent bit (take (r .number) (r .out))
-seenBy (takeShares inbox out) r = relayed inbox (take (r .number) (r .out))
-seenBy (takeRelays inbox out) r = ended inbox (some (cond (eqb (r .number) 0) nothing (settled (take (resultLengthCall (r .state)) (r .out)))))
+-- a call is accepted where its number is below 2^32, and then that number is its value; after step 5 a book's length is asked of the state
+abbrev pub actSeen : Call → Replies → Act
+actSeen (agreeRoot z) r = rooted z (r .number)
+actSeen (agreeBit bit out) r = sent bit (take (r .number) (r .out))
+actSeen (takeShares inbox out) r = relayed inbox (take (r .number) (r .out))
+actSeen (takeRelays inbox out) r = ended inbox (some (cond (eqb (r .number) 0) nothing (settled (take (resultLengthCall (r .state)) (r .out)))))
 
-unfoldable pub seen : List ℕ → List Call → List Done
-seen s [] = []
-seen s (c ∷ cs) =
-    let r = called sha256 s c in cond (ltb (r .number) (2 ^ 32)) (seenBy c r ∷ seen (r .state) cs) (seen (r .state) cs)
+unfoldable pub actsSeen : List ℕ → List Call → List Act
+actsSeen s [] = []
+actsSeen s (c ∷ cs) =
+    let r = called sha256 s c in cond (ltb (r .number) (2 ^ 32)) (actSeen c r ∷ actsSeen (r .state) cs) (actsSeen (r .state) cs)
 
+-- as a box; its result is what the state's bytes say after all calls
 abbrev pub hostBox : ℕ → ℕ → Host → Box
 hostBox n t h =
-    let r = openCall sha256 n t (h .own) (h .book) (h .state) (h .root) in
+    let r = openCall sha256 n t (h .own) (h .book) (h .stateRoom) (h .rootRoom) in
     record {
       own = h .own;
       book = h .book;
       cause = r .number / 2 ^ 32;
       root = take 32 (r .out);
-      done = seen (r .state) (h .calls);
+      acts = actsSeen (r .state) (h .calls);
       result = resultIn (stateOf (left sha256 (r .state) (h .calls)));
       hashed = hashed sha256 n t (h .own) (h .book) (h .calls);
     }
+
+-- either
+abbrev pub boxOf : ℕ → ℕ → Good ⊎ Host → Box
+boxOf n t (inl A) = partyBox n t A
+boxOf n t (inr h) = hostBox n t h
