@@ -108,7 +108,7 @@ fn one_number_for_each_limit() {
     let source = Path::new(env!("CARGO_TARGET_TMPDIR")).join("limits.c");
     fs::write(&source, program()).expect("it is written");
     assert!(taken("gcc", "-std=c99", &source).expect("gcc runs"));
-    // Nothing else needs a compiler for C++, so one may be absent.
+    // A compiler for C++ may be absent.
     match taken("g++", "-std=c++11", &source) {
         Ok(verdict) => assert!(verdict),
         Err(error) => println!("left out, since there is no g++: {error}"),

@@ -78,7 +78,7 @@ fn message(text: &str) -> Result<Vec<u8>, String> {
 }
 
 /// A party's number, `=`, and what is said of it.
-fn of_box(text: &str) -> Result<(usize, &str), String> {
+fn of_party(text: &str) -> Result<(usize, &str), String> {
     let (own, rest) = text
         .split_once('=')
         .ok_or(format!("{text} has no =\n{USAGE}"))?;
@@ -121,11 +121,11 @@ impl Options {
             "--faults" => self.faults = number(value)?,
             "--book" => self.message = message(value)?,
             "--own-book" => {
-                let (own, text) = of_box(value)?;
+                let (own, text) = of_party(value)?;
                 self.own_messages.insert(own, message(text)?);
             }
             "--lie" => {
-                let (own, lie) = of_box(value)?;
+                let (own, lie) = of_party(value)?;
                 self.lies.insert(own, lie.parse()?);
             }
             "--limit-ms" => self.limit = Duration::from_millis(u64::from(number::<u32>(value)?)),
@@ -207,9 +207,10 @@ mod tests {
             assert!(parsed(&format!("{few} {more}")).is_err(), "{more}");
         }
         assert!(parsed("--parties 3 --faults 1").is_err());
-        for book in ["4", "no/such/file"] {
-            let error = parsed(&format!("--parties 3 --faults 1 --book {book}")).unwrap_err();
-            let expected = format!("{book} is neither hexadecimal, two digits for each byte, nor");
+        for message in ["4", "no/such/file"] {
+            let error = parsed(&format!("--parties 3 --faults 1 --book {message}")).unwrap_err();
+            let expected =
+                format!("{message} is neither hexadecimal, two digits for each byte, nor");
             assert!(error.starts_with(&expected), "{error}");
         }
     }

@@ -54,9 +54,8 @@ impl Peer {
 }
 
 impl Roster {
-    /// The rosters of all parties, by number from 1. Token n·i + j belongs to the link from party i
-    /// + 1 to party j + 1; those behind them are the agreement's, which demands and says the same
-    /// one.
+    /// The rosters of all parties, by number from 1. The link from party i + 1 to party j + 1 has
+    /// token n·i + j; those behind them are the agreement's, which demands and says the same one.
     pub fn all(ports: &[u16], agreement: u16, tokens: &[Token]) -> Vec<Roster> {
         let n = ports.len();
         let peer = |i: usize, j: usize| Peer {

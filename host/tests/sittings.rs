@@ -167,10 +167,10 @@ fn worked_sittings() {
 }
 
 #[test]
-fn books_from_files_and_of_any_length() {
-    let file = Path::new(env!("CARGO_TARGET_TMPDIR")).join("book");
+fn messages_from_files_and_of_any_length() {
+    let file = Path::new(env!("CARGO_TARGET_TMPDIR")).join("message");
     for (length, status) in [(0, 0), (1, 0), (MAX_MESSAGE, 0), (MAX_MESSAGE + 1, 2)] {
-        std::fs::write(&file, vec![7; length]).expect("the book is written");
+        std::fs::write(&file, vec![7; length]).expect("the message is written");
         let words = format!(
             "--parties 4 --faults 1 --own-book 4=41 --book {} {LIMIT}",
             file.display()
@@ -178,8 +178,8 @@ fn books_from_files_and_of_any_length() {
         let run = host(&words);
         assert_eq!(run.status, status, "length {length}");
         if status == 0 {
-            let book = format!("= {}", "07".repeat(length));
-            assert_eq!(run.results(), [book.trim_end(); 4]);
+            let message = format!("= {}", "07".repeat(length));
+            assert_eq!(run.results(), [message.trim_end(); 4]);
         }
     }
 }
@@ -198,7 +198,7 @@ fn a_broken_duty_breaks_the_sitting() {
 
 /// Where not even t + 1 parties speak, the agreement has no value; the good party says so and ends.
 #[test]
-fn a_box_left_alone_ends_with_an_error() {
+fn a_party_left_alone_ends_with_an_error() {
     let words = "--parties 3 --faults 1 --book 41 --lie 2=silent --lie 3=silent --limit-ms 100";
     let run = host(words);
     assert_eq!(run.status, 1);
@@ -207,7 +207,7 @@ fn a_box_left_alone_ends_with_an_error() {
 
 /// Nothing is settled where nobody is good.
 #[test]
-fn all_boxes_lying_are_no_sitting() {
+fn all_parties_lying_are_no_sitting() {
     let run = host("--parties 2 --faults 0 --book 41 --lie 1=noise --lie 2=silent");
     assert_eq!((run.status, run.lines.len()), (2, 0));
     assert_eq!(run.error, "host: no box is good: all 2 lie\n");

@@ -4,8 +4,6 @@
 //! nothing. An accepted call gives the value that the header `cipangohu.h` names, which also tells
 //! what each function does.
 
-#![allow(missing_docs)]
-
 use crate::cause::Cause;
 
 /// What a call answers, as it comes: the archive gives both numbers in one register.

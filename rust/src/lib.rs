@@ -60,7 +60,7 @@ pub use party::{Outcome, Party, Stage};
 /// A SHA-256 hash.
 pub type Hash = [u8; HASH];
 
-/// SHA-256 of at most [`MAX_HASHED`] bytes.
+/// SHA-256 of at most [`MAX_HASHED`] bytes. Cause: [`Cause::Length`].
 pub fn hash(message: &[u8]) -> Result<Hash, Cause> {
     let mut digest = [0; HASH];
     calls::hash(message, &mut digest).accepted()?;

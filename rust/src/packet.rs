@@ -16,7 +16,8 @@ pub struct Packet<'a> {
     pub path: &'a [u8],
 }
 
-/// What a packet among n parties holds, or nothing where it is silence.
+/// What a packet among n parties holds, or nothing where it is silence. Causes: [`Cause::Parties`],
+/// [`Cause::Packet`].
 ///
 /// ```
 /// use cipangohu::{check_path, entries, read_packet, Party, MAX_OUTBOX};
@@ -51,7 +52,8 @@ pub fn read_packet(n: usize, packet: &[u8]) -> Result<Option<Packet<'_>>, Cause>
     }))
 }
 
-/// Whether the path leads from share j of n to the root.
+/// Whether the path leads from share j of n to the root. Causes: [`Cause::Parties`],
+/// [`Cause::Number`], [`Cause::Length`].
 pub fn check_path(
     n: usize,
     j: usize,

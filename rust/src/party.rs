@@ -18,6 +18,7 @@ pub enum Outcome<'a> {
 
 /// What a party waits for, or how it ended.
 #[derive(Clone, Copy, Debug, PartialEq, Eq, Hash)]
+#[non_exhaustive]
 pub enum Stage {
     /// It waits for the agreed root: [`Party::agree_root`] is due.
     AwaitsRoot,
@@ -70,14 +71,16 @@ impl fmt::Debug for Party {
 
 impl Party {
     /// Step 1: party `own` of n, of which t may be bad, opens with a message. With it comes the root
-    /// that goes to the short agreement.
+    /// that goes to the short agreement. Causes: [`Cause::Parties`], [`Cause::Faults`],
+    /// [`Cause::Number`], [`Cause::Length`].
     pub fn open(n: usize, t: usize, own: usize, message: &[u8]) -> Result<(Party, Hash), Cause> {
         let (mut state, mut root) = ([0; STATE], [0; HASH]);
         calls::open((n, t, own), message, &mut state, &mut root).accepted()?;
         Ok((Party::from_state(&state)?, root))
     }
 
-    /// A party whose state was saved; of more bytes the first [`STATE`] count.
+    /// A party whose state was saved; of more bytes the first [`STATE`] count. Cause:
+    /// [`Cause::State`], also for a layout of another version than [`LAYOUT`](crate::LAYOUT).
     ///
     /// ```
     /// use cipangohu::{Cause, Party};
@@ -125,28 +128,30 @@ impl Party {
     }
 
     /// Step 2: takes the agreed root. The answer, whether the party is happy, goes to the second
-    /// agreement.
+    /// agreement. Cause: [`Cause::Step`].
     pub fn agree_root(&mut self, root: &Hash) -> Result<bool, Cause> {
         let answer = calls::agree_root(&mut self.state, root);
         Ok(self.stepped(answer)? == 1)
     }
 
     /// Step 3: takes the agreed bit and writes the outbox; the answer is its length. Room for any is
-    /// [`MAX_OUTBOX`](crate::MAX_OUTBOX). On `false` the party has ended with nothing.
+    /// [`MAX_OUTBOX`](crate::MAX_OUTBOX). On `false` the party has ended with nothing. Causes:
+    /// [`Cause::Step`], [`Cause::Room`].
     pub fn agree_bit(&mut self, bit: bool, out: &mut [u8]) -> Result<usize, Cause> {
         let answer = calls::agree_bit(&mut self.state, bit.into(), out);
         Ok(self.stepped(answer)? as usize)
     }
 
     /// Step 4: takes the first inbox and writes the relay for all others; the answer is its length.
-    /// Room for any is [`MAX_PACKET`](crate::MAX_PACKET).
+    /// Room for any is [`MAX_PACKET`](crate::MAX_PACKET). Causes: [`Cause::Step`],
+    /// [`Cause::Entries`], [`Cause::Room`].
     pub fn take_shares(&mut self, inbox: &[u8], out: &mut [u8]) -> Result<usize, Cause> {
         let answer = calls::take_shares(&mut self.state, inbox, out);
         Ok(self.stepped(answer)? as usize)
     }
 
     /// Step 5: takes the second inbox; the answer is the result, which [`Party::result`] gives from
-    /// then on.
+    /// then on. Causes: [`Cause::Step`], [`Cause::Entries`].
     pub fn take_relays(&mut self, inbox: &[u8]) -> Result<Outcome<'_>, Cause> {
         let answer = calls::take_relays(&mut self.state, inbox, &mut [0; MAX_MESSAGE]);
         self.stepped(answer)?;

@@ -2,6 +2,7 @@
 //! with the flags of pkg-config, against the archive and against the shared object, and run. Every
 //! warning is an error. Compilers beside gcc, pkg-config and man are left out where they are absent.
 
+use std::collections::BTreeSet;
 use std::fs;
 use std::path::{Path, PathBuf};
 use std::process::{Command, Output, Stdio};
@@ -73,6 +74,18 @@ fn prefix() -> &'static Path {
         assert!(told.ends_with(version), "{told}");
         prefix
     })
+}
+
+fn header() -> String {
+    fs::read_to_string(prefix().join("include/cipangohu.h")).expect("the header")
+}
+
+/// The function that a line of the header begins to tell of, and whether the header defines it.
+fn function(line: &str) -> Option<(&str, bool)> {
+    let name = line.split_once('(')?.0.rsplit([' ', '*']).next()?;
+    let starts = line.starts_with(|first: char| first.is_ascii_alphabetic());
+    let is_one = starts && name.starts_with("cipangohu_") && !name.contains('[');
+    is_one.then(|| (name, line.contains("static inline")))
 }
 
 /// The flags for whoever uses the library; those with which the header is found stand first.
@@ -180,19 +193,26 @@ fn the_man_page_is_rendered_without_a_warning() {
     let Output { stdout, stderr, .. } = man.output().expect("man runs");
     assert_eq!(String::from_utf8_lossy(&stderr), "");
     let text = String::from_utf8_lossy(&stdout);
-    let header = fs::read_to_string(repository().join("c/cipangohu.h")).expect("the header");
-    // Every function of the header stands in it.
-    let names = header
-        .lines()
-        .filter(|line| !line.starts_with([' ', '/', '#', '}']) && !line.starts_with("typedef"))
-        .filter_map(|line| line.split_once('(')?.0.rsplit([' ', '*']).next());
-    let mut count = 0;
-    for name in names.filter(|name| name.starts_with("cipangohu_")) {
+    let header = header();
+    for (name, _) in header.lines().filter_map(function) {
         assert!(text.contains(&format!("{name}(")), "{name}");
-        count += 1;
     }
-    println!("{count} functions");
-    assert!(count >= 22);
+}
+
+#[test]
+fn the_shared_object_has_the_names_of_the_header() {
+    let mut list = Command::new("nm");
+    list.args(["--dynamic", "--defined-only", "--format=just-symbols"])
+        .arg(prefix().join("lib/libcipangohu.so"));
+    let had: BTreeSet<String> = printed(&mut list).lines().map(String::from).collect();
+    let header = header();
+    let exported = header
+        .lines()
+        .filter_map(function)
+        .filter(|(_, inline)| !inline);
+    let told: BTreeSet<String> = exported.map(|(name, _)| name.to_string()).collect();
+    println!("{} functions", told.len());
+    assert_eq!(had, told);
 }
 
 #[test]
