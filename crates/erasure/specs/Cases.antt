@@ -3,6 +3,7 @@
 use mathlib.Core.Path.{_≡_, refl}
 use mathlib.Core.List.{List, [], _∷_}
 use Prim.Native.Nat.{ℕ}
+use lib.ListN.{drop, replicate}
 use Rattle.gf256.specs.Field.{timesX, product, power, inverse}
 use Rattle.gf256.specs.Cases.{product-case, inverse-case}
 use Rattle.limits.specs.Limits.{parties, groupCause}
@@ -10,7 +11,7 @@ use Rattle.buffer.specs.Splice.{spliced, tabulate}
 use Rattle.buffer.specs.Entries.{size, body, rest, fills, bodies}
 use Rattle.polynomial.specs.Polynomial.{sum, pow, value, factor, unit, numerator, denominator, basis, through}
 use Rattle.buffer.specs.Given.{gave, written}
-use Rattle.erasure.specs.Coding.{shareLength, headed, frame, block, shareByte, shareOf, share}
+use Rattle.erasure.specs.Coding.{shareLength, headed, frame, block, shareByte, shareOf, share, shares, encodeOf}
 use Rattle.erasure.specs.Rebuild.{present, point, framed, other, unframed, joined, recovered, rebuildOf}
 use Rattle.buffer.specs.declared.Written.the-variants.{Done}
 
@@ -26,38 +27,28 @@ pub record Cases : Type 0 where
   pub product-of : product 0x57 0x83 ≡ 0xC1
   pub inverse-of : inverse 0x02 ≡ 0x8D
   -- n 3, t 1, book 0x41 0x42: shares 41 40, 82 86, C3 C4
-  pub three-1 : share 2 1 ab ≡ 0x41 ∷ 0x40 ∷ []
-  pub three-2 : share 2 2 ab ≡ 0x82 ∷ 0x86 ∷ []
-  pub three-3 : share 2 3 ab ≡ 0xC3 ∷ 0xC4 ∷ []
+  pub three : encodeOf 3 1 ab (replicate 6 9) ≡ gave (Done 6) (0x41 ∷ 0x40 ∷ 0x82 ∷ 0x86 ∷ 0xC3 ∷ 0xC4 ∷ [])
   -- shares 2 and 3 of it alone rebuild it
   pub rebuilt : rebuildOf 3 1 two-and-three (7 ∷ 8 ∷ 9 ∷ []) ≡ gave (Done 2) (0x41 ∷ 0x42 ∷ 9 ∷ [])
-  -- n 5, t 2, same book: share 4 is 1F 11, share 5 is 5E 53
-  pub five-4 : share 3 4 ab ≡ 0x1F ∷ 0x11 ∷ []
-  pub five-5 : share 3 5 ab ≡ 0x5E ∷ 0x53 ∷ []
+  -- n 5, t 2, same book: share 4 is 1F 11, share 5 is 5E 53 (they stand behind three shares of two bytes)
+  pub five : encodeOf 5 2 ab (replicate 10 9) .answer ≡ Done 10
+  pub five-last : drop 6 (encodeOf 5 2 ab (replicate 10 9) .buffer) ≡ 0x1F ∷ 0x11 ∷ 0x5E ∷ 0x53 ∷ []
   -- n 2, t 0, book 0x41: shares 41 01, 82 01
-  pub two-1 : share 2 1 (0x41 ∷ []) ≡ 0x41 ∷ 0x01 ∷ []
-  pub two-2 : share 2 2 (0x41 ∷ []) ≡ 0x82 ∷ 0x01 ∷ []
+  pub two : encodeOf 2 0 (0x41 ∷ []) (replicate 4 9) ≡ gave (Done 4) (0x41 ∷ 0x01 ∷ 0x82 ∷ 0x01 ∷ [])
   -- empty book, n 3, t 1: three shares of one zero byte
-  pub empty-1 : share 2 1 [] ≡ 0 ∷ []
-  pub empty-2 : share 2 2 [] ≡ 0 ∷ []
-  pub empty-3 : share 2 3 [] ≡ 0 ∷ []
+  pub empty : encodeOf 3 1 [] (replicate 3 9) ≡ gave (Done 3) (0 ∷ 0 ∷ 0 ∷ [])
 
 pub cases : Cases
-unfolding share shareOf shareByte shareLength frame headed block tabulate value sum pow product timesX power inverse rebuildOf parties groupCause
+unfolding encodeOf shares share shareOf shareByte shareLength frame headed block tabulate value sum pow product timesX power inverse rebuildOf parties groupCause
     fills bodies size body rest present point recovered joined framed other unframed written spliced through basis numerator denominator
     factor unit
 cases = record {
   product-of = product-case;
   inverse-of = inverse-case;
-  three-1 = refl;
-  three-2 = refl;
-  three-3 = refl;
+  three = refl;
   rebuilt = refl;
-  five-4 = refl;
-  five-5 = refl;
-  two-1 = refl;
-  two-2 = refl;
-  empty-1 = refl;
-  empty-2 = refl;
-  empty-3 = refl;
+  five = refl;
+  five-last = refl;
+  two = refl;
+  empty = refl;
 }
