@@ -63,6 +63,6 @@ combined b s table es from =
     tabulate (b * s)
     (λ i. sum bytes b (λ m. product (getD table (cell (i / s) m) 0) (getD es (getD from m 0 + i % s) 0)))
 
--- the message in a frame whose length was judgedFrame: cause 12 where the filling is not all zero
+-- the message in a frame whose length was judged: cause 12 where the filling is not all zero
 unfoldable pub judgedFrame : List ℕ → Recovered
 judgedFrame f = cond (other 0 (rest f)) (cause 12) (message (body f))

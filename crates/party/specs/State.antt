@@ -88,7 +88,7 @@ atEnd s r =
       held = 0;
     }
 
--- a result resultFrom by its outcome, with the bytes beside it
+-- a result told by its outcome, with the bytes beside it
 abbrev pub resultFrom : Outcome → List ℕ → Result
 resultFrom Nothing bs = nothing
 resultFrom (Message l) bs = settled (take l bs)
