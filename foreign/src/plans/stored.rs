@@ -136,6 +136,26 @@ fn of_three(bad: usize) -> Draft {
     draft
 }
 
+/// A plan as long as may be.
+fn brim() -> Draft {
+    let mut brim = of_three(1);
+    brim.stretch(LONGEST_PLAN);
+    brim
+}
+
+/// It, and that plan with a byte more: a program that reads a byte less than it has to takes both
+/// for the same.
+pub fn edge() -> [Vec<u8>; 2] {
+    let plan = brim().bytes();
+    let over = [&plan[..], &[0]].concat();
+    [plan, over]
+}
+
+/// Plans that are handed to a program in parts: those that a person can run, and the longest.
+pub fn parted() -> impl Iterator<Item = Vec<u8>> {
+    KEPT.into_iter().map(<[u8]>::to_vec).chain(edge())
+}
+
 /// A plan as long as may be, and plans that are one byte longer: causes 1 and 2 come before
 /// that, the others after it.
 fn longest() -> [Made; 5] {
@@ -145,10 +165,8 @@ fn longest() -> [Made; 5] {
         draft.stretch(LONGEST_PLAN + 1);
         draft.made(Size::Small, [&[Damage::Oversize], damages].concat())
     };
-    let mut brim = of_three(1);
-    brim.stretch(LONGEST_PLAN);
     [
-        brim.made(Size::Brim, vec![]),
+        brim().made(Size::Brim, vec![]),
         over(&[], |_| {}),
         over(&[Damage::Parties], |draft| {
             draft.head[0] = MOST_PARTIES as u8 + 1
@@ -274,6 +292,15 @@ mod tests {
         for text in ["refused 1", "refused 2", "refused 13"] {
             assert!(seen.contains(&of(1, text)), "{text}");
         }
+    }
+
+    #[test]
+    fn a_byte_more_than_the_longest_is_refused() {
+        let [plan, over] = edge();
+        assert_eq!((plan.len(), over.len()), (60_000, 60_001));
+        assert_eq!(over[..plan.len()], plan);
+        assert!(play(&plan).is_ok());
+        assert_eq!(rehearse(&over), b"refused 13\n");
     }
 
     /// The small plans are sound, and the last one has packets in both exchanges.
