@@ -1,4 +1,4 @@
-//! A stand-in for the short agreement, a service that all trust. It keeps document 01's rule while
+//! A stand-in for the short agreement, a service that all trust. It keeps the agreement's rule while
 //! at most t parties lie: all get one value, and if all good parties put in the same value, it is
 //! that one. A real host runs a protocol among the parties in its place.
 

@@ -36,8 +36,8 @@ fn tell(line: &str) -> Result<(), String> {
         .map_err(|error| error.to_string())
 }
 
-/// The line that reports how a good party ended: the bytes it sent, and its result as document 01
-/// prints it.
+/// The line that reports how a good party ended: the bytes it sent, and its result as a
+/// rehearsal prints it.
 fn reported(ended: Result<Report, Failure>) -> String {
     match ended {
         Ok(Report { party, sent }) => match party.result() {

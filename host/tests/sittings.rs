@@ -148,7 +148,7 @@ fn one_seed_gives_one_sitting() {
     }
 }
 
-/// The figures that document 01 gives.
+/// The figures of the worked plans.
 #[test]
 fn worked_sittings() {
     let silent = format!("--parties 3 --faults 1 --lie 3=silent {LIMIT}");
