@@ -40,7 +40,7 @@ use Rattle.claims.specs.Terms.{Act, ended, Box, partyBox, Host, actSeen,
 use Rattle.claims.specs.Claims.{HostOpeningTells, HostStepTells, EveryCallTellsItsOutcome, Sitting, OneResult, AllGoodHostsEndWithOneResult}
 use Rattle.claims.proofs.Lists.{in-map, map-map, map-same}
 use Rattle.claims.proofs.Steps.{opening-tells, step-tells}
-use Rattle.claims.proofs.Tools.{shares-told, rebuild-told, hash-told, check-told, check-passed, check-passes}
+use Rattle.claims.proofs.Tools.{shares-told, rebuild-told, hash-told, length-told, check-told, check-yes, packet-told}
 use Rattle.claims.proofs.Parties.{view, all-good-boxes-end-with-one-result}
 
 -- a call: its number, and the buffer
@@ -168,9 +168,10 @@ every-call-tells-its-outcome =
       shares = shares-told;
       rebuild = rebuild-told;
       hash = hash-told;
+      path-length = length-told;
       check = check-told;
-      check-yes = check-passed;
-      check-no = check-passes;
+      check-yes = check-yes;
+      packet = packet-told;
     }
 
 -- an accepted call, as a host sees it

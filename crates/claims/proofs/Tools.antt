@@ -14,11 +14,14 @@ use Rattle.erasure.specs.Coding.{shareLength, shares, encodeOf}
 use Rattle.erasure.specs.Rebuild.{Point, cause, message, present, point, framed, other, unframed, joined, recovered, answered, rebuildOf}
 use Rattle.sha256.specs.Sha256.{sha256, hashOf}
 use Rattle.sha256.specs.declared.Hashed.{Hashed}
-use Rattle.merkle.specs.Answer.{notChecked, answerOf}
-use Rattle.merkle.specs.Tree.{shape, sides, folded}
-use Rattle.merkle.specs.Shares.{blank, leafString, same, passes, checkOf}
+use Rattle.merkle.specs.Answer.{notCounted, countOf, Check, notChecked, answerOf}
+use Rattle.merkle.specs.Tree.{shape, sides}
+use Rattle.merkle.specs.Shares.{blank, leafString, same, passes, pathLengthOf, checkOf}
 use Rattle.merkle.proofs.Judged.{passes-true, passes-same, same-refl}
-use Rattle.claims.specs.Terms.{when, foremost, groupThen, unless, causeJoined, bookJoined}
+use Rattle.packet.specs.Format.{Reading, silence, unreadable, shared, readOf}
+use Rattle.packet.specs.Answer.{causeIn, placed, readAt}
+use Rattle.packet.specs.declared.Packet.the-variants as packet
+use Rattle.claims.specs.Terms.{when, foremost, groupThen, unless, causeJoined, bookJoined, unread, Leads}
 
 -- shares
 pub shares-told : (n t : ℕ) (m out : List ℕ)
@@ -86,33 +89,65 @@ module _ (n j : ℕ) (x : List ℕ) (p : List (List ℕ)) (k : ℕ) (z : List �
       go false false false true q = refl
       go false false false false q = refl
 
-  pub check-passed : checkOf sha256 n j x p k z .passed ≡ true
-      → (k ≡ length (sides (shape n) (j - 1))) × (folded sha256 (sides (shape n) (j - 1)) (take k p) (sha256 (0x00 ∷ j ∷ x)) ≡ z)
-  unfolding checkOf leafString
-  check-passed h =
-      passes-true sha256 n j x p k z
-      (go (not (parties n)) (not (numbered n j)) (ltb maxHashed (2 + length x)) (not (eqb (length z) 32)) (passes sha256 n j x p k z) h)
-    where
-      go : (a b d e q : Bool)
-          → cond a (notChecked 1) (cond b (notChecked 3) (cond d (notChecked 4) (cond e (notChecked 7) (answerOf q)))) .passed ≡ true → q ≡ true
-      go true b d e q h = absurd (false≢true h)
-      go false true d e q h = absurd (false≢true h)
-      go false false true e q h = absurd (false≢true h)
-      go false false false true q h = absurd (false≢true h)
-      go false false false false q h = h
+  abbrev tested : Bool → Bool → Bool → Bool → Bool → Check
+  tested a b d e q = cond a (notChecked 1) (cond b (notChecked 3) (cond d (notChecked 4) (cond e (notChecked 7) (answerOf q))))
 
-  pub check-passes : checkOf sha256 n j x p k z .cause ≡ 0 → k ≡ length (sides (shape n) (j - 1))
-      → folded sha256 (sides (shape n) (j - 1)) (take k p) (sha256 (0x00 ∷ j ∷ x)) ≡ z → checkOf sha256 n j x p k z .passed ≡ true
+  pub check-yes : let r = checkOf sha256 n j x p k z in
+      (r .passed ≡ true → (r .cause ≡ 0) × Leads n j x p k z) × (r .cause ≡ 0 → Leads n j x p k z → r .passed ≡ true)
   unfolding checkOf leafString
-  check-passes h counted leads =
-      go (not (parties n)) (not (numbered n j)) (ltb maxHashed (2 + length x)) (not (eqb (length z) 32)) (passes sha256 n j x p k z) h
-      ∙ passes-same sha256 n j x p k z counted ∙ ap (λ (y : List ℕ). same y z) leads ∙ same-refl z
+  check-yes = (
+    λ h. let g = passed a b d e q h in (g .0, passes-true sha256 n j x p k z (g .1)),
+    λ h l. taken a b d e q h ∙ passes-same sha256 n j x p k z (l .0) ∙ ap (λ (y : List ℕ). same y z) (l .1) ∙ same-refl z,
+  )
     where
-      go : (a b d e q : Bool)
-          → cond a (notChecked 1) (cond b (notChecked 3) (cond d (notChecked 4) (cond e (notChecked 7) (answerOf q)))) .cause ≡ 0
-          → cond a (notChecked 1) (cond b (notChecked 3) (cond d (notChecked 4) (cond e (notChecked 7) (answerOf q)))) .passed ≡ q
-      go true b d e q h = absurd (omega arith)
-      go false true d e q h = absurd (omega arith)
-      go false false true e q h = absurd (omega arith)
-      go false false false true q h = absurd (omega arith)
-      go false false false false q h = refl
+      a : Bool
+      a = not (parties n)
+
+      b : Bool
+      b = not (numbered n j)
+
+      d : Bool
+      d = ltb maxHashed (2 + length x)
+
+      e : Bool
+      e = not (eqb (length z) 32)
+
+      q : Bool
+      q = passes sha256 n j x p k z
+
+      passed : (a b d e q : Bool) → tested a b d e q .passed ≡ true → (tested a b d e q .cause ≡ 0) × (q ≡ true)
+      passed true b d e q h = absurd (false≢true h)
+      passed false true d e q h = absurd (false≢true h)
+      passed false false true e q h = absurd (false≢true h)
+      passed false false false true q h = absurd (false≢true h)
+      passed false false false false q h = (refl, h)
+
+      taken : (a b d e q : Bool) → tested a b d e q .cause ≡ 0 → tested a b d e q .passed ≡ q
+      taken true b d e q h = absurd (omega arith)
+      taken false true d e q h = absurd (omega arith)
+      taken false false true e q h = absurd (omega arith)
+      taken false false false true q h = absurd (omega arith)
+      taken false false false false q h = refl
+
+-- the length of a path
+pub length-told : (n j : ℕ) → (pathLengthOf n j .cause ≡ foremost (when 1 (not (parties n)) ∷ when 3 (not (numbered n j)) ∷ []))
+    × (pathLengthOf n j .hashes ≡ cond (eqb (pathLengthOf n j .cause) 0) (length (sides (shape n) (j - 1))) 0)
+unfolding pathLengthOf foremost
+length-told n j = go (not (parties n)) (not (numbered n j)) (length (sides (shape n) (j - 1)))
+  where
+    go : (a b : Bool) (k : ℕ) → let r = cond a (notCounted 1) (cond b (notCounted 3) (countOf k)) in
+        (r .cause ≡ foremost (when 1 a ∷ when 3 b ∷ [])) × (r .hashes ≡ cond (eqb (r .cause) 0) k 0)
+    go true b k = (refl, refl)
+    go false true k = (refl, refl)
+    go false false k = (refl, refl)
+
+-- a packet
+pub packet-told : (n : ℕ) (p : List ℕ) → causeIn (readAt n p 0) ≡ foremost (when 1 (not (parties n)) ∷ when 10 (unread (readOf n p)) ∷ [])
+unfolding readAt foremost
+packet-told n p = go (not (parties n)) (readOf n p)
+  where
+    go : (a : Bool) (r : Reading) → causeIn (cond a (packet.Refused 1) (placed 0 r)) ≡ foremost (when 1 a ∷ when 10 (unread r) ∷ [])
+    go true r = refl
+    go false silence = refl
+    go false unreadable = refl
+    go false (shared number share path) = refl

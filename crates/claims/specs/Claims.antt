@@ -19,11 +19,12 @@ use Rattle.erasure.specs.Coding.{shareLength, share, shares, encodeOf}
 use Rattle.erasure.specs.Rebuild.{present, point, joined, rebuildOf}
 use Rattle.sha256.specs.Constants.{Bits, primes}
 use Rattle.sha256.specs.Sha256.{K, initial, sha256, hashOf}
-use Rattle.merkle.specs.Tree.{split, shape, sides, root, path, folded}
+use Rattle.merkle.specs.Tree.{split, shape, sides, root, path}
 use Rattle.merkle.specs.Strings.{Collision}
 use Rattle.merkle.specs.Height.{height}
-use Rattle.merkle.specs.Shares.{blank, codingStrings, checkOf}
-use Rattle.packet.specs.Format.{chained}
+use Rattle.merkle.specs.Shares.{blank, codingStrings, pathLengthOf, checkOf}
+use Rattle.packet.specs.Format.{chained, readOf}
+use Rattle.packet.specs.Answer.{causeIn, readAt}
 use Rattle.packet.specs.Class.{valid, classOf, classStrings}
 use Rattle.commitment.specs.Commitment.{messageRoot, packetWith}
 use Rattle.party.specs.State.{Result, nothing, settled, seatOf, atRoot, blankState, broken}
@@ -34,8 +35,8 @@ use Rattle.agreement.specs.Calls.{Call, stepOf, made, entry}
 use Rattle.agreement.specs.Agreement.{Good, different, absent, sumOver, joinOver}
 use Rattle.state_bytes.specs.Layout.{stateLength, stateBytes, stateOf}
 use Rattle.capi.specs.Calls.{packed, valueShown, Replies, openCall, called}
-use Rattle.claims.specs.Terms.{when, foremost, groupThen, lent, wrong, due, next, answered, outcome, unless, causeJoined, bookJoined}
-use Rattle.claims.specs.Terms.{leaves, exampleMessages, exampleDigests, rooted, sent, relayed, ended, first, bytesIn, Box, partyBox, Host, boxOf}
+use Rattle.claims.specs.Terms.{when, foremost, groupThen, lent, wrong, due, next, answered, outcome, unless, causeJoined, bookJoined, unread}
+use Rattle.claims.specs.Terms.{Leads, leaves, exampleMessages, exampleDigests, rooted, sent, relayed, ended, first, bytesIn, Box, partyBox, Host, boxOf}
 
 -- DEMAND 1. The opening, a step on any state, and both on bytes: the cause, what a refusal keeps, what an accepted call gives, and that a lawful one is
 -- accepted. Cause 9 tells the length needed
@@ -71,19 +72,20 @@ pub record EveryCallTellsItsOutcome : Type 0 where
   pub step : (x : Party) (c : Call) → StepTells x c (made sha256 x c)
   pub host-opening : (n t own : ℕ) (m s z : List ℕ) → HostOpeningTells s z (openOf sha256 n t own m) (openCall sha256 n t own m s z)
   pub host-step : (s : List ℕ) (c : Call) → HostStepTells s c (made sha256 (stateOf s) c) (called sha256 s c)
-  -- the tools: shares, rebuilding from the n - t lowest-numbered shares present, hash and path check
+  -- the tools: shares, rebuilding from the n - t lowest-numbered shares present, hash, path and its check, packet. On bytes, and of a state that is asked for its
+  -- stage, own number or result's length, their contracts are the definitions of `capi`
   pub shares : (n t : ℕ) (m out : List ℕ) → encodeOf n t m out ≡ unless (groupThen n t (when 4 (ltb maxMessage (length m)) ∷ [])) (shares n (n - t) m) out
   pub rebuild : (n t : ℕ) (es out : List ℕ) → let ps = present 1 (bodies n es) in let r = joined (n - t) (length (point ps 0 .share)) (take (n - t) ps) in
       rebuildOf n t es out ≡ unless (groupThen n t (when 8 (not (fills n es)) ∷ when 11 (ltb (length ps) (n - t)) ∷ causeJoined r ∷ [])) (bookJoined r) out
   pub hash : (m : List ℕ) → hashOf m ≡ record { cause = when 4 (ltb maxHashed (length m)); digest = cond (ltb maxHashed (length m)) blank (sha256 m) }
+  pub path-length : (n j : ℕ) → (pathLengthOf n j .cause ≡ foremost (when 1 (not (parties n)) ∷ when 3 (not (numbered n j)) ∷ []))
+      × (pathLengthOf n j .hashes ≡ cond (eqb (pathLengthOf n j .cause) 0) (length (sides (shape n) (j - 1))) 0)
   pub check : (n j : ℕ) (x : List ℕ) (p : List (List ℕ)) (k : ℕ) (z : List ℕ) → checkOf sha256 n j x p k z .cause
       ≡ foremost (when 1 (not (parties n)) ∷ when 3 (not (numbered n j)) ∷ when 4 (ltb maxHashed (2 + length x)) ∷ when 7 (not (eqb (length z) 32)) ∷ [])
   -- yes exactly if the path has the right length and folds to the root, whoever made it
-  pub check-yes : (n j : ℕ) (x : List ℕ) (p : List (List ℕ)) (k : ℕ) (z : List ℕ) → checkOf sha256 n j x p k z .passed ≡ true
-      → (k ≡ length (sides (shape n) (j - 1))) × (folded sha256 (sides (shape n) (j - 1)) (take k p) (sha256 (0x00 ∷ j ∷ x)) ≡ z)
-  pub check-no : (n j : ℕ) (x : List ℕ) (p : List (List ℕ)) (k : ℕ) (z : List ℕ) → checkOf sha256 n j x p k z .cause ≡ 0
-      → k ≡ length (sides (shape n) (j - 1)) → folded sha256 (sides (shape n) (j - 1)) (take k p) (sha256 (0x00 ∷ j ∷ x)) ≡ z
-      → checkOf sha256 n j x p k z .passed ≡ true
+  pub check-yes : (n j : ℕ) (x : List ℕ) (p : List (List ℕ)) (k : ℕ) (z : List ℕ) → let r = checkOf sha256 n j x p k z in
+      (r .passed ≡ true → (r .cause ≡ 0) × Leads n j x p k z) × (r .cause ≡ 0 → Leads n j x p k z → r .passed ≡ true)
+  pub packet : (n : ℕ) (p : List ℕ) → causeIn (readAt n p 0) ≡ foremost (when 1 (not (parties n)) ∷ when 10 (unread (readOf n p)) ∷ [])
 
 -- DEMAND 2. A book among n boxes of which t may be bad, within the limits
 pub record Book (n t : ℕ) (m : List ℕ) : Type 0 where
@@ -134,7 +136,8 @@ pub record ARootHasOneBook : Type 0 where
       → (m ≡ o) ⊎ Collision sha256 (codingStrings sha256 n (shares n (n - t) m)) (codingStrings sha256 n (shares n (n - t) o))
 
 pub record HashesAreFIPS180-4s : Type 0 where
-  -- 4.2.2 and 5.3.3: the constants are the bits of cube and square roots of the first primes; and the published examples
+  -- 4.2.2 and 5.3.3: the constants are the bits of cube and square roots of the first primes; and the published examples. The rest of the standard is the
+  -- definition itself, in its order and letters (`sha256` Sha256)
   pub constants : (i : ℕ) → i < 64 → Bits 3 (getD (primes 312) i 0) (getD K i 0)
   pub words : (i : ℕ) → i < 8 → Bits 2 (getD (primes 20) i 0) (getD initial i 0)
   pub examples : map sha256 exampleMessages ≡ exampleDigests

@@ -1,6 +1,7 @@
 -- The words of the claims: causes in their order, what a step is lent and has to do, and what is told of a good box, be it a party with its states or a
 -- host of the C interface with bytes. Assumes nothing.
-use mathlib.Core.Bool.{Bool, cond, not}
+use mathlib.Core.Path.{_≡_}
+use mathlib.Core.Bool.{Bool, true, false, cond, not}
 use mathlib.Core.List.{List, [], _∷_, map}
 use mathlib.Core.Logic.{_⊎_, inl, inr}
 use mathlib.Core.Option.{Option, none, some}
@@ -15,6 +16,8 @@ use Rattle.buffer.specs.declared.Written.the-variants.{Refused}
 use Rattle.erasure.specs.Coding.{share}
 use Rattle.erasure.specs.Rebuild.{Recovered, cause, message}
 use Rattle.sha256.specs.Sha256.{sha256}
+use Rattle.merkle.specs.Tree.{shape, sides, folded}
+use Rattle.packet.specs.Format.{Reading, silence, unreadable, shared}
 use Rattle.party.specs.State.{Result, nothing, settled, resultBytes, resultIn, messageIn, atBit, atFirst, atSecond, atEnd, happy}
 use Rattle.party.specs.Steps.{openOf, Stepped, outboxOf, relayOf, heldOf, resultOf}
 use Rattle.party.specs.declared.Party.{Party}
@@ -80,12 +83,23 @@ unless k bs out = cond (eqb k 0) (written bs out) (gave (Refused k) out)
 
 -- what comes of shares that are joined: cause 12, or a book
 abbrev pub causeJoined : Recovered → ℕ
-causeJoined (cause k) = k
+causeJoined (cause k) = 12
 causeJoined (message m) = 0
 
 abbrev pub bookJoined : Recovered → List ℕ
 bookJoined (cause k) = []
 bookJoined (message m) = m
+
+-- a packet that was read is neither silence nor a share
+abbrev pub unread : Reading → Bool
+unread silence = false
+unread unreadable = true
+unread (shared number share path) = false
+
+-- the first k hashes of a path are as many as n and j give, and fold from share j to the root z
+abbrev pub Leads : ℕ → ℕ → List ℕ → List (List ℕ) → ℕ → List ℕ → Type 0
+Leads n j x p k z =
+    (k ≡ length (sides (shape n) (j - 1))) × (folded sha256 (sides (shape n) (j - 1)) (take k p) (sha256 (0x00 ∷ j ∷ x)) ≡ z)
 
 -- leaf string j of a book is 0x00, j and share j
 abbrev pub leaves : ℕ → ℕ → List ℕ → List (List ℕ)
