@@ -44,6 +44,8 @@ static void check_append(void) {
     }
     answer = cipangohu_append(entries, SIZE_MAX, 0, long_entry, sizeof long_entry);
     CHECK(answer.cause == CIPANGOHU_CAUSE_LENGTH && answer.value == 0);
+    answer = cipangohu_append(entries, SIZE_MAX, (size_t)CIPANGOHU_INBOX + 1, NULL, 0);
+    CHECK(answer.cause == CIPANGOHU_CAUSE_LENGTH && answer.value == 0);
     CHECK(memcmp(entries, "\0\0\0\4ABCD\7", 9) == 0);
 }
 

@@ -16,12 +16,12 @@
  * ignored. Of a longer buffer the first CIPANGOHU_STATE bytes are the state.
  *
  * An answer has a cause, 0 if the call was accepted, and a value. With cause 9 the value is the length that the buffer needs; of all other
- * refusals it is 0. A refused call leaves every lent byte as it was, and no call writes past the length that it gives. Where several causes apply,
- * the one that stands first behind "Causes" is given.
+ * refusals it is 0. A refused call leaves every lent byte as it was, and bytes of a buffer past what is written keep their values. Where several
+ * causes apply, the one that stands first behind "Causes" is given.
  *
  * An entry is a two-byte length and as many bytes, up to CIPANGOHU_ENTRY; n of them, in number order, make an inbox, an outbox, or what is rebuilt
- * from. In an inbox entry k is what party k sent, length 0 if it sent nothing. A packet in it that cannot be read or fails the check is passed
- * over, and so is the own entry.
+ * from. In an inbox entry k is what party k sent, length 0 if it sent nothing. A packet in it that cannot be read, bears a number that it should not
+ * (in the first inbox any but the own, in the second any but the sender's) or fails the check is passed over, and so is the own entry.
  *
  * A buffer that a call writes overlaps no other buffer of that call. Through a pointer with length 0 nothing is read or written. Nothing is
  * global: calls on different buffers may run at once. In trials every call fits a stack of 256 KiB; docs/FIGURES.md tells what each takes. */
@@ -70,7 +70,7 @@ enum cipangohu_causes {
     CIPANGOHU_CAUSE_NUMBER = 3,      /* a number that is not 1 to n */
     CIPANGOHU_CAUSE_LENGTH = 4,      /* too long a message, string, share or entry */
     CIPANGOHU_CAUSE_STATE = 5,       /* not a state */
-    CIPANGOHU_CAUSE_STEP = 6,        /* not the step that is due */
+    CIPANGOHU_CAUSE_STEP = 6,        /* not the step that is due, or no result to tell of */
     CIPANGOHU_CAUSE_ROOT_OR_BIT = 7, /* a root that is not CIPANGOHU_ROOT bytes, or a bit that is not 0 or 1 */
     CIPANGOHU_CAUSE_ENTRIES = 8,     /* entries that run short or leave bytes over */
     CIPANGOHU_CAUSE_ROOM = 9,        /* a buffer too short for what is written */
@@ -128,8 +128,8 @@ CIPANGOHU_MUST_USE cipangohu_answer cipangohu_open(size_t n, size_t t, size_t ow
 /* Step 2, the agreed root. Value: the party's bit, 1 if it is happy, else 0, for the second short agreement. Causes 5, 6, 7. */
 CIPANGOHU_MUST_USE cipangohu_answer cipangohu_agree_root(uint8_t *state, size_t state_len, const uint8_t *root, size_t root_len);
 
-/* Step 3, the agreed bit: writes n entries to out, each the packet for that party, all of length 0 where nothing is to be sent. On bit 0
- * the party has ended with nothing. Value: the bytes written. Causes 5, 6, 7, 9. */
+/* Step 3, the agreed bit: writes n entries to out, each the packet for that party, the own one of length 0, and all where nothing is to be sent.
+ * On bit 0 the party has ended with nothing. Value: the bytes written. Causes 5, 6, 7, 9. */
 CIPANGOHU_MUST_USE cipangohu_answer cipangohu_agree_bit(uint8_t *state, size_t state_len, size_t bit, uint8_t *out, size_t out_len);
 
 /* Step 4, the first inbox: writes the packet to relay to all others. Value: the bytes written, 0 if there is none. Causes 5, 6, 8, 9. */
@@ -186,7 +186,7 @@ static inline const char *cipangohu_cause_text(uint32_t cause) {
     case CIPANGOHU_CAUSE_NUMBER: return "the number is no party's";
     case CIPANGOHU_CAUSE_LENGTH: return "the message, string, share or entry is too long";
     case CIPANGOHU_CAUSE_STATE: return "the bytes are no state";
-    case CIPANGOHU_CAUSE_STEP: return "the party is not at this step";
+    case CIPANGOHU_CAUSE_STEP: return "the call does not fit the party's stage";
     case CIPANGOHU_CAUSE_ROOT_OR_BIT: return "the root has not the length of a hash, or the bit is not 0 or 1";
     case CIPANGOHU_CAUSE_ENTRIES: return "the entries run short or leave bytes over";
     case CIPANGOHU_CAUSE_ROOM: return "the buffer is too short";
@@ -215,11 +215,11 @@ static inline cipangohu_bytes cipangohu_entry(const uint8_t *entries, size_t ent
 }
 
 /* Writes bytes as an entry behind the first `used` bytes of a buffer, which are those of the entries before it. Value: the bytes then used. Causes
- * 4 (over CIPANGOHU_ENTRY bytes), 9. */
+ * 4 (over CIPANGOHU_ENTRY bytes, or behind more than CIPANGOHU_INBOX), 9. */
 CIPANGOHU_MUST_USE static inline cipangohu_answer cipangohu_append(uint8_t *entries, size_t entries_len, size_t used,
                                                                    const uint8_t *bytes, size_t bytes_len) {
     cipangohu_answer answer = {0, CIPANGOHU_CAUSE_LENGTH};
-    if (bytes_len > CIPANGOHU_ENTRY) return answer;
+    if (bytes_len > CIPANGOHU_ENTRY || used > CIPANGOHU_INBOX) return answer;
     answer.value = (uint32_t)(used + 2 + bytes_len);
     answer.cause = CIPANGOHU_CAUSE_ROOM;
     if (used > entries_len || entries_len - used < 2 + bytes_len) return answer;

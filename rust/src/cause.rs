@@ -28,7 +28,7 @@ pub enum Cause {
     Length,
     /// Cause 5: bytes that are no state.
     State,
-    /// Cause 6: not the step that is due.
+    /// Cause 6: not the step that is due, or no result to tell of.
     Step,
     /// Cause 7: a root that is not [`HASH`](crate::HASH) bytes, or a bit that is not 0 or 1. The
     /// types here leave no room for it.
@@ -97,7 +97,7 @@ impl Cause {
             Cause::Number => "the number is no party's",
             Cause::Length => "the message, string, share or entry is too long",
             Cause::State => "the bytes are no state",
-            Cause::Step => "the party is not at this step",
+            Cause::Step => "the call does not fit the party's stage",
             Cause::RootOrBit => "the root has not the length of a hash, or the bit is not 0 or 1",
             Cause::Entries => "the entries run short or leave bytes over",
             Cause::Room { .. } => "the buffer is too short",

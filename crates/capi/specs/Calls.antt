@@ -52,7 +52,7 @@ pub record Replies : Type 0 where
 abbrev pub replies : ℕ → List ℕ → List ℕ → Replies
 replies r s o = record { number = r; state = s; out = o }
 
--- the value of a step; of step 5 whether the result is a message, 1, or nothing, 0: no length, which the state tells (`resultLengthCall`)
+-- the value of a step; of an accepted step 5 whether the result is a message, 1, or nothing, 0: no length, which the state tells (`resultLengthCall`)
 abbrev pub valueShown : Option Result → ℕ → ℕ
 valueShown none value = value
 valueShown (some nothing) value = 0

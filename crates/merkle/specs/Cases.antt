@@ -17,7 +17,7 @@ unfolding splitFrom split shapeOf shape size sides
 five = refl
 
 -- n 9: 4 but for the last leaf
-pub nine : map (λ (m : ℕ). length (sides (shape 9) m)) (0 ∷ 3 ∷ 4 ∷ 7 ∷ 8 ∷ []) ≡ 4 ∷ 4 ∷ 4 ∷ 4 ∷ 1 ∷ []
+pub nine : map (λ (m : ℕ). length (sides (shape 9) m)) (0 ∷ 1 ∷ 2 ∷ 3 ∷ 4 ∷ 5 ∷ 6 ∷ 7 ∷ 8 ∷ []) ≡ 4 ∷ 4 ∷ 4 ∷ 4 ∷ 4 ∷ 4 ∷ 4 ∷ 4 ∷ 1 ∷ []
 unfolding splitFrom split shapeOf shape size sides
 nine = refl
 

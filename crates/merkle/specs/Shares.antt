@@ -26,7 +26,7 @@ abbrev pub blank : List ℕ
 blank = replicate 32 0
 
 -- why n shares of len bytes together are not hashed: n out of its range (1), a leaf string too long to hash (4; a share's length is
--- len / n, rounded down), not n equal shares (8); 0: they are
+-- len / n, rounded down), not n equal shares (8, here by our own choice); 0: they are
 unfoldable pub sharesCause : ℕ → ℕ → ℕ
 sharesCause n len =
     cond (not (parties n)) 1

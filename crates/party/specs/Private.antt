@@ -17,7 +17,7 @@ use Rattle.party.specs.declared.Reply.{Reply}
 use Rattle.party.specs.declared.Placed.{Placed}
 use Rattle.party.specs.declared.Placed.the-variants.{Nowhere, At}
 
--- a state that is not broken, as bounds
+-- what a state that is not broken has, as bounds
 pub record Fit (x : Party) : Type 0 where
   pub low : 1 ≤ x .seat .n
   pub high : x .seat .n ≤ maxParties
