@@ -49,6 +49,16 @@ module _ (n t own len : ℕ) where
       open-fine h =
           rw (eq-eqb (groupCause n t) 0 group, numbered-within n own first last, le-ltb maxMessage len h)
 
+  -- with no message only causes 1 to 3 are left, and they are those of any length
+  pub open-seat : (openCause n t own 0 ≡ 0 → ⊥) → openCause n t own len ≡ openCause n t own 0
+  unfolding openCause
+  open-seat d = go (eqb (groupCause n t) 0) (numbered n own) refl refl
+    where
+      go : (g o : Bool) → eqb (groupCause n t) 0 ≡ g → numbered n own ≡ o → openCause n t own len ≡ openCause n t own 0
+      go false o e f = rw e
+      go true false e f = rw (e, f)
+      go true true e f = absurd (d (rw (e, f)))
+
 -- where none applies, the arguments are within their bounds
 pub open-bounds : (n t own len : ℕ) → openCause n t own len ≡ 0
     → (groupCause n t ≡ 0) × (1 ≤ own) × (own ≤ n) × (len ≤ maxMessage)

@@ -392,16 +392,14 @@ impl Party {
         overlong(stage)
     }
 
-    // Cause 1, 2, 3 or 4 of a party with this number and a message of `len` bytes, or 0.
+    // Cause 1, 2, 3 or 4 of a party with this number and a message of `len` bytes, or 0. The first three are judged with no message, the length by the
+    // party's own limit.
     fn open_cause(n: usize, t: usize, own: usize, len: usize) -> u8
         ensures { λ r. ⌜ r ≡ openCause n t own len ⌝ }
     {
-        let cause = limits::group_cause(n, t);
+        let cause = commitment::open_cause(n, t, own, 0);
         if cause != 0 {
             return cause;
-        }
-        if !limits::numbered(n, own) {
-            return 3;
         }
         if len <= Party::MAX_MESSAGE {
             return 0;
