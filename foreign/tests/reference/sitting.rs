@@ -69,10 +69,20 @@ fn lent<T>(
     (state, answer.map(|it| written(it, &out)))
 }
 
+/// What a call is told that asks something of the state.
+fn asked(state: &State, call: &str) -> Result<u64, Refusal> {
+    match (call, state.stage) {
+        ("stage", _) => Ok(encoded(state)[AT_STAGE].into()),
+        ("own", _) => Ok(state.own),
+        ("result_length", Stage::Ended(Outcome::Message(length))) => Ok(length),
+        ("result_length", _) => Err(6.into()),
+        (other, _) => panic!("{other}: no call of a box"),
+    }
+}
+
 /// Does a step, or asks something of the state; the name of what it gives stands with its answer.
 fn step(state: State, call: &Field) -> (State, Result<String, Refusal>, &'static str) {
     let bytes = |name| call.bytes(name).expect("an argument in bytes");
-    let value = |state: State, value: u64| (state, Ok(value.to_string()), "value");
     let all = |length: usize, out: &[u8]| digits(&out[..length]);
     match call.name.as_str() {
         "agree_root" => {
@@ -99,19 +109,10 @@ fn step(state: State, call: &Field) -> (State, Result<String, Refusal>, &'static
             let (state, answer) = lent(call, |out| state.take_relays(&inbox, out), result);
             (state, answer, "result")
         }
-        "stage" => {
-            let stage = encoded(&state)[AT_STAGE];
-            value(state, stage.into())
+        _ => {
+            let answer = asked(&state, &call.name).map(|it| it.to_string());
+            (state, answer, "value")
         }
-        "own" => {
-            let own = state.own;
-            value(state, own)
-        }
-        "result_length" => match state.stage {
-            Stage::Ended(Outcome::Message(length)) => value(state, length),
-            _ => (state, Err(6.into()), "value"),
-        },
-        other => panic!("{other}: no call of a box"),
     }
 }
 
