@@ -79,8 +79,31 @@ pub fn limits(text: &str) -> Vec<(String, usize)> {
     .collect()
 }
 
+/// A number in digits, or a limit by its name, with a number that is added or taken away, as in
+/// `PARTIES + 1`.
+pub fn number(text: &str) -> Option<usize> {
+    let of = |name| limits(&reference()).into_iter().find(|it| it.0 == name);
+    if let Some((name, more)) = text.split_once(" + ") {
+        return of(name)?.1.checked_add(more.parse().ok()?);
+    }
+    if let Some((name, fewer)) = text.split_once(" - ") {
+        return of(name)?.1.checked_sub(fewer.parse().ok()?);
+    }
+    text.parse().ok().or_else(|| Some(of(text)?.1))
+}
+
 /// The bytes of hexadecimal digits, in pairs with any space between them; none for the word `none`.
+/// As many zeros as a limit says may stand behind them, as in `07 SHARE + 1 zeros`.
 pub fn bytes(digits: &str) -> Option<Vec<u8>> {
+    if let Some(front) = digits.strip_suffix(" zeros") {
+        let (front, count) = front.split_at(front.find(|c: char| c.is_ascii_uppercase())?);
+        let mut whole = match front {
+            "" => Vec::new(),
+            _ => bytes(front)?,
+        };
+        whole.resize(whole.len() + number(count)?, 0);
+        return Some(whole);
+    }
     let digits = spaceless(digits);
     if digits == "none" {
         return Some(Vec::new());
@@ -99,10 +122,14 @@ pub fn spaceless(text: &str) -> String {
 }
 
 /// A state with some of its bytes replaced, as lines with the word `byte`, an offset and the bytes that
-/// stand from there on tell.
+/// stand from there on tell; or with another length, as in `STATE + 1 bytes`.
 pub fn written_over(state: &[u8], lines: &str) -> Option<Vec<u8>> {
     let mut state = state.to_vec();
     for line in lines.lines() {
+        if let Some(length) = line.strip_suffix(" bytes") {
+            state.resize(number(length)?, 0);
+            continue;
+        }
         let (offset, digits) = line.strip_prefix("byte ")?.split_once(' ')?;
         let (offset, run) = (offset.parse::<usize>().ok()?, bytes(digits)?);
         let place = state.get_mut(offset..offset + run.len())?;
@@ -133,7 +160,7 @@ impl Field {
 
     /// An argument that is a number.
     pub fn number(&self, name: &str) -> Option<usize> {
-        self.argument(name)?.parse().ok()
+        number(self.argument(name)?)
     }
 
     /// An argument that is bytes.
@@ -211,8 +238,21 @@ mod tests {
     fn digits() {
         assert_eq!(bytes("0a\n ff"), Some(vec![10, 255]));
         assert_eq!(bytes("none"), Some(vec![]));
-        for none in ["", "0", "0g", "0A", "+1"] {
+        for none in ["", "0", "0g", "0A", "+1", "2 zeros", "0 ROOT zeros"] {
             assert_eq!(bytes(none), None);
+        }
+        let zeros = bytes("0a ROOT - 30 zeros");
+        assert_eq!(zeros, Some(vec![10, 0, 0]));
+        assert_eq!(bytes("ROOT zeros"), Some(vec![0; 32]));
+    }
+
+    #[test]
+    fn numbers_and_limits() {
+        assert_eq!(number("7"), Some(7));
+        assert_eq!((number("ROOT"), number("ROOT + 1")), (Some(32), Some(33)));
+        assert_eq!(number("ROOT - 1"), Some(31));
+        for none in ["", "-1", "ROOTS", "ROOT + ", "ROOT - 33"] {
+            assert_eq!(number(none), None);
         }
     }
 
@@ -228,6 +268,8 @@ mod tests {
         let runs = "byte 0 01 03\nbyte 4   ff";
         assert_eq!(written_over(&[9; 5], runs), Some(vec![1, 3, 9, 9, 0xFF]));
         assert_eq!(written_over(&[9; 4], runs), None);
+        let longer = written_over(&[9; 32], "ROOT + 1 bytes");
+        assert_eq!(longer, Some([&[9; 32][..], &[0]].concat()));
     }
 
     #[test]

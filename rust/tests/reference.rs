@@ -1,13 +1,31 @@
-//! The states in docs/REFERENCE.md: the library's are the same, byte for byte, and it judges broken ones
-//! as they stand there.
+//! The states and calls in docs/REFERENCE.md: the library's states are the same, byte for byte, it judges
+//! broken ones as they stand there, and answers the calls as it is told.
 
 use std::collections::BTreeSet;
 
-use cipangohu::{Hash, Party, MAX_OUTBOX, STATE};
-use foreign::examples::{examples, reference, written_over, Example, Field};
+use cipangohu::calls::{self, Answer};
+use cipangohu::{Hash, Party, HASH, MAX_OUTBOX, STATE};
+use foreign::examples::{bytes, examples, number, reference, written_over, Example, Field};
 
 /// Where the stage stands in a state.
 const AT_STAGE: usize = 4;
+
+/// The kinds of examples that are calls and answers.
+const OF_CALLS: [&str; 4] = ["box", "state", "opening", "calls"];
+
+/// The calls that stand there.
+const CALLS: [&str; 10] = [
+    "agree_bit",
+    "agree_root",
+    "hash",
+    "open",
+    "own",
+    "result_length",
+    "shares",
+    "stage",
+    "take_relays",
+    "take_shares",
+];
 
 fn of_kind(kind: &str) -> Vec<Example> {
     let mut found = examples(&reference()).expect("examples");
@@ -80,4 +98,78 @@ fn broken_states_are_judged_as_it_is_told() {
             assert_eq!(told, Some(answer.as_str()), "{}", change.name);
         }
     }
+}
+
+/// The room for state and root at an opening.
+fn rooms(call: &Field) -> [usize; 2] {
+    let Some(told) = call.argument("room") else {
+        return [STATE, HASH];
+    };
+    let (state, root) = told.split_once(" and ").expect("two rooms");
+    [state, root].map(|room| number(room).expect("a length"))
+}
+
+/// The library's answer to a call. An opening lays out the state and has the root written.
+fn answer(call: &Field, state: &mut Vec<u8>, out: &mut Vec<u8>) -> Answer {
+    let number = |name| call.number(name).expect("a number");
+    let bytes = |name| call.bytes(name).expect("an argument in bytes");
+    *out = vec![0; call.number("room").unwrap_or(MAX_OUTBOX)];
+    match call.name.as_str() {
+        "open" => {
+            [*state, *out] = rooms(call).map(|room| vec![0; room]);
+            let group = (number("n"), number("t"), number("own"));
+            calls::open(group, &bytes("book"), state, out)
+        }
+        "agree_root" => calls::agree_root(state, &bytes("root")),
+        "agree_bit" => calls::agree_bit(state, number("bit"), out),
+        "take_shares" => calls::take_shares(state, &bytes("inbox"), out),
+        "take_relays" => calls::take_relays(state, &bytes("inbox"), out),
+        "result_length" => calls::result_length(state),
+        "stage" => calls::stage(state),
+        "own" => calls::own(state),
+        "shares" => calls::shares((number("n"), number("t")), &bytes("book"), out),
+        "hash" => calls::hash(&bytes("string"), out),
+        other => panic!("{other}: no call"),
+    }
+}
+
+/// Whether the line under a call tells this answer.
+fn tells(told: &Field, answer: Answer, state: &[u8], out: &[u8]) -> bool {
+    let value = answer.value as usize;
+    match (answer.cause, told.name.as_str()) {
+        (0, "root" | "outbox" | "relay" | "out") => {
+            bytes(&told.value).as_deref() == out.get(..value)
+        }
+        (0, "bit" | "value") => told.value == value.to_string(),
+        (0, "result") if value == 0 => told.value == "nothing",
+        (0, "result") => {
+            let length = calls::result_length(state).accepted().expect("a length");
+            told.bytes("book").as_deref() == out.get(..length as usize)
+        }
+        (cause, "cause") => {
+            let number = told.value.split(',').next();
+            number == Some(&cause.to_string()) && told.number("needs").unwrap_or(0) == value
+        }
+        _ => false,
+    }
+}
+
+/// Every call is met, and answered as the line under it tells.
+#[test]
+fn calls_are_answered_as_it_is_told() {
+    let mut met = BTreeSet::new();
+    for example in OF_CALLS.iter().flat_map(|kind| of_kind(kind)) {
+        let (mut state, mut out) = (Vec::new(), Vec::new());
+        for pair in example.fields.windows(2) {
+            let [call, told] = pair else { unreachable!() };
+            if !CALLS.contains(&call.name.as_str()) {
+                continue;
+            }
+            let answer = answer(call, &mut state, &mut out);
+            let right = tells(told, answer, &state, &out);
+            assert!(right, "line {}: {call:?}: {answer:?}", example.line);
+            met.insert(call.name.clone());
+        }
+    }
+    assert!(met.iter().eq(CALLS.iter()));
 }

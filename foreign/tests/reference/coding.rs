@@ -3,11 +3,11 @@
 use foreign::coder::{self, frame_of, share_length, shares_of, Answer};
 use foreign::examples::{bytes, Example};
 use foreign::field::{inv, mul, pow};
-use foreign::limits::{LONGEST_MESSAGE, MOST_HASHES};
-use foreign::sha256::Hash;
+use foreign::limits::{LONGEST_MESSAGE, LONGEST_OUTBOX, LONGEST_STRING, MOST_HASHES};
+use foreign::sha256::{hash, Hash};
 use foreign::tree::{judge, leaf_string, leaves, path_of, root_of};
 
-use crate::Told;
+use crate::{length, Told};
 
 /// The one byte of two digits.
 fn byte(digits: &str) -> u8 {
@@ -69,7 +69,7 @@ pub fn rebuilt(example: &Example) -> Told {
     let entries = example.bytes("entries");
     told.add("n", n);
     told.add("t", t);
-    told.bytes("entries", &entries);
+    told.add("entries", example.value("entries"));
     let limited = example.fields.iter().any(|field| field.name == "room");
     let room = match limited {
         true => example.number("room"),
@@ -79,16 +79,54 @@ pub fn rebuilt(example: &Example) -> Told {
         told.add("room", room);
     }
     let mut out = vec![0; room];
-    match coder::rebuild(n, t, &entries, &mut out) {
-        Answer::Done(length) => told.bytes("book", &out[..length]),
+    let answer = coder::rebuild(n, t, &entries, &mut out);
+    answered(answer, "book", &out, &mut told);
+    told
+}
+
+/// What a call wrote, under this name, or why it was refused.
+fn answered(answer: Answer, name: &str, out: &[u8], told: &mut Told) {
+    match answer {
+        Answer::Done(written) => told.bytes(name, &out[..written]),
         Answer::Short(needed) => {
             let cause = told.cause(9);
-            told.add("cause", format!("{cause}, needs {needed}"));
+            told.add("cause", format!("{cause}, needs {}", length(needed)));
         }
         Answer::Refused(cause) => {
             let cause = told.cause(cause);
             told.add("cause", cause);
         }
+    }
+}
+
+/// The hash of a string that is not too long.
+fn hashed(string: &[u8], out: &mut [u8]) -> Answer {
+    let hash = hash(string);
+    match out.get_mut(..hash.len()) {
+        _ if string.len() > LONGEST_STRING => Answer::Refused(4),
+        None => Answer::Short(hash.len()),
+        Some(start) => {
+            start.copy_from_slice(&hash);
+            Answer::Done(hash.len())
+        }
+    }
+}
+
+/// Calls that write, and have nothing to do with one another.
+pub fn calls(example: &Example) -> Told {
+    let mut told = Told::default();
+    for call in &example.fields {
+        let number = |name| call.number(name).expect("a number");
+        let bytes = |name| call.bytes(name).expect("bytes");
+        let mut out = vec![0; call.number("room").unwrap_or(LONGEST_OUTBOX)];
+        let answer = match call.name.as_str() {
+            "shares" => coder::encode(number("n"), number("t"), &bytes("book"), &mut out),
+            "hash" => hashed(&bytes("string"), &mut out),
+            "out" | "cause" => continue,
+            other => panic!("line {}: {other}", example.line),
+        };
+        told.add(&call.name, &call.value);
+        answered(answer, "out", &out, &mut told);
     }
     told
 }

@@ -9,13 +9,13 @@ mod sitting;
 
 use std::collections::BTreeSet;
 
-use foreign::examples::{examples, reference, spaceless, Example};
+use foreign::examples::{examples, number, reference, spaceless, Example};
 use foreign::sha256::hex;
 
 /// How the examples of a kind are run: the lines that they should have.
 type Run = fn(&Example) -> Told;
 
-const KINDS: [(&str, Run); 14] = [
+const KINDS: [(&str, Run); 15] = [
     ("field", coding::field),
     ("shares", coding::shares),
     ("rebuild", coding::rebuilt),
@@ -29,6 +29,7 @@ const KINDS: [(&str, Run); 14] = [
     ("box", sitting::sitting),
     ("state", sitting::sitting),
     ("broken state", sitting::broken),
+    ("calls", coding::calls),
     ("plan", plans::plan),
 ];
 
@@ -61,6 +62,14 @@ pub fn digits(bytes: &[u8]) -> String {
         [] => "none".to_string(),
         _ => hex(bytes),
     }
+}
+
+/// A length as it stands in an example: those of a state and of a root by their names.
+pub fn length(bytes: usize) -> String {
+    let named = ["STATE", "ROOT"]
+        .into_iter()
+        .find(|it| number(it) == Some(bytes));
+    named.map_or(bytes.to_string(), str::to_string)
 }
 
 /// What differs between the lines of an example and those that it should have, if anything.
@@ -123,7 +132,7 @@ fn every_cause_has_an_example() {
 }
 
 /// Parts of the text, and wrong ones in their place: one for each kind and more.
-const SPOILT: [(&str, &str); 22] = [
+const SPOILT: [(&str, &str); 29] = [
     ("product 57 83: c1", "product 57 83: c2"),
     ("share 3: c3 c4", "share 3: c3 c5"),
     ("share 3: c3 c4\n", ""),
@@ -150,6 +159,13 @@ const SPOILT: [(&str, &str); 22] = [
     ),
     ("byte 1065 82", "byte 1066 82"),
     ("byte 4 06: cause 5", "byte 4 06: taken"),
+    ("SHARE zeros: share 1", "SHARE zeros: cause 10"),
+    ("SHARE + 1 zeros: cause 10", "SHARE + 1 zeros: share 1"),
+    ("value: 5", "value: 4"),
+    ("needs STATE", "needs ROOT"),
+    ("STATE - 1 bytes: cause 5", "STATE - 1 bytes: taken"),
+    ("STATE + 1 bytes: taken", "STATE + 1 bytes: cause 5"),
+    ("out: ba78", "out: bb78"),
     ("sent 388", "sent 389"),
     ("prints: 1 =\n", "prints: 1 = \n"),
 ];

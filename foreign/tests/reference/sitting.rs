@@ -1,43 +1,38 @@
 //! Openings, and boxes that are taken through their steps, with the bytes of their states.
 
-use foreign::examples::{limits, reference, written_over, Example, Field};
+use foreign::examples::{number, written_over, Example, Field};
 use foreign::limits::LONGEST_OUTBOX;
 use foreign::party::{Given, Outcome, Refusal, Stage, State};
 
-use crate::{digits, Told};
+use crate::{digits, length, Told};
 
 /// The version of the layout of a state's bytes.
 const VERSION: u8 = 1;
 
+/// Where the stage stands in them.
+const AT_STAGE: usize = 4;
+
 /// A limit by its name in the text.
 fn limit(name: &str) -> usize {
-    let found = limits(&reference())
-        .into_iter()
-        .find(|limit| limit.0 == name);
-    found.unwrap_or_else(|| panic!("no limit {name}")).1
+    number(name).unwrap_or_else(|| panic!("no limit {name}"))
 }
 
-/// A number, or one that follows a limit, as in `PARTIES + 1`.
-fn number(text: &str) -> usize {
-    match text.split_once(" + ") {
-        Some((name, more)) => limit(name) + more.parse::<usize>().expect("a number"),
-        None => text.parse().unwrap_or_else(|_| limit(text)),
-    }
-}
-
-/// Bytes by their digits, or as many zeros as a number says.
-fn book(call: &Field) -> Vec<u8> {
-    let text = call.argument("book").expect("a book");
-    match text.strip_suffix(" zeros") {
-        Some(count) => vec![0; number(count)],
-        None => call.bytes("book").expect("digits"),
-    }
-}
-
-/// An opening by the arguments of a call.
+/// An opening by the arguments of a call. Its room is that for the state and that for the root.
 fn opened(call: &Field) -> Given<[u8; 32]> {
-    let argument = |name| number(call.argument(name).expect("a number")) as u64;
-    State::open(argument("n"), argument("t"), argument("own"), &book(call))
+    let argument = |name| call.number(name).expect("a number") as u64;
+    let book = call.bytes("book").expect("a book");
+    let (state, root) = State::open(argument("n"), argument("t"), argument("own"), &book);
+    let rooms = call.argument("room").map(|both| {
+        let (state, root) = both.split_once(" and ").expect("two rooms");
+        [state, root].map(|room| number(room).expect("a length"))
+    });
+    let needed = [limit("STATE"), root.map_or(0, |root| root.len())];
+    let rooms = rooms.unwrap_or(needed).into_iter().zip(needed);
+    let short = rooms.filter(|it| it.0 < it.1).map(|it| it.1).next();
+    match (root, short) {
+        (Ok(_), Some(needed)) => (State::blank(), Err(Refusal { cause: 9, needed })),
+        (root, _) => (state, root),
+    }
 }
 
 /// The refusal as it stands in an example.
@@ -45,7 +40,7 @@ fn refused(refusal: Refusal, told: &mut Told) {
     let cause = told.cause(refusal.cause);
     match refusal.needed {
         0 => told.add("cause", cause),
-        needed => told.add("cause", format!("{cause}, needs {needed}")),
+        needed => told.add("cause", format!("{cause}, needs {}", length(needed))),
     }
 }
 
@@ -74,7 +69,18 @@ fn lent<T>(
     (state, answer.map(|it| written(it, &out)))
 }
 
-/// Does a step; the name of what it gives stands with its answer.
+/// What a call is told that asks something of the state.
+fn asked(state: &State, call: &str) -> Result<u64, Refusal> {
+    match (call, state.stage) {
+        ("stage", _) => Ok(encoded(state)[AT_STAGE].into()),
+        ("own", _) => Ok(state.own),
+        ("result_length", Stage::Ended(Outcome::Message(length))) => Ok(length),
+        ("result_length", _) => Err(6.into()),
+        (other, _) => panic!("{other}: no call of a box"),
+    }
+}
+
+/// Does a step, or asks something of the state; the name of what it gives stands with its answer.
 fn step(state: State, call: &Field) -> (State, Result<String, Refusal>, &'static str) {
     let bytes = |name| call.bytes(name).expect("an argument in bytes");
     let all = |length: usize, out: &[u8]| digits(&out[..length]);
@@ -84,7 +90,8 @@ fn step(state: State, call: &Field) -> (State, Result<String, Refusal>, &'static
             (state, happy.map(|it| u8::from(it).to_string()), "bit")
         }
         "agree_bit" => {
-            let bit = call.number("bit").expect("a bit") as u8;
+            let bit = call.number("bit").expect("a bit");
+            let bit = bit.try_into().unwrap_or(u8::MAX);
             let (state, answer) = lent(call, |out| state.agree_bit(bit, out), all);
             (state, answer, "outbox")
         }
@@ -102,7 +109,10 @@ fn step(state: State, call: &Field) -> (State, Result<String, Refusal>, &'static
             let (state, answer) = lent(call, |out| state.take_relays(&inbox, out), result);
             (state, answer, "result")
         }
-        other => panic!("{other}: no step"),
+        _ => {
+            let answer = asked(&state, &call.name).map(|it| it.to_string());
+            (state, answer, "value")
+        }
     }
 }
 
@@ -152,7 +162,7 @@ pub fn sitting(example: &Example) -> Told {
                 told.add("state", if right { &field.value } else { "another" });
                 continue;
             }
-            "root" | "bit" | "outbox" | "relay" | "result" | "cause" => continue,
+            "root" | "bit" | "outbox" | "relay" | "result" | "value" | "cause" => continue,
             _ => step(box_state, field),
         };
         told.add(name, &field.value);
@@ -203,7 +213,8 @@ fn judged(bytes: &[u8]) -> Option<u32> {
     answer.err().map(|refusal| refusal.cause)
 }
 
-/// A state with some bytes written over it, and what step 2 says of it; a reason may follow.
+/// A state with some bytes written over it or with another length, and what step 2 says of it; a
+/// reason may follow.
 pub fn broken(example: &Example) -> Told {
     let mut told = Told::default();
     let (open, changes) = example.fields.split_first().expect("an opening");
