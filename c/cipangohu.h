@@ -7,8 +7,8 @@
  *
  * The host keeps the party's state, CIPANGOHU_STATE bytes, and hands it to every step. Its layout, with numbers big-endian here and in all entries:
  * byte 0 the version of the layout, CIPANGOHU_LAYOUT, byte 1 n, byte 2 t, byte 3 own number, byte 4 stage, bytes 5-6 the length of the message (of
- * a party that ended with one, of the result), bytes 7-8 the length of the share that an unhappy party relayed (a happy one holds none), bytes
- * 9-40 the agreed root, then CIPANGOHU_MESSAGE bytes for the message, then CIPANGOHU_SHARE bytes for that share. An accepted step writes all of
+ * a party that ended with one, of the result), bytes 7-8 the length of the share that an unhappy party relayed (a party is happy if the agreed root is
+ * that of its own message; it then holds no share), bytes 9-40 the agreed root, then CIPANGOHU_MESSAGE bytes for the message, then CIPANGOHU_SHARE bytes for that share. An accepted step writes all of
  * it anew, with zeros for what the stage does not have.
  *
  * Any bytes may stand in a state. Cause 5 is: fewer than CIPANGOHU_STATE bytes, another version, no stage, n, t or own number out of range, or a
@@ -23,8 +23,12 @@
  * from. In an inbox entry k is what party k sent, length 0 if it sent nothing. A packet in it that cannot be read, bears a number that it should not
  * (in the first inbox any but the own, in the second any but the sender's) or fails the check is passed over, and so is the own entry.
  *
+ * A packet is silence, which is no bytes or one zero byte; or byte 0 is 7, byte 1 the number of a share, bytes 2-3 the share's length, and behind them stand
+ * the share and its path, hash by hash from the leaf upward. None that can be read is longer than CIPANGOHU_PACKET.
+ *
  * A buffer that a call writes overlaps no other buffer of that call. Through a pointer with length 0 nothing is read or written. Nothing is
- * global: calls on different buffers may run at once. In trials every call fits a stack of 256 KiB; docs/FIGURES.md tells what each takes. */
+ * global: calls on different buffers may run at once. In trials every call fits a stack of 256 KiB, the host's own buffers not counted;
+ * CIPANGOHU_INBOX bytes are better kept elsewhere. */
 #ifndef CIPANGOHU_H
 #define CIPANGOHU_H
 
@@ -53,7 +57,7 @@ extern "C" {
 #define CIPANGOHU_LAYOUT 1
 
 /* Rooms that follow from them, in bytes: for the longest share, which is the whole frame of one party alone; for a state; for any packet that a
- * party writes: map, number and share length, the share, the longest path; for all shares of a message together, which are less than twice the
+ * party writes: four bytes, the share, the longest path; for all shares of a message together, which are less than twice the
  * longest frame with its zeros; for any outbox: these shares, and beside each its entry's length and the rest of its packet; and for any inbox. */
 #define CIPANGOHU_SHARE (CIPANGOHU_MESSAGE + 2)
 #define CIPANGOHU_STATE (9 + CIPANGOHU_ROOT + CIPANGOHU_MESSAGE + CIPANGOHU_SHARE)
@@ -68,7 +72,7 @@ enum cipangohu_causes {
     CIPANGOHU_CAUSE_PARTIES = 1,     /* n is not 1 to CIPANGOHU_PARTIES */
     CIPANGOHU_CAUSE_FAULTS = 2,      /* 2 * t is n or more */
     CIPANGOHU_CAUSE_NUMBER = 3,      /* a number that is not 1 to n */
-    CIPANGOHU_CAUSE_LENGTH = 4,      /* too long a message, string, share or entry */
+    CIPANGOHU_CAUSE_LENGTH = 4,      /* too long a message, string, share, entry or entries */
     CIPANGOHU_CAUSE_STATE = 5,       /* not a state */
     CIPANGOHU_CAUSE_STEP = 6,        /* not the step that is due, or no result to tell of */
     CIPANGOHU_CAUSE_ROOT_OR_BIT = 7, /* a root that is not CIPANGOHU_ROOT bytes, or a bit that is not 0 or 1 */
@@ -98,7 +102,7 @@ typedef struct cipangohu_answer {
     uint32_t cause;
 } cipangohu_answer;
 
-/* Bytes that lie in a buffer of the host; no address where there are none to tell of. */
+/* Bytes that lie in a buffer of the host; no address where there is nothing to tell of. What is there and empty has an address. */
 typedef struct cipangohu_bytes {
     const uint8_t *at;
     size_t len;
@@ -125,19 +129,20 @@ typedef char cipangohu_size_has_8_bytes[sizeof(size_t) == 8 ? 1 : -1];
 CIPANGOHU_MUST_USE cipangohu_answer cipangohu_open(size_t n, size_t t, size_t own, const uint8_t *message, size_t message_len,
                                                    uint8_t *state, size_t state_len, uint8_t *root, size_t root_len);
 
-/* Step 2, the agreed root. Value: the party's bit, 1 if it is happy, else 0, for the second short agreement. Causes 5, 6, 7. */
+/* Step 2, the agreed root. Value: the party's bit, 1 if it is happy, which it is if the agreed root is its own, else 0, for the second short agreement.
+ * Causes 5, 6, 7. */
 CIPANGOHU_MUST_USE cipangohu_answer cipangohu_agree_root(uint8_t *state, size_t state_len, const uint8_t *root, size_t root_len);
 
 /* Step 3, the agreed bit: writes n entries to out, each the packet for that party, the own one of length 0, and all where nothing is to be sent.
- * On bit 0 the party has ended with nothing. Value: the bytes written. Causes 5, 6, 7, 9. */
+ * On bit 0 they are written too, and the party has ended with nothing. Value: the bytes written. Causes 5, 6, 7, 9. */
 CIPANGOHU_MUST_USE cipangohu_answer cipangohu_agree_bit(uint8_t *state, size_t state_len, size_t bit, uint8_t *out, size_t out_len);
 
 /* Step 4, the first inbox: writes the packet to relay to all others. Value: the bytes written, 0 if there is none. Causes 5, 6, 8, 9. */
 CIPANGOHU_MUST_USE cipangohu_answer cipangohu_take_shares(uint8_t *state, size_t state_len, const uint8_t *inbox, size_t inbox_len,
                                                           uint8_t *out, size_t out_len);
 
-/* Step 5, the second inbox: writes the message, if the result is one. Value: CIPANGOHU_SETTLED, and then cipangohu_result_length tells the length,
- * or CIPANGOHU_NOTHING. Causes 5, 6, 8, and 9 where a message was found. */
+/* Step 5, the second inbox: writes the message, if the result is one. Value: CIPANGOHU_SETTLED for a message of any length, which
+ * cipangohu_result_length tells, or CIPANGOHU_NOTHING; it is no length itself. Causes 5, 6, 8, and 9 where a message was found. */
 CIPANGOHU_MUST_USE cipangohu_answer cipangohu_take_relays(uint8_t *state, size_t state_len, const uint8_t *inbox, size_t inbox_len,
                                                           uint8_t *out, size_t out_len);
 
@@ -171,20 +176,21 @@ CIPANGOHU_MUST_USE cipangohu_answer cipangohu_rebuild(size_t n, size_t t, const 
 /* SHA-256 of up to CIPANGOHU_HASHED bytes. Value: CIPANGOHU_ROOT. Causes 4, 9. */
 CIPANGOHU_MUST_USE cipangohu_answer cipangohu_hash(const uint8_t *message, size_t message_len, uint8_t *out, size_t out_len);
 
-/* The library's CIPANGOHU_VERSION. */
+/* The library's CIPANGOHU_VERSION. It fits a program that was built with a header of the same major number and with CIPANGOHU_STATE as
+ * cipangohu_state_size gives it. */
 uint32_t cipangohu_version(void);
 
 /* The library's CIPANGOHU_STATE. */
 size_t cipangohu_state_size(void);
 
-/* A cause in words. */
+/* A cause in words. This function and those below it stand in the header alone. */
 static inline const char *cipangohu_cause_text(uint32_t cause) {
     switch (cause) {
     case CIPANGOHU_ACCEPTED: return "accepted";
     case CIPANGOHU_CAUSE_PARTIES: return "the number of parties is out of range";
     case CIPANGOHU_CAUSE_FAULTS: return "the fault limit is half of the parties or more";
     case CIPANGOHU_CAUSE_NUMBER: return "the number is no party's";
-    case CIPANGOHU_CAUSE_LENGTH: return "the message, string, share or entry is too long";
+    case CIPANGOHU_CAUSE_LENGTH: return "the message, string, share or entries are too long";
     case CIPANGOHU_CAUSE_STATE: return "the bytes are no state";
     case CIPANGOHU_CAUSE_STEP: return "the call does not fit the party's stage";
     case CIPANGOHU_CAUSE_ROOT_OR_BIT: return "the root has not the length of a hash, or the bit is not 0 or 1";

@@ -24,9 +24,9 @@ pub enum Cause {
     Faults,
     /// Cause 3: a number that is not 1 to n.
     Number,
-    /// Cause 4: too long a message, string, share or entry.
+    /// Cause 4: too long a message, string or share.
     Length,
-    /// Cause 5: bytes that are no state.
+    /// Cause 5: bytes that are no state, or one of another layout.
     State,
     /// Cause 6: not the step that is due, or no result to tell of.
     Step,
@@ -95,7 +95,7 @@ impl Cause {
             Cause::Parties => "the number of parties is out of range",
             Cause::Faults => "the fault limit is half of the parties or more",
             Cause::Number => "the number is no party's",
-            Cause::Length => "the message, string, share or entry is too long",
+            Cause::Length => "the message, string, share or entries are too long",
             Cause::State => "the bytes are no state",
             Cause::Step => "the call does not fit the party's stage",
             Cause::RootOrBit => "the root has not the length of a hash, or the bit is not 0 or 1",

@@ -8,8 +8,8 @@ use crate::cause::Cause;
 use crate::entries::lay_out;
 use crate::limits::{MAX_MESSAGE, MAX_SHARES};
 
-/// The n shares of a message, of which any n − t give it back. Causes: [`Cause::Parties`],
-/// [`Cause::Faults`], [`Cause::Length`].
+/// The n shares of a message, of which any n − t give it back. With the feature `alloc`. Causes:
+/// [`Cause::Parties`], [`Cause::Faults`], [`Cause::Length`].
 ///
 /// ```
 /// # fn main() -> Result<(), cipangohu::Cause> {
@@ -30,8 +30,13 @@ pub fn shares(n: usize, t: usize, message: &[u8]) -> Result<Vec<Vec<u8>>, Cause>
     Ok(out.chunks(each).map(<[u8]>::to_vec).collect())
 }
 
-/// The message that the shares of parties 1 to n give; an empty share counts as missing. Causes:
-/// [`Cause::Parties`], [`Cause::Faults`], [`Cause::Entries`], [`Cause::FewShares`],
+/// The message that the shares of parties 1 to n give; an empty share counts as missing, and so does
+/// one of more than [`MAX_ENTRY`](crate::MAX_ENTRY) bytes. With the feature `alloc`.
+///
+/// Of the shares present the first n − t are used, and none is checked: with an altered one another
+/// message may come out. [`check_path`](crate::check_path) tells whether a share is a root's own.
+///
+/// Causes: [`Cause::Parties`], [`Cause::Faults`], [`Cause::Entries`], [`Cause::FewShares`],
 /// [`Cause::NoMessage`].
 pub fn rebuild<S: AsRef<[u8]>>(n: usize, t: usize, shares: &[S]) -> Result<Vec<u8>, Cause> {
     let mut out = vec![0; MAX_MESSAGE];

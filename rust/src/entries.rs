@@ -15,7 +15,7 @@ fn entry(part: &[u8]) -> ([u8; 2], &[u8]) {
 }
 
 /// Lays bytes out as entries, the first being party 1's. More than [`MAX_ENTRY`](crate::MAX_ENTRY)
-/// bytes are no packet and no share of a message; they stand as none.
+/// bytes are no packet and no share of a message; they stand as none. With the feature `alloc`.
 #[cfg(feature = "alloc")]
 pub fn lay_out<B: AsRef<[u8]>>(parts: &[B]) -> alloc::vec::Vec<u8> {
     let mut bytes = alloc::vec::Vec::new();
@@ -49,7 +49,8 @@ pub fn lay_out_in<B: AsRef<[u8]>>(parts: &[B], out: &mut [u8]) -> Result<usize, 
     Ok(needed)
 }
 
-/// Takes the entries of all parties apart, the first being party 1's; none if they run short.
+/// Takes the entries of all parties apart, the first being party 1's; none if they run short. How many
+/// there are is not judged, so that of a buffer only what was written to it is to be handed in.
 ///
 /// ```
 /// use cipangohu::entries;

@@ -4,10 +4,11 @@
 //!
 //! A call is accepted, or turned away with a [`Cause`] and nothing changed; none panics. What the
 //! host owes is told in docs/HOSTING.md. The crate needs no standard library; what needs an
-//! allocator stands behind the feature `alloc`, which is on unless it is switched off.
+//! allocator, `lay_out`, `shares` and `rebuild`, stands behind the feature `alloc`, which is on
+//! unless it is switched off.
 //!
 //! ```
-//! use cipangohu::{lay_out, Outcome, Party, Stage, MAX_OUTBOX};
+//! use cipangohu::{lay_out_in, Outcome, Party, Stage, MAX_OUTBOX};
 //!
 //! # fn main() -> Result<(), cipangohu::Cause> {
 //! // A party alone: the agreements give back what it puts in, and nobody sends it anything.
@@ -15,7 +16,8 @@
 //! let happy = party.agree_root(&root)?;
 //! let mut out = [0; MAX_OUTBOX];
 //! party.agree_bit(happy, &mut out)?;
-//! let inbox = lay_out(&[b""]);
+//! let mut inbox = [0; 2];
+//! lay_out_in(&[b""], &mut inbox)?;
 //! party.take_shares(&inbox, &mut out)?;
 //! assert_eq!(party.stage(), Stage::AwaitsRelays);
 //! assert_eq!(party.take_relays(&inbox)?, Outcome::Message(b"AB"));

@@ -16,8 +16,8 @@ pub struct Packet<'a> {
     pub path: &'a [u8],
 }
 
-/// What a packet among n parties holds, or nothing where it is silence. Causes: [`Cause::Parties`],
-/// [`Cause::Packet`].
+/// What a packet among n parties holds, or nothing where it is silence, which is no byte or one zero
+/// byte. Causes: [`Cause::Parties`], [`Cause::Packet`].
 ///
 /// ```
 /// use cipangohu::{check_path, entries, read_packet, Party, MAX_OUTBOX};
@@ -52,8 +52,9 @@ pub fn read_packet(n: usize, packet: &[u8]) -> Result<Option<Packet<'_>>, Cause>
     }))
 }
 
-/// Whether the path leads from share j of n to the root. Causes: [`Cause::Parties`],
-/// [`Cause::Number`], [`Cause::Length`].
+/// Whether the path leads from share j of n to the root; not, if it has another length than n and j
+/// give. Causes: [`Cause::Parties`], [`Cause::Number`], and [`Cause::Length`] for a share of more than
+/// [`MAX_HASHED`](crate::MAX_HASHED) − 2 bytes.
 pub fn check_path(
     n: usize,
     j: usize,

@@ -71,7 +71,7 @@ impl fmt::Debug for Party {
 
 impl Party {
     /// Step 1: party `own` of n, of which t may be bad, opens with a message. With it comes the root
-    /// that goes to the short agreement. Causes: [`Cause::Parties`], [`Cause::Faults`],
+    /// that goes to the short agreement; the state does not give it again, nor n and t. Causes: [`Cause::Parties`], [`Cause::Faults`],
     /// [`Cause::Number`], [`Cause::Length`].
     pub fn open(n: usize, t: usize, own: usize, message: &[u8]) -> Result<(Party, Hash), Cause> {
         let (mut state, mut root) = ([0; STATE], [0; HASH]);
@@ -79,8 +79,9 @@ impl Party {
         Ok((Party::from_state(&state)?, root))
     }
 
-    /// A party whose state was saved; of more bytes the first [`STATE`] count. Cause:
-    /// [`Cause::State`], also for a layout of another version than [`LAYOUT`](crate::LAYOUT).
+    /// A party whose state was saved; of more bytes the first [`STATE`] count. Bytes that were damaged
+    /// are mostly not noticed. Cause: [`Cause::State`], also for a layout of another version than
+    /// [`LAYOUT`](crate::LAYOUT).
     ///
     /// ```
     /// use cipangohu::{Cause, Party};
@@ -134,7 +135,8 @@ impl Party {
         Ok(self.stepped(answer)? == 1)
     }
 
-    /// Step 3: takes the agreed bit and writes the outbox; the answer is its length. Room for any is
+    /// Step 3: takes the agreed bit and writes the outbox; the answer is its length. It always has n
+    /// entries, all of them empty on `false` or if the party is not happy. Room for any is
     /// [`MAX_OUTBOX`](crate::MAX_OUTBOX). On `false` the party has ended with nothing. Causes:
     /// [`Cause::Step`], [`Cause::Room`].
     pub fn agree_bit(&mut self, bit: bool, out: &mut [u8]) -> Result<usize, Cause> {
@@ -142,8 +144,8 @@ impl Party {
         Ok(self.stepped(answer)? as usize)
     }
 
-    /// Step 4: takes the first inbox and writes the relay for all others; the answer is its length.
-    /// Room for any is [`MAX_PACKET`](crate::MAX_PACKET). Causes: [`Cause::Step`],
+    /// Step 4: takes the first inbox and writes the relay for all others; the answer is its length, 0
+    /// if there is none. Room for any is [`MAX_PACKET`](crate::MAX_PACKET). Causes: [`Cause::Step`],
     /// [`Cause::Entries`], [`Cause::Room`].
     pub fn take_shares(&mut self, inbox: &[u8], out: &mut [u8]) -> Result<usize, Cause> {
         let answer = calls::take_shares(&mut self.state, inbox, out);
