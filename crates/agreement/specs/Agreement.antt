@@ -13,8 +13,8 @@ use Rattle.buffer.specs.Bounds.{Bytes}
 use Rattle.erasure.specs.Coding.{shareLength}
 use Rattle.merkle.specs.Height.{height}
 use Rattle.party.specs.State.{Result, nothing, settled}
-use Rattle.agreement.specs.Calls.{Call, agreeRoot, agreeBit, Event, heard, wrote, packetTo, bitGiven, resultShown}
-use Rattle.agreement.specs.Calls.{opening, firstOf, resultAfter, hashed, sentBy}
+use Rattle.agreement.specs.Calls.{Call, agreeRoot, agreeBit, stepOf, Event, heard, wrote, packetTo, bitGiven}
+use Rattle.agreement.specs.Calls.{opening, did, firstOf, resultAfter, hashed, sentBy}
 
 -- a good party: its number, its message, and the calls that it gets after its opening
 pub record Good : Type 0 where
@@ -108,12 +108,14 @@ module _ (H : List ℕ → List ℕ) (n t : ℕ) (good : List Good) where
   abbrev pub sent : ℕ
   sent = sumOver (λ (A : Good). sentBy H n t (A .own) (A .message) (A .calls)) good
 
-  -- what then holds of one result R: every good party's state holds it after the list, and on bit 1 that step 5 gave it; it is nothing or
-  -- a message that some good party opened with, and the common one where all opened with one; the bytes sent are within the bound, and
-  -- none if the result is nothing
+  -- what then holds of one result R: every good party's state holds it after the list, and every accepted step 5 gave it, the first and all that read
+  -- it again; on bit 0 it is nothing; it is nothing or a message that some good party opened with, and the common one where all opened with one; the
+  -- bytes sent are within the bound, and none if the result is nothing
   pub record Conclusions (bit : ℕ) (R : Result) : Type 0 where
     pub holds : Each (λ A. resultAfter H n t (A .own) (A .message) (A .calls) ≡ some R)
-    pub gives : bit ≡ 1 → Each (λ A. resultShown (step 5 A) ≡ some R)
+    pub gives : Each (λ A. (e : Event) → List·Memᴰ e (did H n t (A .own) (A .message) (A .calls)) → stepOf (e .call) ≡ 5
+        → e .reply .result ≡ some R)
+    pub void : bit ≡ 0 → R ≡ nothing
     pub somebodys : (R ≡ nothing) ⊎ ((A : Good) × List·Memᴰ A good × (R ≡ settled (A .message)))
     pub common : (m : List ℕ) → Each (λ A. A .message ≡ m) → R ≡ settled m
     pub bound : (m : List ℕ) → R ≡ settled m

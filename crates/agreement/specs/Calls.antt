@@ -1,6 +1,6 @@
 -- A party's list of calls after its opening (document 01, "A sitting, as demand 3 means it"): what each call gives back, which were
 -- accepted, which strings the party hashed, and how many bytes it sent. The hash of the tree is a parameter H. Assumes nothing.
-use mathlib.Core.Bool.{cond}
+use mathlib.Core.Bool.{cond, _||_}
 use mathlib.Core.List.{List, [], _∷_, _++_}
 use mathlib.Core.Option.{Option, none, some}
 use Prim.Native.Nat.{ℕ, _+_, _-_, _*_}
@@ -9,7 +9,7 @@ use lib.ListN.{length, getD, take}
 use Rattle.buffer.specs.Entries.{bodies}
 use Rattle.erasure.specs.Coding.{shares}
 use Rattle.merkle.specs.Shares.{codingStrings}
-use Rattle.party.specs.State.{Result, resultIn, happy}
+use Rattle.party.specs.State.{Result, resultIn, hasEnded, happy}
 use Rattle.party.specs.Steps.{openOf, Stepped, agreeRootOf, agreeBitOf, takeSharesOf, takeRelaysOf}
 use Rattle.party.specs.Strings.{shareStrings, relayStrings}
 use Rattle.party.specs.declared.Party.{Party}
@@ -114,13 +114,14 @@ module _ (H : List ℕ → List ℕ) where
   final x [] = x
   final x (c ∷ cs) = final (made x c .state) cs
 
-  -- the strings of the path checks that an accepted call makes; a happy party makes none
+  -- the strings of the path checks that an accepted call makes; a happy party makes none, nor does one that has ended
   unfoldable pub checkedIn : Party → Call → List (List ℕ)
   checkedIn x (agreeRoot z) = []
   checkedIn x (agreeBit bit out) = []
   checkedIn x (takeShares inbox out) =
       cond (happy H x) [] (shareStrings H (x .seat .n) (x .seat .own) (x .root) 1 (bodies (x .seat .n) inbox))
-  checkedIn x (takeRelays inbox out) = cond (happy H x) [] (relayStrings H (x .seat .n) (x .seat .own) 1 (bodies (x .seat .n) inbox))
+  checkedIn x (takeRelays inbox out) =
+      cond (hasEnded (x .stage) || happy H x) [] (relayStrings H (x .seat .n) (x .seat .own) 1 (bodies (x .seat .n) inbox))
 
   unfoldable pub checkedOver : List Event → List (List ℕ)
   checkedOver [] = []

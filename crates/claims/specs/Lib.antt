@@ -1,2 +1,3 @@
 pub mod Terms
 pub mod Claims
+pub mod ReadAgain

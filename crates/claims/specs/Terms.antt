@@ -1,7 +1,7 @@
 -- The words of the claims: causes in their order, what a step is lent and has to do, and what is told of a good box, be it a party with its states or a
 -- host of the C interface with bytes. Assumes nothing.
 use mathlib.Core.Path.{_≡_}
-use mathlib.Core.Bool.{Bool, true, false, cond, not}
+use mathlib.Core.Bool.{Bool, true, false, cond, not, _||_}
 use mathlib.Core.List.{List, [], _∷_, map}
 use mathlib.Core.Logic.{_⊎_, inl, inr}
 use mathlib.Core.Option.{Option, none, some}
@@ -18,7 +18,7 @@ use Rattle.erasure.specs.Rebuild.{Recovered, cause, message}
 use Rattle.sha256.specs.Sha256.{sha256}
 use Rattle.merkle.specs.Tree.{shape, sides, folded}
 use Rattle.packet.specs.Format.{Reading, silence, unreadable, shared}
-use Rattle.party.specs.State.{Result, nothing, settled, resultBytes, resultIn, messageIn, atBit, atFirst, atSecond, atEnd, happy}
+use Rattle.party.specs.State.{Result, nothing, settled, resultBytes, resultIn, hasEnded, messageIn, atBit, atFirst, atSecond, atEnd, happy}
 use Rattle.party.specs.Steps.{openOf, Stepped, outboxOf, relayOf, heldOf, resultOf}
 use Rattle.party.specs.declared.Party.{Party}
 use Rattle.agreement.specs.Calls.{Call, agreeRoot, agreeBit, takeShares, takeRelays, Event, did, hashed, lengths, resultAfter}
@@ -39,7 +39,7 @@ foremost (k ∷ ks) = cond (eqb k 0) (foremost ks) k
 abbrev pub groupThen : ℕ → ℕ → List ℕ → ℕ
 groupThen n t ks = foremost (when 1 (not (parties n)) ∷ when 2 (leb n (2 * t)) ∷ ks)
 
--- a step: the buffer that it is lent, and what can be wrong with what it is handed
+-- a step: the buffer that it is lent, and what can be wrong with what it is handed; a party that has ended does not look at the inbox
 abbrev pub lent : Call → List ℕ
 lent (agreeRoot z) = []
 lent (agreeBit bit out) = out
@@ -50,7 +50,7 @@ abbrev pub wrong : Party → Call → ℕ
 wrong x (agreeRoot z) = when 7 (not (eqb (length z) 32))
 wrong x (agreeBit bit out) = when 7 (ltb 1 bit)
 wrong x (takeShares inbox out) = when 8 (not (fills (x .seat .n) inbox))
-wrong x (takeRelays inbox out) = when 8 (not (fills (x .seat .n) inbox))
+wrong x (takeRelays inbox out) = when 8 (not (hasEnded (x .stage) || fills (x .seat .n) inbox))
 
 -- what an accepted one writes, the next state, the value that it answers, and the result, which step 5 alone has
 abbrev pub due : Party → Call → List ℕ

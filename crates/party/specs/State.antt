@@ -1,6 +1,6 @@
 -- The state of a party (document 01: box), what breaks it, and the one form that each stage's states are given back in.
 -- The hash of the tree is a parameter; document 01's is SHA-256, at which the contracts cite these. Assumes nothing.
-use mathlib.Core.Bool.{Bool, false, not, _||_}
+use mathlib.Core.Bool.{Bool, true, false, not, _||_}
 use mathlib.Core.List.{List, [], _++_}
 use mathlib.Core.Option.{Option, none, some}
 use Prim.Native.Nat.{ℕ, _-_}
@@ -103,6 +103,13 @@ resultAt (Ended o) bs = some (resultFrom o bs)
 
 abbrev pub resultIn : Party → Option Result
 resultIn x = resultAt (x .stage) (x .message)
+
+abbrev pub hasEnded : Stage → Bool
+hasEnded Root = false
+hasEnded Bit = false
+hasEnded First = false
+hasEnded Second = false
+hasEnded (Ended o) = true
 
 -- the state of a refused opening, which every step refuses
 unfoldable pub blankState : Party

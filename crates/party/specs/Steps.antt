@@ -18,6 +18,7 @@ use Rattle.packet.specs.Class.{Class, silent, faulty, valid, classOf}
 use Rattle.commitment.specs.Commitment.{packetWith}
 unfoldable pub use Rattle.commitment.specs.Commitment.{openCause}
 use Rattle.party.specs.State.{seatOf, Result, nothing, settled, messageIn, shareHeld, atRoot, atBit, atFirst, atSecond, atEnd, blankState, broken, messageRoot, happy}
+use Rattle.party.specs.State.{resultIn, hasEnded}
 use Rattle.party.specs.declared.Stage.{Stage}
 use Rattle.party.specs.declared.Stage.the-variants as stage
 use Rattle.party.specs.declared.Party.{Party}
@@ -26,13 +27,14 @@ use Rattle.party.specs.declared.Answer.{Answer}
 use Rattle.party.specs.declared.Answer.the-variants as answer
 use Rattle.party.specs.declared.Reply.{Reply}
 
--- document 01's number of the step that a stage waits for; only that one is in turn
+-- document 01's number of the step that a stage waits for; only that one is in turn. A party that has ended waits for nothing, and step 5 reads its
+-- result again
 abbrev pub turnOf : Stage → ℕ
 turnOf stage.Root = 2
 turnOf stage.Bit = 3
 turnOf stage.First = 4
 turnOf stage.Second = 5
-turnOf (stage.Ended r) = 0
+turnOf (stage.Ended r) = 5
 
 -- cause 5, a broken state, then cause 6, a step that is not in turn; 0: neither
 unfoldable pub stateCause : ℕ → Party → ℕ
@@ -187,6 +189,10 @@ shareFrom silent = []
 shareFrom faulty = []
 shareFrom (valid x p) = x
 
+-- causes 5, 6 and 8 of step 5; a party that has ended does not look at the inbox
+unfoldable pub relaysCause : Party → List ℕ → ℕ
+relaysCause x inbox = cond (hasEnded (x .stage)) (stateCause 5 x) (inboxCause 5 x inbox)
+
 -- causes 11 and 12 of rebuilding become the result nothing
 abbrev pub rebuilt : Recovered → Result
 rebuilt (rebuild.cause k) = nothing
@@ -200,10 +206,19 @@ module _ (H : List ℕ → List ℕ) where
   gathered x j (p ∷ ps) =
       cond (eqb j (x .seat .own)) (shareHeld x) (shareFrom (classOf H (x .seat .n) j (x .root) p)) ∷ gathered x (j + 1) ps
 
-  -- a happy party ends with its message; another rebuilds
-  unfoldable pub resultOf : Party → List ℕ → Result
-  resultOf x inbox =
+  -- a happy party finds its message; another rebuilds
+  unfoldable pub resultFound : Party → List ℕ → Result
+  resultFound x inbox =
       cond (happy H x) (settled (messageIn x)) (rebuilt (recovered (x .seat .n - x .seat .t) (present 1 (gathered x 1 (bodies (x .seat .n) inbox)))))
+
+-- the result that a party holds, or else the one that it finds
+abbrev pub heldOr : Option Result → Result → Result
+heldOr none r = r
+heldOr (some kept) r = kept
+
+module _ (H : List ℕ → List ℕ) where
+  unfoldable pub resultOf : Party → List ℕ → Result
+  resultOf x inbox = heldOr (resultIn x) (resultFound H x inbox)
 
 -- the end with a result: a message is written at the start of the buffer; cause 9 where the buffer is shorter
 abbrev pub ending : Party → Result → List ℕ → Stepped
@@ -212,9 +227,10 @@ ending x (settled m) out =
     cond (ltb (length out) (length m)) (gives x (answer.Short (length m)) out)
     (gives (atEnd (x .seat) (settled m)) (answer.Message (length m)) (spliced out 0 m))
 
--- step 5, the second inbox: causes 5, 6, 8, and 9 where a message was found
+-- step 5, the second inbox: causes 5, 6, 8, and 9 where the result is a message. On a party that has ended the same result is given again, in a state
+-- built anew (document 02, No. 1)
 module _ (H : List ℕ → List ℕ) where
   unfoldable pub takeRelaysOf : Party → List ℕ → List ℕ → Stepped
   takeRelaysOf x inbox out =
-      cond (not (eqb (inboxCause 5 x inbox) 0)) (refused x (inboxCause 5 x inbox) out)
+      cond (not (eqb (relaysCause x inbox) 0)) (refused x (relaysCause x inbox) out)
       (ending x (resultOf H x inbox) out)

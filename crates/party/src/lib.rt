@@ -10,8 +10,8 @@ ghost use Rattle.buffer.specs.Splice.{spliced};
 ghost use Rattle.buffer.specs.Entries.{fills, bodies};
 ghost use Rattle.merkle.specs.Shares.{blank};
 ghost use Rattle.commitment.specs.Commitment.{mailWith};
-ghost use Rattle.party.specs.State.{partyLimits, padded, messageIn, shareHeld, settled, blankState, overlong, broken, happy};
-ghost use Rattle.party.specs.Steps.{turnOf, openCause, stateCause, inboxCause, firstValid, gathered};
+ghost use Rattle.party.specs.State.{partyLimits, padded, messageIn, shareHeld, nothing, settled, atEnd, resultFrom, hasEnded, blankState, overlong, broken, happy};
+ghost use Rattle.party.specs.Steps.{turnOf, openCause, stateCause, inboxCause, relaysCause, firstValid, gathered, resultFound};
 ghost use Rattle.party.specs.Steps.{stepped, writes, ending, openOf, agreeRootOf, agreeBitOf, takeSharesOf, takeRelaysOf};
 ghost use Rattle.party.specs.Private.{Fit, TakenIs, Gathered, after};
 use buffer::Written;
@@ -215,14 +215,26 @@ impl Party {
         self.after(holding, answer)
     }
 
-    // Step 5: the second inbox comes. A happy party ends with its message, another with what it rebuilds.
+    // Step 5: the second inbox comes, and the party ends. One that has ended gives its result again and does not look at the inbox.
     pub fn take_relays(self, inbox: &[u8], out: &mut [u8]) -> Reply
         ensures { λ r. ⌜ stepped r (now (out .exit)) ≡ takeRelaysOf sha256 self (now (inbox .entry)) (now (out .entry)) ⌝ }
     {
-        let cause = self.inbox_cause(5, inbox);
+        let cause = self.relays_cause(inbox);
         if cause != 0 {
             return self.refused(cause);
         }
+        let stage = self.stage;
+        let Stage::Ended(outcome) = stage else {
+            return self.conclude(inbox, out);
+        };
+        self.give_again(outcome, out)
+    }
+
+    // Ends: a happy party with its message, another with what it rebuilds.
+    fn conclude(self, inbox: &[u8], out: &mut [u8]) -> Reply
+        requires { ⌜ Fit self × (fills (self .seat .n) (now inbox) ≡ true) ⌝ }
+        ensures { λ r. ⌜ stepped r (now (out .exit)) ≡ ending self (resultFound sha256 self (now (inbox .entry))) (now (out .entry)) ⌝ }
+    {
         if self.happy() {
             let len = self.len;
             let message = self.message;
@@ -240,12 +252,32 @@ impl Party {
             places,
             &mut message,
         ) else {
-            return Reply {
-                state: self.ended(Outcome::Nothing, [0; Party::MAX_MESSAGE]),
-                answer: Answer::Nothing,
-            };
+            return self.settle_nothing();
         };
         self.settle(&message[..len], out)
+    }
+
+    // Gives the result that the state holds, in the ended form built anew.
+    fn give_again(self, outcome: Outcome, out: &mut [u8]) -> Reply
+        requires { ⌜ overlong (Stage.Ended outcome) ≡ false ⌝ }
+        ensures { λ r. ⌜ stepped r (now (out .exit)) ≡ ending self (resultFrom outcome (self .message)) (now (out .entry)) ⌝ }
+    {
+        let Outcome::Message(len) = outcome else {
+            return self.settle_nothing();
+        };
+        let message = self.message;
+        self.settle(&message[..len], out)
+    }
+
+    // Cause 5, 6 or 8 of step 5, or 0.
+    fn relays_cause(self, inbox: &[u8]) -> u8
+        ensures { λ r. ⌜ r ≡ relaysCause self (now (inbox .entry)) ⌝ }
+    {
+        let stage = self.stage;
+        if has_ended(stage) {
+            return self.state_cause(5);
+        }
+        self.inbox_cause(5, inbox)
     }
 
     // Cause 5, 6 or 8, or 0.
@@ -322,6 +354,16 @@ impl Party {
         Reply {
             state: self.ended(Outcome::Message(len), kept),
             answer: Answer::Message(len),
+        }
+    }
+
+    // Ends with nothing.
+    fn settle_nothing(self) -> Reply
+        ensures { λ r. ⌜ r ≡ record { state = atEnd (self .seat) nothing; answer = Answer.Nothing } ⌝ }
+    {
+        Reply {
+            state: self.ended(Outcome::Nothing, [0; Party::MAX_MESSAGE]),
+            answer: Answer::Nothing,
         }
     }
 
@@ -550,8 +592,17 @@ fn turn_of(stage: Stage) -> usize
         Stage::Bit => 3,
         Stage::First => 4,
         Stage::Second => 5,
-        Stage::Ended(_) => 0,
+        Stage::Ended(_) => 5,
     }
+}
+
+fn has_ended(stage: Stage) -> bool
+    ensures { λ r. ⌜ r ≡ hasEnded stage ⌝ }
+{
+    let Stage::Ended(_) = stage else {
+        return false;
+    };
+    true
 }
 
 fn overlong(stage: Stage) -> bool

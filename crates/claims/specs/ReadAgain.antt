@@ -1,0 +1,49 @@
+-- What request No. 1 of document 02 asks for, at SHA-256: whoever reads a result after the first reader gets the same one. A box is a party there, a
+-- book a message. Assumes nothing.
+use mathlib.Core.Path.{_≡_}
+use mathlib.Core.Logic.{_⊎_, inl, inr, _≢_}
+use mathlib.Core.Bool.{false}
+use mathlib.Core.List.{List, [], _∷_, _++_, map, List·Memᴰ}
+use mathlib.Core.Option.{Option, none, some}
+use Prim.Native.Nat.{ℕ, _≤_}
+use lib.Dec.{ltb}
+use lib.ListN.{length}
+use Rattle.buffer.specs.Splice.{spliced}
+use Rattle.sha256.specs.Sha256.{sha256}
+use Rattle.party.specs.State.{Result, nothing, resultBytes, resultIn, atEnd, broken}
+use Rattle.party.specs.Steps.{Stepped}
+use Rattle.party.specs.declared.Party.{Party}
+use Rattle.agreement.specs.Calls.{Call, takeRelays, stepOf, made}
+use Rattle.agreement.specs.Agreement.{Good, sumOver}
+use Rattle.claims.specs.Terms.{when, foremost, ended, bytesIn, Box, Host, boxOf}
+use Rattle.claims.specs.Claims.{All, Sitting, OneResult}
+
+-- step 5 on any state that holds the result R, with any inbox: causes 5 and 9 alone, which change nothing, and cause 9 tells the book's length; else R, the
+-- book written at the start of the buffer, and the state as a party is that has just ended with R
+pub record GivesAgain (x : Party) (R : Result) (out : List ℕ) (r : Stepped) : Type 0 where
+  pub cause : r .cause ≡ foremost (when 5 (broken x) ∷ when 9 (ltb (length out) (length (resultBytes R))) ∷ [])
+  pub refused : r .cause ≢ 0 → (r .state ≡ x) × (r .buffer ≡ out) × (r .result ≡ none)
+  pub needed : r .cause ≡ 9 → r .value ≡ length (resultBytes R)
+  pub given : r .cause ≡ 0 → (r .state ≡ atEnd (x .seat) R) × (r .buffer ≡ spliced out 0 (resultBytes R)) × (r .result ≡ some R)
+
+-- a good box that is called further
+abbrev pub further : List Call → Good ⊎ Host → Good ⊎ Host
+further more (inl A) = inl (record { own = A .own; message = A .message; calls = A .calls ++ more })
+further more (inr h) =
+    inr (record { own = h .own; book = h .book; stateRoom = h .stateRoom; rootRoom = h .rootRoom; calls = h .calls ++ more })
+
+-- the box that has ended with R keeps it, sends nothing and hashes nothing, whatever it is called with
+pub record NothingMore (n : ℕ) (before after : Box) : Type 0 where
+  pub result : after .result ≡ before .result
+  pub sent : sumOver (bytesIn n) (after .acts) ≡ sumOver (bytesIn n) (before .acts)
+  pub hashed : after .hashed ≡ before .hashed
+
+pub record ResultsAreReadAgain : Type 0 where
+  pub step5 : (x : Party) (R : Result) (inbox out : List ℕ) → resultIn x ≡ some R → GivesAgain x R out (made sha256 x (takeRelays inbox out))
+  pub others : (x : Party) (R : Result) (c : Call) → resultIn x ≡ some R → broken x ≡ false → stepOf c ≢ 5 → made sha256 x c .cause ≡ 6
+  pub kept : (n t : ℕ) (g : Good ⊎ Host) (R : Result) (more : List Call) → boxOf n t g .cause ≡ 0 → boxOf n t g .result ≡ some R
+      → NothingMore n (boxOf n t g) (boxOf n t (further more g))
+  -- demand 3, for every reader: under its premises, which speak of the first accepted step 5, each accepted one gave the one result; on bit 0, nothing
+  pub one : (n t : ℕ) (good : List (Good ⊎ Host)) (z : List ℕ) (bit : ℕ) → let boxes = map (boxOf n t) good in Sitting n t boxes z bit
+      → (R : Result) × OneResult n t boxes z bit R × (bit ≡ 0 → R ≡ nothing)
+      × All n t boxes z bit (λ A. (inbox : List ℕ) (r : Option Result) → List·Memᴰ (ended inbox r) (A .acts) → r ≡ some R)
