@@ -114,7 +114,7 @@ module _ (H : List ℕ → List ℕ) where
   final x [] = x
   final x (c ∷ cs) = final (made x c .state) cs
 
-  -- the strings of the path checks that an accepted call makes; a happy party makes none, nor does one that has ended
+  -- the strings of the path checks that an accepted call makes; a happy party makes none, nor does one that reads its result again
   unfoldable pub checkedIn : Party → Call → List (List ℕ)
   checkedIn x (agreeRoot z) = []
   checkedIn x (agreeBit bit out) = []

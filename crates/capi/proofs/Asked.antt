@@ -30,15 +30,6 @@ module _ (s : List ℕ) (x : Party) (b : Bool) (read : x ≡ stateOf s) (tested 
   pub asked-told : (f : Party → ℕ) → b ≡ false → f x ≡ unlessBroken (stateOf s) (f (stateOf s))
   asked-told f h = ap f read ∙ sym (unbroken (stateOf s) (f (stateOf s)) (sym (ap broken read) ∙ sym tested ∙ h))
 
--- a state that is not broken has no result over the limit
-pub short-result : (x : Party) → broken x ≡ false → overlong (x .stage) ≡ false
-unfolding broken
-short-result x e =
-    neither
-    (not (eqb (groupCause (x .seat .n) (x .seat .t)) 0) || not (numbered (x .seat .n) (x .seat .own)) || ltb maxMessage (x .len)
-    || ltb maxShare (x .held))
-    (overlong (x .stage)) e .1
-
 -- a stage at which the party waits has no result
 pub waits : (s : Stage) → OneOf (0 ∷ 1 ∷ 2 ∷ 3 ∷ []) (tagOf the-type s) → lengthAnswer s ≡ packed 6 0
 waits Root h = refl

@@ -39,7 +39,7 @@ foremost (k ∷ ks) = cond (eqb k 0) (foremost ks) k
 abbrev pub groupThen : ℕ → ℕ → List ℕ → ℕ
 groupThen n t ks = foremost (when 1 (not (parties n)) ∷ when 2 (leb n (2 * t)) ∷ ks)
 
--- a step: the buffer that it is lent, and what can be wrong with what it is handed; a party that has ended does not look at the inbox
+-- a step: the buffer that it is lent, and what can be wrong with what it is handed; step 5 does not look at the inbox of a party that has ended
 abbrev pub lent : Call → List ℕ
 lent (agreeRoot z) = []
 lent (agreeBit bit out) = out
@@ -186,7 +186,8 @@ pub record Host : Type 0 where
   pub rootRoom : List ℕ
   pub calls : List Call
 
--- a call is accepted where its number is below 2^32, and then that number is its value; after step 5 a book's length is asked of the state
+-- a call is accepted where its number is below 2^32, and then that number is its value; step 5's says whether there is a book, and the state is asked
+-- for its length
 abbrev pub actSeen : Call → Replies → Act
 actSeen (agreeRoot z) r = rooted z (r .number)
 actSeen (agreeBit bit out) r = sent bit (take (r .number) (r .out))

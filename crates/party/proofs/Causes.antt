@@ -1,5 +1,5 @@
 -- The causes for which a party's steps are refused: one law for each, and what holds where none applies. Assumes nothing.
-use mathlib.Core.Path.{_≡_, refl}
+use mathlib.Core.Path.{_≡_, refl, sym, _∙_}
 use mathlib.Core.Bool.{Bool, true, false, cond, not, _||_}
 use mathlib.Core.List.{List}
 use Prim.Native.Nat.{ℕ, _<_, _≤_}
@@ -14,10 +14,11 @@ use Rattle.buffer.specs.Entries.{fills}
 use Rattle.limits.proofs.Booleans.{neither}
 use Rattle.commitment.specs.Commitment.{openCause}
 use Rattle.commitment.proofs.Opening.{spared, cleared, open-fine, open-bounds}
-use Rattle.party.specs.State.{broken, overlong}
-use Rattle.party.specs.Steps.{turnOf, stateCause, rootCause, bitCause, inboxCause}
+use Rattle.party.specs.State.{hasEnded, broken, overlong}
+use Rattle.party.specs.Steps.{turnOf, stateCause, rootCause, bitCause, inboxCause, relaysCause}
 use Rattle.party.specs.Private.{Fit}
 use Rattle.party.specs.declared.Party.{Party}
+use Rattle.party.proofs.Ways.{Way, on, off, way, clash}
 
 -- a state that is not broken keeps its bounds
 pub fit-of : (x : Party) → broken x ≡ false → Fit x
@@ -42,6 +43,15 @@ fit-of x e =
       short = ltb-false maxMessage (x .len) (long .1);
       few = ltb-false maxShare (x .held) (held .1);
     }
+
+-- and a result within its limit
+pub whole-stage : (x : Party) → broken x ≡ false → overlong (x .stage) ≡ false
+unfolding broken
+whole-stage x e =
+    neither
+    (not (eqb (groupCause (x .seat .n) (x .seat .t)) 0) || not (numbered (x .seat .n) (x .seat .own)) || ltb maxMessage (x .len)
+    || ltb maxShare (x .held))
+    (overlong (x .stage)) e .1
 
 -- the opening of such a state's message would be accepted
 pub fit-open : (x : Party) → Fit x → (len : ℕ) → len ≡ x .len → openCause (x .seat .n) (x .seat .t) (x .seat .own) len ≡ 0
@@ -160,3 +170,28 @@ unfolding inboxCause
 inbox-sound turn x inbox e =
     let h = cleared (stateCause turn x) (cond (not (fills (x .seat .n) inbox)) 8 0) e in
     (h .0, not-false (fills (x .seat .n) inbox) (spared (not (fills (x .seat .n) inbox)) 7 0 (h .1) .0))
+
+-- causes 5, 6 and 8 of step 5, by whether the party has ended
+module _ (x : Party) (inbox : List ℕ) where
+  pub relays-ended : hasEnded (x .stage) ≡ true → relaysCause x inbox ≡ stateCause 5 x
+  unfolding relaysCause
+  relays-ended h = rw h
+
+  pub relays-waiting : hasEnded (x .stage) ≡ false → relaysCause x inbox ≡ inboxCause 5 x inbox
+  unfolding relaysCause
+  relays-waiting h = rw h
+
+  -- where none applies, neither does one of the state, and the inbox is filled if it is looked at
+  pub relays-sound : relaysCause x inbox ≡ 0 → (stateCause 5 x ≡ 0) × (hasEnded (x .stage) ≡ false → fills (x .seat .n) inbox ≡ true)
+  relays-sound e = go (way (hasEnded (x .stage)))
+    where
+      go : Way (hasEnded (x .stage)) → (stateCause 5 x ≡ 0) × (hasEnded (x .stage) ≡ false → fills (x .seat .n) inbox ≡ true)
+      go (on h) = (sym (relays-ended h) ∙ e, λ w. clash h w)
+      go (off h) = let s = inbox-sound 5 x inbox (sym (relays-waiting h) ∙ e) in (s .0, λ w. s .1)
+
+  pub relays-fine : stateCause 5 x ≡ 0 → (hasEnded (x .stage) ≡ false → fills (x .seat .n) inbox ≡ true) → relaysCause x inbox ≡ 0
+  relays-fine fine filled = go (way (hasEnded (x .stage)))
+    where
+      go : Way (hasEnded (x .stage)) → relaysCause x inbox ≡ 0
+      go (on h) = relays-ended h ∙ fine
+      go (off h) = relays-waiting h ∙ inbox-fine 5 x inbox fine (filled h)

@@ -2,8 +2,9 @@
 -- applies, by whether the party is happy. What is sent goes by the answer of the writer, and what ends by the room for the message. By
 -- the tests of the definitions. Assumes nothing.
 use mathlib.Core.Path.{_≡_, refl, ap, subst, _∙_}
-use mathlib.Core.Bool.{Bool, true, false, cond}
+use mathlib.Core.Bool.{Bool, true, false, cond, true≢false}
 use mathlib.Core.List.{List, []}
+use mathlib.Core.Option.{none, some, Option·none-ne-some}
 use Prim.Native.Nat.{ℕ, _-_, _<_, _≤_}
 use native.Mathlib.Omega.{arith}
 use borrow.Author.Tests.{lt-ltb, le-ltb, eq-eqb, ne-eqb}
@@ -17,11 +18,14 @@ use Rattle.buffer.specs.declared.Written.the-variants as given
 use Rattle.buffer.proofs.Splice.{spliced-none}
 use Rattle.erasure.specs.Rebuild.{present, recovered}
 use Rattle.merkle.specs.Shares.{blank}
-use Rattle.party.specs.State.{seatOf, nothing, settled, messageIn, atRoot, atFirst, atSecond, atEnd, blankState, messageRoot, happy}
+use Rattle.party.specs.State.{seatOf, Result, nothing, settled, messageIn, atRoot, atFirst, atSecond, atEnd, blankState, messageRoot, happy}
+use Rattle.party.specs.State.{resultAt, resultIn, hasEnded}
 use Rattle.party.specs.Steps.{openCause, openOf, rootCause, withRoot, agreeRootOf, bitCause, gives, refused, stepped, writes, outboxOf}
 use Rattle.party.specs.Steps.{agreeBitOf, inboxCause, takenBy, shareTaken, packetTaken, ownRelay, relayOf, heldOf, takeSharesOf}
-use Rattle.party.specs.Steps.{gathered, rebuilt, resultOf, ending, takeRelaysOf}
+use Rattle.party.specs.Steps.{gathered, rebuilt, relaysCause, resultFound, resultOf, ending, takeRelaysOf}
 use Rattle.party.specs.Private.{after}
+use Rattle.party.specs.declared.Stage.{Stage}
+use Rattle.party.specs.declared.Stage.the-variants.{Root, Bit, First, Second, Ended}
 use Rattle.party.specs.declared.Party.{Party}
 use Rattle.party.specs.declared.Answer.the-variants as answer
 
@@ -93,22 +97,53 @@ module _ (H : List ℕ → List ℕ) where
       unfolding takeSharesOf relayOf heldOf
       shares-taken h = rw (eq-eqb (inboxCause 4 x inbox) 0 fine, h)
 
-  -- step 5, the second inbox
+  -- step 5, the second inbox: by whether the party holds a result
   module _ (x : Party) (inbox out : List ℕ) where
-    pub relays-refused : (inboxCause 5 x inbox ≡ 0 → ⊥)
-        → takeRelaysOf H x inbox out ≡ refused x (inboxCause 5 x inbox) out
+    pub relays-refused : (relaysCause x inbox ≡ 0 → ⊥) → takeRelaysOf H x inbox out ≡ refused x (relaysCause x inbox) out
     unfolding takeRelaysOf
-    relays-refused h = rw (ne-eqb (inboxCause 5 x inbox) 0 h)
+    relays-refused h = rw (ne-eqb (relaysCause x inbox) 0 h)
 
-    module _ (fine : inboxCause 5 x inbox ≡ 0) where
-      pub relays-happy : happy H x ≡ true → takeRelaysOf H x inbox out ≡ ending x (settled (messageIn x)) out
+    module _ (fine : relaysCause x inbox ≡ 0) where
+      pub relays-found : resultIn x ≡ none → takeRelaysOf H x inbox out ≡ ending x (resultFound H x inbox) out
       unfolding takeRelaysOf resultOf
-      relays-happy h = rw (eq-eqb (inboxCause 5 x inbox) 0 fine, h)
+      relays-found h = rw (eq-eqb (relaysCause x inbox) 0 fine, h)
 
-      pub relays-rebuilt : happy H x ≡ false → takeRelaysOf H x inbox out
-          ≡ ending x (rebuilt (recovered (x .seat .n - x .seat .t) (present 1 (gathered H x 1 (bodies (x .seat .n) inbox))))) out
+      pub relays-again : (r : Result) → resultIn x ≡ some r → takeRelaysOf H x inbox out ≡ ending x r out
       unfolding takeRelaysOf resultOf
-      relays-rebuilt h = rw (eq-eqb (inboxCause 5 x inbox) 0 fine, h)
+      relays-again r h = rw (eq-eqb (relaysCause x inbox) 0 fine, h)
+
+  -- the result that is found, by whether the party is happy
+  module _ (x : Party) (inbox : List ℕ) where
+    pub found-happy : happy H x ≡ true → resultFound H x inbox ≡ settled (messageIn x)
+    unfolding resultFound
+    found-happy h = rw h
+
+    pub found-rebuilt : happy H x ≡ false
+        → resultFound H x inbox ≡ rebuilt (recovered (x .seat .n - x .seat .t) (present 1 (gathered H x 1 (bodies (x .seat .n) inbox))))
+    unfolding resultFound
+    found-rebuilt h = rw h
+
+-- a party holds a result exactly if it has ended
+module _ (x : Party) where
+  pub holds-none : hasEnded (x .stage) ≡ false → resultIn x ≡ none
+  holds-none = go (x .stage)
+    where
+      go : (s : Stage) → hasEnded s ≡ false → resultAt s (x .message) ≡ none
+      go Root h = refl
+      go Bit h = refl
+      go First h = refl
+      go Second h = refl
+      go (Ended o) h = absurd (true≢false h)
+
+  pub holds-ended : (r : Result) → resultIn x ≡ some r → hasEnded (x .stage) ≡ true
+  holds-ended r = go (x .stage)
+    where
+      go : (s : Stage) → resultAt s (x .message) ≡ some r → hasEnded s ≡ true
+      go Root h = absurd (Option·none-ne-some r h)
+      go Bit h = absurd (Option·none-ne-some r h)
+      go First h = absurd (Option·none-ne-some r h)
+      go Second h = absurd (Option·none-ne-some r h)
+      go (Ended o) h = refl
 
 -- what is sent: the answer of the writer says whether the state is the next one
 pub writes-given : (x next : Party) (bs out : List ℕ) (r : Written) (o : List ℕ) → gave r o ≡ written bs out

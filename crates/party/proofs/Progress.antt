@@ -6,7 +6,7 @@ use mathlib.Core.Bool.{Bool, true, false, cond}
 use mathlib.Core.List.{List, []}
 use Prim.Native.Nat.{ℕ, _-_, _*_, _≤_, _<_}
 use native.Mathlib.Omega.{arith}
-use borrow.Author.Tests.{le-ltb, eq-eqb}
+use borrow.Author.Tests.{le-ltb, ltb-false, eq-eqb}
 use lib.Dec.{eqb}
 use lib.ListN.{length, length-take}
 use Rattle.limits.specs.Limits.{maxParties, maxMessage, maxShare}
@@ -17,14 +17,18 @@ use Rattle.erasure.specs.Rebuild as rebuild
 use Rattle.packet.proofs.Reading.{fields-of}
 use Rattle.packet.proofs.Class.{passing}
 use Rattle.party.specs.State.{Result, nothing, settled, resultBytes, messageIn, atRoot, atBit, atFirst, atSecond, atEnd, broken, happy}
-use Rattle.party.specs.Steps.{turnOf, openOf, bitCause, inboxCause, agreeRootOf, outboxOf, agreeBitOf, Taken, missing, found, takenBy}
-use Rattle.party.specs.Steps.{shareTaken, relayOf, heldOf, takeSharesOf, gathered, rebuilt, resultOf, ending, takeRelaysOf, writes, Stepped}
+use Rattle.party.specs.State.{resultAt, hasEnded, overlong}
+use Rattle.party.specs.Steps.{turnOf, openOf, bitCause, inboxCause, relaysCause, agreeRootOf, outboxOf, agreeBitOf, Taken, missing, found, takenBy}
+use Rattle.party.specs.Steps.{shareTaken, relayOf, heldOf, takeSharesOf, gathered, rebuilt, resultFound, heldOr, resultOf, ending, takeRelaysOf, writes, Stepped}
+use Rattle.party.specs.declared.Outcome.the-variants.{Nothing, Message}
+use Rattle.party.specs.declared.Stage.{Stage}
+use Rattle.party.specs.declared.Stage.the-variants.{Root, Bit, First, Second, Ended}
 use Rattle.party.specs.declared.Seat.{Seat}
 use Rattle.party.specs.declared.Party.{Party}
 use Rattle.party.specs.declared.Opened.{Opened}
 use Rattle.commitment.specs.Commitment.{openCause}
 use Rattle.commitment.proofs.Opening.{open-fine}
-use Rattle.party.proofs.Causes.{fit-of, broken-stage, state-fine, root-fine, bit-fine, inbox-fine}
+use Rattle.party.proofs.Causes.{fit-of, whole-stage, broken-stage, state-fine, root-fine, bit-fine, inbox-fine, relays-fine}
 use Rattle.party.proofs.Outcomes.{open-given, root-given}
 use Rattle.party.proofs.Taking.{Short, short-recovered}
 use Rattle.party.proofs.Checks.{took}
@@ -71,13 +75,13 @@ module _ (H : List ℕ → List ℕ) where
         rw (eq-eqb (inboxCause 4 x inbox) 0 e)
         (room-for x (atSecond (x .seat) (messageIn x) (x .root) (heldOf H x inbox)) (relayOf H x inbox) out room)
 
-    -- step 5
-    pub relays-accepted : (inbox out : List ℕ) → turnOf (x .stage) ≡ 5 → fills (x .seat .n) inbox ≡ true
+    -- step 5; the inbox of a party that has ended may be any
+    pub relays-accepted : (inbox out : List ℕ) → turnOf (x .stage) ≡ 5 → (hasEnded (x .stage) ≡ false → fills (x .seat .n) inbox ≡ true)
         → length (resultBytes (resultOf H x inbox)) ≤ length out → takeRelaysOf H x inbox out .cause ≡ 0
     unfolding takeRelaysOf
     relays-accepted inbox out turn filled room =
-        let e = inbox-fine 5 x inbox (state-fine 5 x whole turn) filled in
-        rw (eq-eqb (inboxCause 5 x inbox) 0 e) (room-for-end x (resultOf H x inbox) out room)
+        let e = relays-fine x inbox (state-fine 5 x whole turn) filled in
+        rw (eq-eqb (relaysCause x inbox) 0 e) (room-for-end x (resultOf H x inbox) out room)
 
 -- the forms of states within their limits are not broken
 module _ (s : Seat) (low : 1 ≤ s .n) (high : s .n ≤ maxParties) (faults : 2 * s .t < s .n) (first : 1 ≤ s .own) (last : s .own ≤ s .n) where
@@ -128,16 +132,27 @@ module _ (H : List ℕ → List ℕ) (x : Party) (whole : broken x ≡ false) wh
   rebuilt-short (rebuild.cause k) h = omega arith
   rebuilt-short (rebuild.message m) h = h
 
-  pub result-short : (inbox : List ℕ) → length (resultBytes (resultOf H x inbox)) ≤ maxMessage
-  unfolding resultOf
-  result-short inbox = go (happy H x)
+  pub found-short : (inbox : List ℕ) → length (resultBytes (resultFound H x inbox)) ≤ maxMessage
+  unfolding resultFound
+  found-short inbox = go (happy H x)
     where
-      r : Recovered
-      r = recovered (x .seat .n - x .seat .t) (present 1 (gathered H x 1 (bodies (x .seat .n) inbox)))
-
       go : (b : Bool) → length (resultBytes (cond b (settled (messageIn x))
           (rebuilt (recovered (x .seat .n - x .seat .t) (present 1 (gathered H x 1 (bodies (x .seat .n) inbox))))))) ≤ maxMessage
       go true = message-short
       go false =
           rebuilt-short (recovered (x .seat .n - x .seat .t) (present 1 (gathered H x 1 (bodies (x .seat .n) inbox))))
           (short-recovered (x .seat .n - x .seat .t) (present 1 (gathered H x 1 (bodies (x .seat .n) inbox))))
+
+  -- a result that is held is within the limit, or the state were broken
+  pub result-short : (inbox : List ℕ) → length (resultBytes (resultOf H x inbox)) ≤ maxMessage
+  unfolding resultOf
+  result-short inbox = go (x .stage) (whole-stage x whole) (found-short inbox)
+    where
+      go : (s : Stage) → overlong s ≡ false → length (resultBytes (resultFound H x inbox)) ≤ maxMessage
+          → length (resultBytes (heldOr (resultAt s (x .message)) (resultFound H x inbox))) ≤ maxMessage
+      go Root h f = f
+      go Bit h f = f
+      go First h f = f
+      go Second h f = f
+      go (Ended Nothing) h f = omega arith
+      go (Ended (Message l)) h f = omega (arith, length-take l (x .message), ltb-false maxMessage l h)

@@ -27,8 +27,8 @@ use Rattle.party.specs.declared.Answer.{Answer}
 use Rattle.party.specs.declared.Answer.the-variants as answer
 use Rattle.party.specs.declared.Reply.{Reply}
 
--- document 01's number of the step that a stage waits for; only that one is in turn. A party that has ended waits for nothing, and step 5 reads its
--- result again
+-- document 01's number of the one step that is in turn at a stage: the one that it waits for, or step 5, which reads the result again, once the party
+-- has ended
 abbrev pub turnOf : Stage → ℕ
 turnOf stage.Root = 2
 turnOf stage.Bit = 3

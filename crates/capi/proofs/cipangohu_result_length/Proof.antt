@@ -1,8 +1,9 @@
 -- `capi::cipangohu_result_length` meets its contract: by whether the state that the bytes say is broken, and by its stage. Assumes nothing.
 use mathlib.Core.Path.{sym, _∙_}
 use Rattle.party.specs.declared.Party.{Party}
+use Rattle.party.proofs.Causes.{whole-stage}
 use Rattle.capi.specs.Calls.{lengthAnswer, resultLengthCall}
-use Rattle.capi.proofs.Asked.{asked-refused, asked-told, short-result}
+use Rattle.capi.proofs.Asked.{asked-refused, asked-told}
 use borrow.Author.Needs.{needs}
 use Rattle.capi.proofs.cipangohu_result_length.Statement.{statement}
 use Rattle.capi.proofs.cipangohu_result_length.Tie as tie
@@ -25,7 +26,7 @@ returns c = let b = c .before .before in
 
 length-answer-requires : tie.Need-length-answer-requires
 length-answer-requires c κs = let b = c .before in
-    short-result (b .before .read .result) (sym (b .broken .ensures) ∙ c .if1 .left)
+    whole-stage (b .before .read .result) (sym (b .broken .ensures) ∙ c .if1 .left)
 
 returns-2 : tie.Need-returns-2
 unfolding resultLengthCall
