@@ -35,9 +35,9 @@ use Rattle.party.specs.State.{Result, nothing, settled}
 use Rattle.party.specs.Steps.{shareFrom, rebuilt}
 use Rattle.party.specs.declared.Opened.{Opened}
 use Rattle.party.proofs.Ways.{Way, on, off, way, clash}
-use Rattle.agreement.specs.Calls.{heard, wrote, entry, bitGiven, lengths, opening, sentBy}
+use Rattle.agreement.specs.Calls.{heard, wrote, entry, bitGiven, lengths, opening, resultAfter, sentBy}
 use Rattle.agreement.specs.Agreement.{Good, among, absent, Each, owns, step, OpenedAll, CalledAll, Ruled, DeliveredAll, sent, Conclusions, Agreement}
-use Rattle.agreement.proofs.Ran.{opened-is}
+use Rattle.agreement.proofs.Ran.{opened-is, gave}
 use Rattle.agreement.proofs.Lists.{lengths-none, lengths-others, sum-below, sum-none, find, among-out, one-each, present-borne}
 use Rattle.agreement.proofs.Needed.{glad, relayFrom, coding, check, Needed}
 use Rattle.agreement.proofs.Conduct.{Conduct, sharesIn, vote-given, bit-low, ended, conducts, needed-hashed}
@@ -96,7 +96,8 @@ module _ (H : List ℕ → List ℕ) (wide : (s : List ℕ) → length (H s) ≡
     on-zero =
         record {
           holds = λ A h. ended H n t good z bit opened called A h b0 .0;
-          gives = λ e. absurd (omega arith);
+          gives = λ A h. gave H n t (A .own) (A .message) (A .calls) z (opened .accepted A h) nothing (ended H n t good z bit opened called A h b0 .0);
+          void = λ e. refl;
           somebodys = inl refl;
           common = λ m e. absurd (not-common m e);
           bound = λ m e. absurd (let q : _≡_ {A = ℕ} 0 1 = cc in omega arith);
@@ -295,11 +296,15 @@ module _ (H : List ℕ → List ℕ) (wide : (s : List ℕ) → length (H s) ≡
           regroup (length good) (n - 1) K (sent H n t good)
           (sum-below (λ (C : Good). sentBy H n t (C .own) (C .message) (C .calls)) (2 * ((n - 1) * K)) good party-small)
 
+      holds : (B : Good) → In B → resultAfter H n t (B .own) (B .message) (B .calls) ≡ some (settled M)
+      holds B h = does B h .ends ∙ ap {B = Option Result} some (results B h)
+
       on-one : Conclusions H n t good bit (settled M)
       on-one =
           record {
-            holds = λ B h. does B h .ends ∙ ap {B = Option Result} some (results B h);
-            gives = λ e B h. does B h .shows ∙ ap {B = Option Result} some (results B h);
+            holds = holds;
+            gives = λ B h. gave H n t (B .own) (B .message) (B .calls) z (opened .accepted B h) (settled M) (holds B h);
+            void = λ b0. absurd (omega arith);
             somebodys = inr (A, hA, refl);
             common = λ m e. ap settled (e A hA);
             bound = λ m e. let q : M ≡ m = cc in

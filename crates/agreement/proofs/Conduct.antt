@@ -26,13 +26,13 @@ use Rattle.packet.proofs.Class.{passing, rewritten}
 use Rattle.commitment.specs.Commitment.{messageRoot, packetsWith, relayWith}
 use Rattle.party.specs.State.{seatOf, Result, nothing, settled, shareHeld, atBit, atFirst, atSecond, happy}
 use Rattle.party.specs.Steps.{packetFor, outboxOf, Taken, missing, found, shareTaken, packetTaken, firstValid, relayOf, heldOf}
-use Rattle.party.specs.Steps.{shareFrom, gathered, rebuilt, resultOf}
+use Rattle.party.specs.Steps.{shareFrom, gathered, rebuilt, resultFound, resultOf}
 use Rattle.party.specs.Strings.{shareStrings}
 use Rattle.party.specs.declared.Party.{Party}
 use Rattle.party.proofs.Kept.{message-bit, message-first, message-second, share-second}
 use Rattle.party.proofs.Ways.{Way, on, off, way}
 use Rattle.party.proofs.Checks.{took, finds, in-relays, gathered-at, gathered-length}
-use Rattle.agreement.specs.Calls.{Call, agreeBit, takeShares, takeRelays, Event, entry, heard, wrote, bitGiven, resultShown, lengths, checkedIn}
+use Rattle.agreement.specs.Calls.{Call, agreeBit, takeShares, takeRelays, Event, entry, heard, wrote, bitGiven, lengths, checkedIn}
 use Rattle.agreement.specs.Calls.{firstOf, resultAfter, hashed, sentBy}
 use Rattle.agreement.specs.Agreement.{Good, step, OpenedAll, CalledAll, allHashed}
 use Rattle.agreement.proofs.Ran.{Ran, ran-none, ran-through, bit-given, bit-small}
@@ -50,7 +50,6 @@ module _ (H : List ℕ → List ℕ) (n t i : ℕ) (m : List ℕ) (calls : List 
   pub record Conduct : Type 0 where
     pub result : Result
     pub ends : resultAfter H n t i m calls ≡ some result
-    pub shows : resultShown (done 5) ≡ some result
     pub sends : sentBy H n t i m calls ≡ lengths (bodies n (wrote (done 3))) + (n - 1) * length (wrote (done 4))
     pub hashes : (s : List ℕ) → Needs H n t i m calls z s → List·Memᴰ s (hashed H n t i m calls)
     -- happy
@@ -111,7 +110,7 @@ module _ (H : List ℕ → List ℕ) (n t i : ℕ) (m z : List ℕ) where
   relay-happy e inbox = rw (happy-first ∙ e) (ap (λ (b : List ℕ). relayWith H n t i b) (message-first (seatOf n t i) m z))
 
   result-happy : glad H n t m z ≡ true → (x inbox : List ℕ) → resultOf H (atSecond (seatOf n t i) m z x) inbox ≡ settled m
-  unfolding resultOf
+  unfolding resultOf resultFound atSecond
   result-happy e x inbox = rw (happy-second x ∙ e) (ap settled (message-second (seatOf n t i) m z x))
 
   -- an unhappy party: what it takes from the first inbox, relays and keeps
@@ -211,7 +210,7 @@ module _ (H : List ℕ → List ℕ) (n t i : ℕ) (m z : List ℕ) where
 
       result-unhappy : resultOf H X3 in5
           ≡ rebuilt (recovered (n - t) (present 1 (tabulate n (λ k. shareFrom (classOf H n (1 + k) z (has (1 + k)))))))
-      unfolding resultOf atSecond
+      unfolding resultOf resultFound atSecond
       result-unhappy =
           rw (happy-second (heldOf H X2 in4) ∙ u) (ap (λ (l : List (List ℕ)). rebuilt (recovered (n - t) (present 1 l))) gathered-is)
 
@@ -246,7 +245,6 @@ module _ (H : List ℕ → List ℕ) (n t i : ℕ) (m z : List ℕ) where
         record {
           result = resultOf H (atSecond (seatOf n t i) m z (heldOf H X2 (r .in4))) (r .in5);
           ends = r .ends;
-          shows = r .shows;
           sends = rw (r .packets, r .relayed) (r .sends);
           hashes = hashes;
           outbox = λ e. ap (bodies n) (r .packets) ∙ out-happy e;

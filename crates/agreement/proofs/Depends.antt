@@ -3,6 +3,7 @@
 use mathlib.Core.Path.{_≡_, refl, sym, ap, ap₂, _∙_}
 use mathlib.Core.Bool.{Bool, false, cond, not, _&&_}
 use mathlib.Core.List.{List, [], _∷_, _++_, Memᴰ·append-left, Memᴰ·append-right}
+use mathlib.Core.Option.{Option, none, some}
 use Prim.Native.Nat.{ℕ, _+_, _-_, _≤_}
 use native.Mathlib.Omega.{arith}
 use borrow.Author.Tests.{eqb-true, eqb-false}
@@ -20,15 +21,16 @@ use Rattle.merkle.proofs.Trees.{root-hashed, path-hashed, check-hashed}
 use Rattle.packet.specs.Format.{Reading, silence, unreadable, shared, packetOf, readOf}
 use Rattle.packet.specs.Inbox.{inboxOf}
 use Rattle.packet.specs.Class.{Class, silent, faulty, valid, judged, classOf, checkedStrings, classStrings}
-use Rattle.party.specs.State.{Result, nothing, messageIn, shareHeld, atBit, atFirst, atSecond, atEnd, messageRoot, happy}
-use Rattle.party.specs.Steps.{packetFor, outboxOf, firstValid, takenBy, shareTaken, packetTaken, ownRelay, relayOf, heldOf, shareFrom, gathered, rebuilt, resultOf}
-use Rattle.party.specs.Steps.{rootCause, withRoot, Stepped, gives, agreeRootOf, bitCause, refused, writes, agreeBitOf, inboxCause, takeSharesOf, ending, takeRelaysOf}
+use Rattle.party.specs.State.{Result, nothing, messageIn, shareHeld, atBit, atFirst, atSecond, atEnd, resultIn, hasEnded, messageRoot, happy}
+use Rattle.party.specs.Steps.{packetFor, outboxOf, firstValid, takenBy, shareTaken, packetTaken, ownRelay, relayOf, heldOf, shareFrom, gathered, rebuilt, resultFound, heldOr, resultOf}
+use Rattle.party.specs.Steps.{rootCause, withRoot, Stepped, gives, agreeRootOf, bitCause, refused, writes, agreeBitOf, inboxCause, relaysCause, takeSharesOf, ending, takeRelaysOf}
 use Rattle.party.specs.Strings.{unlessValid, shareStrings, relayStrings}
 use Rattle.party.specs.declared.Party.{Party}
 use Rattle.party.specs.declared.Answer.the-variants as answer
 use Rattle.agreement.specs.Calls.{Call, agreeRoot, agreeBit, takeShares, takeRelays, made, checkedIn}
 use Rattle.party.proofs.Ways.{Way, on, off, way}
 use Rattle.party.proofs.Kept.{message-bit}
+use Rattle.party.proofs.Outcomes.{holds-not}
 use Rattle.commitment.specs.Private.{Coded}
 use Rattle.commitment.proofs.Messages.{fine}
 
@@ -174,16 +176,24 @@ module _ (H K : List ℕ → List ℕ) where
           go (on e) = rw (e, sym happy-depends ∙ e)
           go (off e) = rw (e, sym happy-depends ∙ e) (ap shareTaken (taken-depends e f))
 
-      pub result-depends : Relays → resultOf H x inbox ≡ resultOf K x inbox
-      unfolding resultOf checkedIn
-      result-depends f = go (way (happy H x))
+      found-depends : hasEnded (x .stage) ≡ false → Relays → resultFound H x inbox ≡ resultFound K x inbox
+      unfolding resultFound checkedIn
+      found-depends w f = go (way (happy H x))
         where
-          go : Way (happy H x) → resultOf H x inbox ≡ resultOf K x inbox
+          go : Way (happy H x) → resultFound H x inbox ≡ resultFound K x inbox
           go (on e) = rw (e, sym happy-depends ∙ e)
           go (off e) =
               rw (e, sym happy-depends ∙ e)
               (ap (λ (gs : List (List ℕ)). rebuilt (recovered (x .seat .n - x .seat .t) (present 1 gs)))
-              (gathered-depends x 1 (bodies (x .seat .n) inbox) (rw e at f)))
+              (gathered-depends x 1 (bodies (x .seat .n) inbox) (rw (w, e) at f)))
+
+      pub result-depends : Relays → resultOf H x inbox ≡ resultOf K x inbox
+      unfolding resultOf
+      result-depends f = go (resultIn x) refl
+        where
+          go : (o : Option Result) → resultIn x ≡ o → heldOr o (resultFound H x inbox) ≡ heldOr o (resultFound K x inbox)
+          go (some r) e = refl
+          go none e = found-depends (holds-not x e) f
 
     -- the root that a party is handed may be any
     bit-depends : (z : List ℕ) → happy H (withRoot x z) ≡ happy K (withRoot x z)
@@ -207,5 +217,5 @@ module _ (H K : List ℕ → List ℕ) where
         (writes x (atSecond (x .seat) (messageIn x) (x .root) held) bs out))
         (held-depends inbox out f) (relay-depends inbox out f)
     made-depends (takeRelays inbox out) f =
-        ap {B = Stepped} (λ (w : Result). cond (not (eqb (inboxCause 5 x inbox) 0)) (refused x (inboxCause 5 x inbox) out) (ending x w out))
+        ap {B = Stepped} (λ (w : Result). cond (not (eqb (relaysCause x inbox) 0)) (refused x (relaysCause x inbox) out) (ending x w out))
         (result-depends inbox out f)

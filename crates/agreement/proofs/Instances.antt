@@ -11,8 +11,8 @@ use Prim.Native.Nat.{ℕ, zero, suc, _+_, _*_, _/_, _%_, _^_, _<_}
 use native.Mathlib.Nat.{le-refl}
 use native.Mathlib.Omega.{arith}
 use lib.Dec.{lit<}
-use lib.ListN.{length, take, replicate}
-use Rattle.limits.specs.Limits.{parties, numbered, groupCause}
+use lib.ListN.{length, take, drop, replicate}
+use Rattle.limits.specs.Limits.{maxMessage, maxShare, parties, numbered, groupCause}
 use Rattle.buffer.specs.Bounds.{Bytes}
 use Rattle.buffer.specs.Splice.{spliced, tabulate}
 use Rattle.buffer.specs.Entries.{size, body, rest, fills, bodies}
@@ -29,9 +29,13 @@ use Rattle.merkle.proofs.Judged.{same-true, same-refl}
 use Rattle.packet.specs.Format.{chained, hashes, packetOf, entryOf, shareIn, readOf}
 use Rattle.packet.specs.Inbox.{inboxOf}
 use Rattle.packet.specs.Class.{valid, faulty, classOf, classStrings}
-use Rattle.party.specs.State.{seatOf, Result, nothing, settled, atRoot, atBit, atFirst, atSecond, atEnd, blankState, broken, messageRoot, happy}
+use Rattle.party.specs.State.{seatOf, padded, Result, nothing, settled, atRoot, atBit, atFirst, atSecond, atEnd, blankState, broken, messageRoot, happy}
 use Rattle.party.specs.Steps.{stateCause, openCause, openOf, rootCause, agreeRootOf, packetFor, bitCause, outboxOf, agreeBitOf, inboxCause, firstValid}
-use Rattle.party.specs.Steps.{relayOf, heldOf, takeSharesOf, gathered, resultOf, takeRelaysOf}
+use Rattle.party.specs.Steps.{gives, relayOf, heldOf, takeSharesOf, gathered, resultFound, resultOf, relaysCause, takeRelaysOf}
+use Rattle.party.specs.declared.Outcome.the-variants.{Message}
+use Rattle.party.specs.declared.Stage.the-variants.{Ended}
+use Rattle.party.specs.declared.Answer.the-variants as answer
+use Rattle.party.specs.declared.Party.{Party}
 use Rattle.party.specs.Strings.{shareStrings, relayStrings}
 use Rattle.party.proofs.Ways.{Way, on, off, way, clash}
 use Rattle.agreement.specs.Calls.{Call, agreeRoot, agreeBit, takeShares, takeRelays, Event, accepted, first, entry, lengths, sentOver, made, events, final}
@@ -145,7 +149,8 @@ second2 = inboxOf (forged 1 (replicate 32 5 ∷ replicate 32 6 ∷ []) ∷ pk 2 
 abbrev pub second3 : List ℕ
 second3 = inboxOf (rubbish ∷ pk 2 ∷ rubbish ∷ [])
 
--- party 2 is called out of turn, with a short root, a wrong bit, a short buffer, a bad inbox, and after its end
+-- party 2 is called out of turn, with a short root, a wrong bit, a short buffer and a bad inbox; once it has ended its result is read twice more, both
+-- times with a bad inbox, first into a short buffer; and it is called out of turn again
 abbrev pub P2 : Good
 P2 = record {
   own = 2;
@@ -153,7 +158,7 @@ P2 = record {
   calls =
       agreeBit 1 room ∷ agreeRoot [] ∷ agreeRoot z ∷ agreeBit 2 room ∷ agreeBit 1 [] ∷ agreeBit 1 room ∷ takeShares rubbish room
       ∷ takeShares first2 [] ∷ takeShares first2 room ∷ agreeRoot z ∷ takeRelays second2 [] ∷ takeRelays second2 room
-      ∷ takeRelays second3 room ∷ agreeBit 1 room ∷ [];
+      ∷ takeRelays rubbish [] ∷ takeRelays rubbish room ∷ takeShares rubbish room ∷ agreeBit 1 room ∷ [];
 }
 
 abbrev pub P3 : Good
@@ -166,9 +171,9 @@ P3 = record {
 abbrev pub good : List Good
 good = P2 ∷ P3 ∷ []
 
--- the same two, told bit 0
+-- the same two, told bit 0; party 2's result is read, with a bad inbox and no buffer
 abbrev pub Q2 : Good
-Q2 = record { own = 2; message = 0x43 ∷ []; calls = agreeRoot z ∷ agreeBit 0 [] ∷ agreeBit 0 room ∷ takeShares first2 room ∷ [] }
+Q2 = record { own = 2; message = 0x43 ∷ []; calls = agreeRoot z ∷ agreeBit 0 [] ∷ agreeBit 0 room ∷ takeShares first2 room ∷ takeRelays rubbish [] ∷ [] }
 
 abbrev pub Q3 : Good
 Q3 = record { own = 3; message = M; calls = agreeRoot z ∷ agreeBit 0 room ∷ [] }
@@ -229,6 +234,18 @@ calls2 = calls y (inboxOf (qk 2 ∷ [] ∷ [] ∷ [])) (inboxOf (qk 1 ∷ [] ∷
 abbrev pub two-books : List Good
 two-books = record { own = 1; message = 0x41 ∷ []; calls = calls1 } ∷ record { own = 2; message = 0x42 ∷ []; calls = calls2 } ∷ []
 
+-- party 2 ended, with what a foreign host may have left beside the result
+abbrev pub dirty : Party
+dirty = record {
+  seat = seatOf 3 1 2;
+  stage = Ended (Message 2);
+  message = padded maxMessage (0x41 ∷ 0x42 ∷ 0x58 ∷ []);
+  len = 3;
+  root = z;
+  share = padded maxShare (9 ∷ []);
+  held = 1;
+}
+
 -- what is computed
 pub record Computed : Type 0 where
   -- all premises, on bit 1 and on bit 0
@@ -241,11 +258,19 @@ pub record Computed : Type 0 where
   pub bad-relay : classOf toy 3 1 z (entry 3 1 second2) ≡ faulty
   -- the causes for which party 2's calls were refused, 0 where they were accepted
   pub causes : map (λ (e : Event). e .reply .cause) (events toy (opening toy 3 1 2 (0x43 ∷ []) .state) (P2 .calls))
-      ≡ 6 ∷ 7 ∷ 0 ∷ 7 ∷ 9 ∷ 0 ∷ 8 ∷ 9 ∷ 0 ∷ 6 ∷ 9 ∷ 0 ∷ 6 ∷ 6 ∷ []
+      ≡ 6 ∷ 7 ∷ 0 ∷ 7 ∷ 9 ∷ 0 ∷ 8 ∷ 9 ∷ 0 ∷ 6 ∷ 9 ∷ 0 ∷ 9 ∷ 0 ∷ 6 ∷ 6 ∷ []
+  -- its two accepted readings gave M, into the start of the buffer; the one with a short buffer was told M's length and changed nothing
+  pub readings : map (λ (e : Event). e .reply .result) (drop 3 (did toy 3 1 2 (0x43 ∷ []) (P2 .calls))) ≡ some (settled M) ∷ some (settled M) ∷ []
+  pub read-buffers : map (λ (e : Event). e .reply .buffer) (drop 3 (did toy 3 1 2 (0x43 ∷ []) (P2 .calls)))
+      ≡ spliced room 0 M ∷ spliced room 0 M ∷ []
+  pub short-reading : made toy (atEnd (seatOf 3 1 2) (settled M)) (takeRelays rubbish []) ≡ gives (atEnd (seatOf 3 1 2) (settled M)) (answer.Short 2) []
+  -- a dirty ended state, with a stale message, root and share and with bytes past its result, comes back clean
+  pub dirty-reading : made toy dirty (takeRelays rubbish room) .state ≡ atEnd (seatOf 3 1 2) (settled M)
   -- on bit 1 party 2 ends with M, though it opened with another message, and 356 bytes were sent
   pub party-2 : resultAfter toy 3 1 2 (0x43 ∷ []) (P2 .calls) ≡ some (settled M)
   pub sent-there : sent toy 3 1 good ≡ 356
-  -- on bit 0 it ends with nothing, and nothing is sent
+  -- on bit 0 it ends with nothing, its reading gives nothing, and nothing is sent
+  pub idle-reading : map (λ (e : Event). e .reply .result) (drop 2 (did toy 3 1 2 (0x43 ∷ []) (Q2 .calls))) ≡ some nothing ∷ []
   pub idle-2 : resultAfter toy 3 1 2 (0x43 ∷ []) (Q2 .calls) ≡ some nothing
   pub idle-sent : sent toy 3 1 idle ≡ 0
   -- the bytes sent in the two plans
@@ -255,13 +280,13 @@ pub record Computed : Type 0 where
   pub first-hashes : length (hashed toy 3 1 1 (0x41 ∷ []) calls1) ≡ 5
   pub second-hashes : length (hashed toy 3 1 2 (0x42 ∷ []) calls2) ≡ 5 + 3 + 3
   -- refused calls hash nothing: of the first session party 2 hashes the five strings of its own message's tree, three of the share that it took, three of the
-  -- forged relay and two of party 3's, though it was handed its inboxes again and again
+  -- forged relay and two of party 3's, though it was handed its inboxes again and again and its result was read again
   pub refused-unhashed : length (hashed toy 3 1 2 (0x43 ∷ []) (P2 .calls)) ≡ 5 + 3 + 3 + 2
   pub idle-unhashed : length (hashed toy 3 1 2 (0x43 ∷ []) (Q2 .calls)) ≡ 5
   pub second-ends : resultAfter toy 3 1 2 (0x42 ∷ []) calls2 ≡ some (settled (0x41 ∷ []))
 
 pub computed : Computed
-unfolding size body rest fills bodies spliced tabulate parties numbered groupCause timesX productOf product power inverse sum pow value factor unit numerator denominator basis through shareLength headed frame block shareByte shareOf share shares present point framed other unframed joined recovered splitFrom split shapeOf shape leaves nodeString sides beside root path folded treeStrings foldStrings checkStrings topHash pathHashes leafString leafStrings sharesCause same leavesOf rootOf pathOf passes codingStrings stringsOf chained hashes packetOf entryOf shareIn readOf inboxOf classOf classStrings atRoot atBit atFirst atSecond atEnd blankState broken messageRoot happy stateCause openCause openOf rootCause agreeRootOf packetFor bitCause outboxOf agreeBitOf inboxCause firstValid relayOf heldOf takeSharesOf gathered resultOf takeRelaysOf accepted first entry lengths sentOver made events final shareStrings relayStrings checkedIn checkedOver did hashed sentBy among different absent sumOver joinOver clean cleanOf there mix digest
+unfolding size body rest fills bodies spliced tabulate parties numbered groupCause timesX productOf product power inverse sum pow value factor unit numerator denominator basis through shareLength headed frame block shareByte shareOf share shares present point framed other unframed joined recovered splitFrom split shapeOf shape leaves nodeString sides beside root path folded treeStrings foldStrings checkStrings topHash pathHashes leafString leafStrings sharesCause same leavesOf rootOf pathOf passes codingStrings stringsOf chained hashes packetOf entryOf shareIn readOf inboxOf classOf classStrings atRoot atBit atFirst atSecond atEnd blankState broken messageRoot happy stateCause openCause openOf rootCause agreeRootOf packetFor bitCause outboxOf agreeBitOf inboxCause firstValid relayOf heldOf takeSharesOf gathered resultFound resultOf relaysCause takeRelaysOf accepted first entry lengths sentOver made events final shareStrings relayStrings checkedIn checkedOver did hashed sentBy among different absent sumOver joinOver clean cleanOf there mix digest
 computed = record {
   premises = record {
     opened = record {
@@ -316,8 +341,13 @@ computed = record {
   bad-share = refl;
   bad-relay = refl;
   causes = refl;
+  readings = refl;
+  read-buffers = refl;
+  short-reading = refl;
+  dirty-reading = refl;
   party-2 = refl;
   sent-there = refl;
+  idle-reading = refl;
   idle-2 = refl;
   idle-sent = refl;
   same-books-sent = refl;

@@ -22,24 +22,13 @@ use Rattle.party.specs.Steps.{turnOf, openCause, Stepped, gives, outboxOf, rela
 use Rattle.party.specs.declared.Party.{Party}
 use Rattle.party.specs.declared.Opened.{Opened}
 use Rattle.party.specs.declared.Answer.the-variants as answer
-use Rattle.party.proofs.Kept.{take-padded}
+use Rattle.party.proofs.Kept.{take-padded, result-end}
 use Rattle.party.proofs.Outcomes.{open-given, open-refused}
 use Rattle.party.proofs.Ways.{Way, on, off, way}
 use Rattle.agreement.specs.Calls.{Call, agreeRoot, agreeBit, takeShares, takeRelays, stepOf, Event, accepted, first, entry, heard, wrote}
-use Rattle.agreement.specs.Calls.{bitGiven, resultShown, lengths, sentOver, events, final, checkedIn, checkedOver}
+use Rattle.agreement.specs.Calls.{bitGiven, lengths, sentOver, events, final, checkedIn, checkedOver}
 use Rattle.agreement.specs.Calls.{opening, did, firstOf, resultAfter, hashed, sentBy}
-use Rattle.agreement.proofs.Run.{made2, made3, made4, endedWith, did2, did3, did4, did5, in-turn, event, Chain, chain, next, Still, still}
-
--- the result of a party that has ended
-pub result-end : (n t i : ℕ) (r : Result) → resultIn (atEnd (seatOf n t i) r) ≡ some r
-unfolding atEnd
-result-end n t i nothing = refl
-result-end n t i (settled m) = ap {B = Option Result} (λ (l : List ℕ). some (settled l)) (take-padded maxMessage m)
-
--- an ended party awaits no step
-ended-turn : (n t i : ℕ) (r : Result) → turnOf (atEnd (seatOf n t i) r .stage) ≡ 0
-unfolding atEnd
-ended-turn n t i r = refl
+use Rattle.agreement.proofs.Run.{made2, made3, made4, endedWith, did2, did3, did4, did5, in-turn, event, Chain, chain, next, Still, still, gave-held}
 
 -- an accepted opening
 pub opened-is : (H : List ℕ → List ℕ) (n t i : ℕ) (m : List ℕ) → opening H n t i m .cause ≡ 0
@@ -176,7 +165,7 @@ module _ (H : List ℕ → List ℕ) where
       out5 : List ℕ
       rest : List Event
       all : es ≡ ev4 in4 out4 ∷ ev5 in4 in5 out5 ∷ rest
-      last : Still H n (atEnd (seatOf n t i) (resultOf H (X3 in4) in5)) rest fin
+      last : Still H n (resultOf H (X3 in4) in5) rest fin
 
     four : (fin : Party) (es : List Event) (e4 e5 : Event) → Chain H X2 es fin → first 4 es ≡ some e4 → first 5 es ≡ some e5
         → Four fin es
@@ -201,7 +190,8 @@ module _ (H : List ℕ → List ℕ) where
           out5 = o5;
           rest = b .0;
           all = a .1 ∙ ap (λ (r : List Event). ev4 i4 o4 ∷ r) (b .1);
-          last = still H n (atEnd (seatOf n t i) (resultOf H (X3 i4) i5)) fin (b .0) (ended-turn n t i (resultOf H (X3 i4) i5)) (b .2);
+          last = let r = resultOf H (X3 i4) i5 in
+              still H n (atEnd (seatOf n t i) r) fin (b .0) r (result-end (seatOf n t i) r) (b .2);
         }
 
 -- a party that opened with a message, was handed these calls, and was accepted in steps 2 to 5, on bit 1
@@ -213,8 +203,6 @@ pub record Ran (H : List ℕ → List ℕ) (n t i : ℕ) (m : List ℕ) (calls :
   pub packets : wrote (firstOf H n t i m calls 3) ≡ outboxOf H (atBit (seatOf n t i) m z) 1
   pub relayed : wrote (firstOf H n t i m calls 4) ≡ relayOf H (atFirst (seatOf n t i) m z) in4
   pub ends : resultAfter H n t i m calls ≡ some (resultOf H (atSecond (seatOf n t i) m z (heldOf H (atFirst (seatOf n t i) m z) in4)) in5)
-  pub shows : resultShown (firstOf H n t i m calls 5)
-      ≡ some (resultOf H (atSecond (seatOf n t i) m z (heldOf H (atFirst (seatOf n t i) m z) in4)) in5)
   pub in-tree : (s : List ℕ) → List·Memᴰ s (codingStrings H n (shares n (n - t) m)) → List·Memᴰ s (hashed H n t i m calls)
   pub in-first : (s : List ℕ) → List·Memᴰ s (checkedIn H (atFirst (seatOf n t i) m z) (takeShares in4 []))
       → List·Memᴰ s (hashed H n t i m calls)
@@ -257,6 +245,11 @@ module _ (H : List ℕ → List ℕ) (n t i : ℕ) (m : List ℕ) (calls : List 
     pub bit-small : bit ≤ 1
     bit-small = begun .2
 
+  -- every accepted step 5 gave the result that the state holds after the list
+  pub gave : (r : Result) → resultAfter H n t i m calls ≡ some r
+      → (e : Event) → List·Memᴰ e (did H n t i m calls) → stepOf (e .call) ≡ 5 → e .reply .result ≡ some r
+  gave r h = gave-held H (atRoot (seatOf n t i) m) fin (did H n t i m calls) r did-chain (sym ends-is ∙ h)
+
   -- on bit 0
   pub ran-none : (e2 e3 : Event) (out : List ℕ) → firstOf H n t i m calls 2 ≡ some e2 → e2 .call ≡ agreeRoot z
       → firstOf H n t i m calls 3 ≡ some e3 → e3 .call ≡ agreeBit 0 out
@@ -265,8 +258,8 @@ module _ (H : List ℕ → List ℕ) (n t i : ℕ) (m : List ℕ) (calls : List 
   unfolding sentBy sentOver
   ran-none e2 e3 out f2 c2 f3 c3 =
       let b = begun e2 e3 0 out f2 c2 f3 c3 in
-      let l = still H n (atEnd (seatOf n t i) nothing) fin (b .0) (ended-turn n t i nothing) (b .3) in (
-        ends-is ∙ l .0 ∙ result-end n t i nothing,
+      let l = still H n (atEnd (seatOf n t i) nothing) fin (b .0) nothing (result-end (seatOf n t i) nothing) (b .3) in (
+        ends-is ∙ l .0,
         rw (b .1, l .1, take-spliced out (outboxOf H (atBit (seatOf n t i) m z) 0)) (omega arith),
       )
 
@@ -310,8 +303,7 @@ module _ (H : List ℕ → List ℕ) (n t i : ℕ) (m : List ℕ) (calls : List 
           heard5 = λ j. ap (heard n j) is-5;
           packets = ap wrote is-third ∙ take-spliced out (outboxOf H (atBit (seatOf n t i) m z) 1);
           relayed = ap wrote is-4 ∙ take-spliced (q .out4) (relayOf H (atFirst (seatOf n t i) m z) (q .in4));
-          ends = ends-is ∙ q .last .0 ∙ result-end n t i (resultOf H (X3 H n t i m z (q .in4)) (q .in5));
-          shows = ap resultShown is-5;
+          ends = ends-is ∙ q .last .0;
           in-tree = λ s h. Memᴰ·append-left (checkedOver H (did H n t i m calls)) h;
           in-first = λ s h. checked-in s (Memᴰ·append-left (checkedOver H (fifth ∷ q .rest)) h);
           in-second = λ s h. checked-in s (Memᴰ·append-right (checkedIn H (atFirst (seatOf n t i) m z) (takeShares (q .in4) []))

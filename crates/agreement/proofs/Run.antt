@@ -1,11 +1,11 @@
--- The accepted calls of a party, one after the other: a refused call keeps the state, an accepted one is the step that the stage awaits
--- and gives what its definition says, and once the party has ended its result is kept and nothing more is sent. By the tests of
--- the steps, and by one induction over the list of calls. Assumes nothing.
+-- The accepted calls of a party, one after the other: a refused call keeps the state, an accepted one is the step that is in turn and gives what
+-- its definition says, and once the party has ended its result is kept by every call and nothing more is sent or checked. By the tests of the
+-- steps, and by inductions over the list of calls. Assumes nothing.
 use mathlib.Core.Path.{_≡_, refl, sym, ap, _∙_, subst}
 use mathlib.Core.Logic.{_⊎_, inl, inr, _≢_}
 use mathlib.Core.Bool.{true, cond, not}
-use mathlib.Core.List.{List, [], _∷_}
-use mathlib.Core.Option.{Option, none, some}
+use mathlib.Core.List.{List, [], _∷_, List·Memᴰ, List·Memᴰ·not-nil, List·Memᴰ·cases-cons}
+use mathlib.Core.Option.{Option, some, Option·none-ne-some}
 use Prim.Native.Nat.{ℕ, _≤_}
 use native.Mathlib.Omega.{arith}
 use borrow.Author.Tests.{ltb-false, eqb-true, eqb-false, eq-eqb}
@@ -15,20 +15,18 @@ use Rattle.buffer.specs.Splice.{spliced}
 use Rattle.buffer.proofs.Splice.{take-spliced}
 use Rattle.party.specs.State.{Result, nothing, settled, resultBytes, messageIn, atFirst, atSecond, atEnd, resultIn, happy}
 use Rattle.party.specs.Steps.{turnOf, stateCause, rootCause, withRoot, Stepped, gives, refused, writes, bitCause, outboxOf}
-use Rattle.party.specs.Steps.{agreeBitOf, inboxCause, relayOf, heldOf, takeSharesOf, resultOf, ending, takeRelaysOf}
+use Rattle.party.specs.Steps.{agreeBitOf, inboxCause, relaysCause, relayOf, heldOf, takeSharesOf, resultOf, ending, takeRelaysOf}
 use Rattle.party.specs.declared.Party.{Party}
 use Rattle.party.specs.declared.Seat.{Seat}
 use Rattle.party.specs.declared.Answer.{Answer}
 use Rattle.party.specs.declared.Answer.the-variants as answer
 use Rattle.party.proofs.Ways.{Way, on, off, way}
-use Rattle.party.proofs.Causes.{state-sound}
-use Rattle.party.proofs.Outcomes.{root-refused, root-given}
-use Rattle.agreement.specs.Calls.{Call, agreeRoot, agreeBit, takeShares, takeRelays, stepOf, Event, accepted, first, sentOver}
-use Rattle.agreement.specs.Calls.{made, events, final}
+use Rattle.party.proofs.Causes.{state-sound, inbox-sound, relays-sound}
+use Rattle.party.proofs.Outcomes.{root-refused, root-given, holds-ended}
+use Rattle.party.proofs.Kept.{result-end}
+use Rattle.agreement.specs.Calls.{Call, agreeRoot, agreeBit, takeShares, takeRelays, stepOf, Event, accepted, first, writtenBy}
+use Rattle.agreement.specs.Calls.{sentIn, sentOver, made, events, final, checkedIn, checkedOver}
 use Rattle.agreement.proofs.Lists.{same-some}
-
-none-some : {A : Type 0} {x : A} → _≡_ {A = Option A} none (some x) → ⊥
-none-some p = let z : _≡_ {A = ℕ} 0 1 = cc in omega arith
 
 -- a call is taken, or turned away with the state kept
 abbrev Turned : Party → Stepped → Type 0
@@ -120,13 +118,11 @@ bit-turn x bit e = go (way (eqb (stateCause 3 x) 0)) (way (ltb 1 bit))
     go (on q) (on r) = let z : _≡_ {A = ℕ} 7 0 = rw (q, r) at e in absurd (omega arith)
     go (off q) r = absurd (eqb-false (stateCause 3 x) 0 q (rw q at e))
 
-inbox-turn : (turn : ℕ) (x : Party) (inbox : List ℕ) → inboxCause turn x inbox ≡ 0 → turnOf (x .stage) ≡ turn
-unfolding inboxCause
-inbox-turn turn x inbox e = go (way (eqb (stateCause turn x) 0))
-  where
-    go : Way (eqb (stateCause turn x) 0) → turnOf (x .stage) ≡ turn
-    go (on q) = state-sound turn x (eqb-true (stateCause turn x) 0 q) .1
-    go (off q) = absurd (eqb-false (stateCause turn x) 0 q (rw q at e))
+shares-turn : (x : Party) (inbox : List ℕ) → inboxCause 4 x inbox ≡ 0 → turnOf (x .stage) ≡ 4
+shares-turn x inbox e = state-sound 4 x (inbox-sound 4 x inbox e .0) .1
+
+relays-turn : (x : Party) (inbox : List ℕ) → relaysCause x inbox ≡ 0 → turnOf (x .stage) ≡ 5
+relays-turn x inbox e = state-sound 5 x (relays-sound x inbox e .0) .1
 
 module _ (H : List ℕ → List ℕ) where
   -- what an accepted call gives, from the state it got
@@ -170,10 +166,10 @@ module _ (H : List ℕ → List ℕ) where
       (relayOf H x inbox) out)
 
   relays-or : (x : Party) (inbox out : List ℕ)
-      → ((inboxCause 5 x inbox ≡ 0) × (made H x (takeRelays inbox out) ≡ endedWith (x .seat) (resultOf H x inbox) out))
+      → ((relaysCause x inbox ≡ 0) × (made H x (takeRelays inbox out) ≡ endedWith (x .seat) (resultOf H x inbox) out))
       ⊎ Turned x (made H x (takeRelays inbox out))
   unfolding made takeRelaysOf
-  relays-or x inbox out = ended-or (inboxCause 5 x inbox) x (resultOf H x inbox) out
+  relays-or x inbox out = ended-or (relaysCause x inbox) x (resultOf H x inbox) out
 
   -- a call that is turned away keeps the state
   pub refused-keeps : (x : Party) (c : Call) → made H x c .cause ≢ 0 → made H x c .state ≡ x
@@ -202,13 +198,13 @@ module _ (H : List ℕ → List ℕ) where
       → (turnOf (x .stage) ≡ 4) × (made H x (takeShares inbox out) ≡ made4 x inbox out)
   did4 x inbox out a =
       let t = taken (made H x (takeShares inbox out)) a (shares-or x inbox out) in
-      (inbox-turn 4 x inbox (t .0), t .1)
+      (shares-turn x inbox (t .0), t .1)
 
   pub did5 : (x : Party) (inbox out : List ℕ) → made H x (takeRelays inbox out) .cause ≡ 0
       → (turnOf (x .stage) ≡ 5) × (made H x (takeRelays inbox out) ≡ endedWith (x .seat) (resultOf H x inbox) out)
   did5 x inbox out a =
       let t = taken (made H x (takeRelays inbox out)) a (relays-or x inbox out) in
-      (inbox-turn 5 x inbox (t .0), t .1)
+      (relays-turn x inbox (t .0), t .1)
 
   -- an accepted call is of the step that the stage waits for
   pub in-turn : (x : Party) (c : Call) → made H x c .cause ≡ 0 → turnOf (x .stage) ≡ stepOf c
@@ -242,7 +238,7 @@ module _ (H : List ℕ → List ℕ) where
   pub next : (k : ℕ) (x fin : Party) (es : List Event) (e : Event) → turnOf (x .stage) ≡ k → Chain x es fin → first k es ≡ some e
       → (rest : List Event) × (es ≡ e ∷ rest) × (e ≡ event x (e .call)) × (e .reply .cause ≡ 0) × Chain (e .reply .state) rest fin
   unfolding first
-  next k x fin [] e a h q = absurd (none-some q)
+  next k x fin [] e a h q = absurd (Option·none-ne-some e q)
   next k x fin (d ∷ es) e a h q =
       let s : eqb (stepOf (d .call)) k ≡ true =
       eq-eqb (stepOf (d .call)) k (sym (in-turn x (d .call) (subst (λ (v : Event). v .reply .cause ≡ 0) (h .0) (h .1))) ∙ a) in
@@ -254,18 +250,62 @@ module _ (H : List ℕ → List ℕ) where
         subst (λ (v : Event). Chain (v .reply .state) es fin) w (h .2),
       )
 
-  -- once ended, the result is kept, and nothing is sent
-  abbrev pub Still : ℕ → Party → List Event → Party → Type 0
-  Still n x es fin = (resultIn fin ≡ resultIn x) × (sentOver n es ≡ 0)
+  -- an accepted call on a party that holds a result: it gives that result, the state holds it again, and nothing is sent or checked
+  record Again (n : ℕ) (x : Party) (c : Call) (r : Result) : Type 0 where
+    given : made H x c .result ≡ some r
+    holds : resultIn (made H x c .state) ≡ some r
+    unsent : (bs : List ℕ) → sentIn n c bs ≡ 0
+    unchecked : checkedIn H x c ≡ []
 
-  pub still : (n : ℕ) (x fin : Party) (es : List Event) → turnOf (x .stage) ≡ 0 → Chain x es fin → Still n x es fin
-  unfolding sentOver
-  still n x fin [] a h = (ap resultIn h, refl)
-  still n x fin (d ∷ es) a h =
-      absurd (late (d .call) (sym (in-turn x (d .call) (subst (λ (v : Event). v .reply .cause ≡ 0) (h .0) (h .1))) ∙ a))
+  again : (n : ℕ) (x : Party) (c : Call) (r : Result) → resultIn x ≡ some r → made H x c .cause ≡ 0 → Again n x c r
+  unfolding checkedIn resultOf
+  again n x (agreeRoot z) r h a = let e = in-turn x (agreeRoot z) a in absurd (omega (arith, e, holds-ended x r h .1))
+  again n x (agreeBit bit out) r h a = let e = in-turn x (agreeBit bit out) a in absurd (omega (arith, e, holds-ended x r h .1))
+  again n x (takeShares inbox out) r h a = let e = in-turn x (takeShares inbox out) a in absurd (omega (arith, e, holds-ended x r h .1))
+  again n x (takeRelays inbox out) r h a =
+      let d = did5 x inbox out a .1 in
+      let same : resultOf H x inbox ≡ r = rw h in
+      record {
+        given = ap (λ (s : Stepped). s .result) d ∙ ap {B = Option Result} some same;
+        holds = ap (λ (s : Stepped). resultIn (s .state)) d ∙ result-end (x .seat) (resultOf H x inbox) ∙ ap {B = Option Result} some same;
+        unsent = λ bs. refl;
+        unchecked = rw (holds-ended x r h .0);
+      }
+
+  -- once ended, the result is kept by every call, and nothing is sent or checked
+  abbrev pub Still : ℕ → Result → List Event → Party → Type 0
+  Still n r es fin = (resultIn fin ≡ some r) × (sentOver n es ≡ 0) × (checkedOver H es ≡ [])
+
+  pub still : (n : ℕ) (x fin : Party) (es : List Event) (r : Result) → resultIn x ≡ some r → Chain x es fin → Still n r es fin
+  unfolding sentOver checkedOver
+  still n x fin [] r a h = (ap resultIn h ∙ a, refl, refl)
+  still n x fin (d ∷ es) r a h =
+      let g = again n x (d .call) r a (subst (λ (v : Event). v .reply .cause ≡ 0) (h .0) (h .1)) in
+      let kept : resultIn (d .reply .state) ≡ some r = ap (λ (v : Event). resultIn (v .reply .state)) (h .0) ∙ g .holds in
+      let none : checkedIn H (d .before) (d .call) ≡ [] = ap (λ (v : Event). checkedIn H (v .before) (d .call)) (h .0) ∙ g .unchecked in
+      let s = still n (d .reply .state) fin es r kept (h .2) in
+      (s .0, rw (g .unsent (writtenBy d), s .1), rw (none, s .2))
+
+  -- so every accepted step 5 gave the result that is held at the end
+  ends : (x : Party) (c : Call) → made H x c .cause ≡ 0 → stepOf c ≡ 5
+      → (r : Result) × (made H x c .result ≡ some r) × (resultIn (made H x c .state) ≡ some r)
+  ends x (agreeRoot z) a e = absurd (omega arith)
+  ends x (agreeBit bit out) a e = absurd (omega arith)
+  ends x (takeShares inbox out) a e = absurd (omega arith)
+  ends x (takeRelays inbox out) a e =
+      let d = did5 x inbox out a .1 in
+      let r = resultOf H x inbox in
+      (r, ap (λ (s : Stepped). s .result) d, ap (λ (s : Stepped). resultIn (s .state)) d ∙ result-end (x .seat) r)
+
+  pub gave-held : (x fin : Party) (es : List Event) (r : Result) → Chain x es fin → resultIn fin ≡ some r
+      → (e : Event) → List·Memᴰ e es → stepOf (e .call) ≡ 5 → e .reply .result ≡ some r
+  gave-held x fin [] r h f e m five = absurd (List·Memᴰ·not-nil m)
+  gave-held x fin (d ∷ es) r h f e m five = go (List·Memᴰ·cases-cons m) (gave-held (d .reply .state) fin es r (h .2) f e)
     where
-      late : (c : Call) → stepOf c ≡ 0 → ⊥
-      late (agreeRoot z) e = omega arith
-      late (agreeBit bit out) e = omega arith
-      late (takeShares inbox out) e = omega arith
-      late (takeRelays inbox out) e = omega arith
+      go : (e ≡ d) ⊎ List·Memᴰ e es → (List·Memᴰ e es → stepOf (e .call) ≡ 5 → e .reply .result ≡ some r) → e .reply .result ≡ some r
+      go (inr k) rest = rest k five
+      go (inl q) rest =
+          let c = d .call in
+          let k = ends x c (subst (λ (v : Event). v .reply .cause ≡ 0) (h .0) (h .1)) (sym (ap (λ (v : Event). stepOf (v .call)) q) ∙ five) in
+          let held : resultIn (d .reply .state) ≡ some (k .0) = ap (λ (v : Event). resultIn (v .reply .state)) (h .0) ∙ k .2 in
+          ap (λ (v : Event). v .reply .result) (q ∙ h .0) ∙ k .1 ∙ sym (still 0 (d .reply .state) fin es (k .0) held (h .2) .0) ∙ f

@@ -73,14 +73,10 @@ wrote (some e) = writtenBy e
 abbrev pub packetTo : ℕ → ℕ → Option Event → List ℕ
 packetTo n i e = entry n i (wrote e)
 
--- the bit that step 2 gave, and the result that step 5 gave
+-- the bit that step 2 gave
 abbrev pub bitGiven : Option Event → Option ℕ
 bitGiven none = none
 bitGiven (some e) = some (e .reply .value)
-
-abbrev pub resultShown : Option Event → Option Result
-resultShown none = none
-resultShown (some e) = e .reply .result
 
 -- the lengths of entries without the two bytes in front of each
 unfoldable pub lengths : List (List ℕ) → ℕ

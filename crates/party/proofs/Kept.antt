@@ -2,6 +2,7 @@
 -- is; a state whose fields are those of a form is that form. By the laws of writing into a buffer. Assumes nothing.
 use mathlib.Core.Path.{_≡_, refl, ap, _∙_}
 use mathlib.Core.List.{List, _++_, append-nil}
+use mathlib.Core.Option.{Option, some}
 use Prim.Native.Nat.{ℕ, _-_, _≤_}
 use native.Mathlib.Omega.{arith}
 use lib.ListN.{length, take, replicate, length-replicate}
@@ -11,7 +12,7 @@ use Rattle.buffer.specs.Splice.{putOf}
 use Rattle.buffer.proofs.Splice.{put-fits, spliced-start}
 use Rattle.merkle.proofs.Descend.{drop-replicate}
 use Rattle.merkle.specs.Shares.{blank}
-use Rattle.party.specs.State.{padded, messageIn, shareHeld, waiting, atRoot, atBit, atFirst, atSecond, atEnd, Result, outcomeOf, resultBytes}
+use Rattle.party.specs.State.{padded, messageIn, shareHeld, waiting, atRoot, atBit, atFirst, atSecond, atEnd, Result, nothing, settled, outcomeOf, resultBytes, resultIn}
 use Rattle.party.specs.declared.Stage.{Stage}
 use Rattle.party.specs.declared.Stage.the-variants.{Ended}
 use Rattle.party.specs.declared.Seat.{Seat}
@@ -60,6 +61,12 @@ pub ended-kept : (s : Seat) (r : Result) (bs : List ℕ) → bs ≡ padded maxMe
     }) (atEnd s r)
 unfolding atEnd
 ended-kept s r bs e = rw e
+
+-- and holds it
+pub result-end : (s : Seat) (r : Result) → resultIn (atEnd s r) ≡ some r
+unfolding atEnd
+result-end s nothing = refl
+result-end s (settled m) = ap {B = Option Result} (λ (l : List ℕ). some (settled l)) (take-padded maxMessage m)
 
 -- the message of a state that waits, and its relayed share
 module _ (s : Seat) (m z : List ℕ) where

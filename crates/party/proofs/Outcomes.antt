@@ -4,7 +4,7 @@
 use mathlib.Core.Path.{_≡_, refl, ap, subst, _∙_}
 use mathlib.Core.Bool.{Bool, true, false, cond, true≢false}
 use mathlib.Core.List.{List, []}
-use mathlib.Core.Option.{none, some, Option·none-ne-some}
+use mathlib.Core.Option.{none, some, Option·none-ne-some, Option·some-ne-none}
 use Prim.Native.Nat.{ℕ, _-_, _<_, _≤_}
 use native.Mathlib.Omega.{arith}
 use borrow.Author.Tests.{lt-ltb, le-ltb, eq-eqb, ne-eqb}
@@ -19,8 +19,8 @@ use Rattle.buffer.proofs.Splice.{spliced-none}
 use Rattle.erasure.specs.Rebuild.{present, recovered}
 use Rattle.merkle.specs.Shares.{blank}
 use Rattle.party.specs.State.{seatOf, Result, nothing, settled, messageIn, atRoot, atFirst, atSecond, atEnd, blankState, messageRoot, happy}
-use Rattle.party.specs.State.{resultAt, resultIn, hasEnded}
-use Rattle.party.specs.Steps.{openCause, openOf, rootCause, withRoot, agreeRootOf, bitCause, gives, refused, stepped, writes, outboxOf}
+use Rattle.party.specs.State.{resultFrom, resultAt, resultIn, hasEnded}
+use Rattle.party.specs.Steps.{turnOf, openCause, openOf, rootCause, withRoot, agreeRootOf, bitCause, gives, refused, stepped, writes, outboxOf}
 use Rattle.party.specs.Steps.{agreeBitOf, inboxCause, takenBy, shareTaken, packetTaken, ownRelay, relayOf, heldOf, takeSharesOf}
 use Rattle.party.specs.Steps.{gathered, rebuilt, relaysCause, resultFound, resultOf, ending, takeRelaysOf}
 use Rattle.party.specs.Private.{after}
@@ -123,7 +123,7 @@ module _ (H : List ℕ → List ℕ) where
     unfolding resultFound
     found-rebuilt h = rw h
 
--- a party holds a result exactly if it has ended
+-- a party holds a result exactly if it has ended, and then step 5 is in turn
 module _ (x : Party) where
   pub holds-none : hasEnded (x .stage) ≡ false → resultIn x ≡ none
   holds-none = go (x .stage)
@@ -135,15 +135,25 @@ module _ (x : Party) where
       go Second h = refl
       go (Ended o) h = absurd (true≢false h)
 
-  pub holds-ended : (r : Result) → resultIn x ≡ some r → hasEnded (x .stage) ≡ true
+  pub holds-ended : (r : Result) → resultIn x ≡ some r → (hasEnded (x .stage) ≡ true) × (turnOf (x .stage) ≡ 5)
   holds-ended r = go (x .stage)
     where
-      go : (s : Stage) → resultAt s (x .message) ≡ some r → hasEnded s ≡ true
+      go : (s : Stage) → resultAt s (x .message) ≡ some r → (hasEnded s ≡ true) × (turnOf s ≡ 5)
       go Root h = absurd (Option·none-ne-some r h)
       go Bit h = absurd (Option·none-ne-some r h)
       go First h = absurd (Option·none-ne-some r h)
       go Second h = absurd (Option·none-ne-some r h)
-      go (Ended o) h = refl
+      go (Ended o) h = (refl, refl)
+
+  pub holds-not : resultIn x ≡ none → hasEnded (x .stage) ≡ false
+  holds-not = go (x .stage)
+    where
+      go : (s : Stage) → resultAt s (x .message) ≡ none → hasEnded s ≡ false
+      go Root h = refl
+      go Bit h = refl
+      go First h = refl
+      go Second h = refl
+      go (Ended o) h = absurd (Option·some-ne-none (resultFrom o (x .message)) h)
 
 -- what is sent: the answer of the writer says whether the state is the next one
 pub writes-given : (x next : Party) (bs out : List ℕ) (r : Written) (o : List ℕ) → gave r o ≡ written bs out
