@@ -37,9 +37,10 @@ use Rattle.party.specs.declared.Opened.{Opened}
 use Rattle.party.proofs.Ways.{Way, on, off, way, clash}
 use Rattle.agreement.specs.Calls.{heard, wrote, entry, bitGiven, lengths, opening, resultAfter, sentBy}
 use Rattle.agreement.specs.Agreement.{Good, among, absent, Each, owns, step, OpenedAll, CalledAll, Ruled, DeliveredAll, sent, Conclusions, Agreement}
-use Rattle.agreement.proofs.Ran.{opened-is, gave}
+use Rattle.agreement.proofs.Ran.{opened-is}
 use Rattle.agreement.proofs.Lists.{lengths-none, lengths-others, sum-below, sum-none, find, among-out, one-each, present-borne}
 use Rattle.agreement.proofs.Needed.{glad, relayFrom, coding, check, Needed}
+use Rattle.agreement.proofs.Later.{gave}
 use Rattle.agreement.proofs.Conduct.{Conduct, sharesIn, vote-given, bit-low, ended, conducts, needed-hashed}
 
 regroup : (g k K x : ℕ) → x ≤ g * (2 * (k * K)) → x ≤ 2 * g * k * K
@@ -96,7 +97,7 @@ module _ (H : List ℕ → List ℕ) (wide : (s : List ℕ) → length (H s) ≡
     on-zero =
         record {
           holds = λ A h. ended H n t good z bit opened called A h b0 .0;
-          gives = λ A h. gave H n t (A .own) (A .message) (A .calls) z (opened .accepted A h) nothing (ended H n t good z bit opened called A h b0 .0);
+          gives = λ A h. gave H n t (A .own) (A .message) (A .calls) nothing (ended H n t good z bit opened called A h b0 .0);
           void = λ e. refl;
           somebodys = inl refl;
           common = λ m e. absurd (not-common m e);
@@ -303,7 +304,7 @@ module _ (H : List ℕ → List ℕ) (wide : (s : List ℕ) → length (H s) ≡
       on-one =
           record {
             holds = holds;
-            gives = λ B h. gave H n t (B .own) (B .message) (B .calls) z (opened .accepted B h) (settled M) (holds B h);
+            gives = λ B h. gave H n t (B .own) (B .message) (B .calls) (settled M) (holds B h);
             void = λ b0. absurd (omega arith);
             somebodys = inr (A, hA, refl);
             common = λ m e. ap settled (e A hA);

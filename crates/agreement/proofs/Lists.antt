@@ -4,7 +4,7 @@ use mathlib.Core.Path.{_≡_, refl, sym, ap, _∙_, subst}
 use mathlib.Core.Logic.{_⊎_, inl, inr}
 use mathlib.Core.Bool.{Bool, true, false, cond, false≢true}
 use mathlib.Core.List.{List, [], _∷_, _++_, map, List·Memᴰ, List·Memᴰ·head, List·Memᴰ·tail, List·Memᴰ·not-nil, List·Memᴰ·cases-cons, Memᴰ·append-left, Memᴰ·append-right}
-use mathlib.Core.Option.{Option, some}
+use mathlib.Core.Option.{Option, some, Option·none-ne-some}
 use Prim.Native.Nat.{ℕ, zero, suc, _+_, _-_, _*_, _≤_, _<_}
 use native.Mathlib.Nat.{add-zero}
 use native.Mathlib.Decide.{ℕ-discrete}
@@ -15,7 +15,7 @@ use lib.ListN.{length, getD, replicate}
 use Rattle.buffer.specs.Splice.{tabulate}
 use Rattle.erasure.specs.Rebuild.{present}
 use Rattle.party.proofs.Ways.{Way, on, off, way, clash}
-use Rattle.agreement.specs.Calls.{lengths}
+use Rattle.agreement.specs.Calls.{stepOf, Event, first, lengths}
 use Rattle.agreement.specs.Agreement.{among, different, absent, sumOver, joinOver}
 
 -- lengths of packets
@@ -155,3 +155,16 @@ present-borne (g ∷ gs) j js h =
 
 pub same-some : {A : Type 0} {x y : A} → _≡_ {A = Option A} (some x) (some y) → x ≡ y
 same-some p = cc
+
+-- the first event of step k is one of them, and of that step
+pub first-in : (k : ℕ) (es : List Event) (e : Event) → first k es ≡ some e → List·Memᴰ e es × (stepOf (e .call) ≡ k)
+unfolding first
+first-in k [] e q = absurd (Option·none-ne-some e q)
+first-in k (d ∷ es) e q = go (way (eqb (stepOf (d .call)) k)) (first-in k es e)
+  where
+    go : Way (eqb (stepOf (d .call)) k) → (first k es ≡ some e → List·Memᴰ e es × (stepOf (e .call) ≡ k))
+        → List·Memᴰ e (d ∷ es) × (stepOf (e .call) ≡ k)
+    go (on y) r =
+        let w : d ≡ e = same-some (rw y at q) in
+        (List·Memᴰ·head (sym w), ap (λ (v : Event). stepOf (v .call)) (sym w) ∙ eqb-true (stepOf (d .call)) k y)
+    go (off y) r = let t = r (rw y at q) in (List·Memᴰ·tail (t .0), t .1)

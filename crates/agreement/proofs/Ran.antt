@@ -28,7 +28,7 @@ use Rattle.party.proofs.Ways.{Way, on, off, way}
 use Rattle.agreement.specs.Calls.{Call, agreeRoot, agreeBit, takeShares, takeRelays, stepOf, Event, accepted, first, entry, heard, wrote}
 use Rattle.agreement.specs.Calls.{bitGiven, lengths, sentOver, events, final, checkedIn, checkedOver}
 use Rattle.agreement.specs.Calls.{opening, did, firstOf, resultAfter, hashed, sentBy}
-use Rattle.agreement.proofs.Run.{made2, made3, made4, endedWith, did2, did3, did4, did5, in-turn, event, Chain, chain, next, Still, still, gave-held}
+use Rattle.agreement.proofs.Run.{made2, made3, made4, endedWith, did2, did3, did4, did5, in-turn, event, Chain, chain, next, Still, still}
 
 -- an accepted opening
 pub opened-is : (H : List ℕ → List ℕ) (n t i : ℕ) (m : List ℕ) → opening H n t i m .cause ≡ 0
@@ -244,11 +244,6 @@ module _ (H : List ℕ → List ℕ) (n t i : ℕ) (m : List ℕ) (calls : List 
 
     pub bit-small : bit ≤ 1
     bit-small = begun .2
-
-  -- every accepted step 5 gave the result that the state holds after the list
-  pub gave : (r : Result) → resultAfter H n t i m calls ≡ some r
-      → (e : Event) → List·Memᴰ e (did H n t i m calls) → stepOf (e .call) ≡ 5 → e .reply .result ≡ some r
-  gave r h = gave-held H (atRoot (seatOf n t i) m) fin (did H n t i m calls) r did-chain (sym ends-is ∙ h)
 
   -- on bit 0
   pub ran-none : (e2 e3 : Event) (out : List ℕ) → firstOf H n t i m calls 2 ≡ some e2 → e2 .call ≡ agreeRoot z

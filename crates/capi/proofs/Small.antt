@@ -24,12 +24,12 @@ use Rattle.commitment.specs.Rooms.{maxPacket, maxOutbox}
 use Rattle.commitment.proofs.Shared.{length-shares}
 use Rattle.party.specs.State.{Result, nothing, settled, resultBytes, messageIn, atBit, atFirst, atSecond, atEnd, happy}
 use Rattle.party.specs.Steps.{Stepped, stepped, gives, writes, rootCause, withRoot, agreeRootOf, bitCause, packetFor, outboxOf, agreeBitOf}
-use Rattle.party.specs.Steps.{inboxCause, relayOf, heldOf, Taken, missing, found, takenBy, packetTaken, takeSharesOf, resultOf, ending, takeRelaysOf}
+use Rattle.party.specs.Steps.{inboxCause, relaysCause, relayOf, heldOf, Taken, missing, found, takenBy, packetTaken, takeSharesOf, resultOf, ending, takeRelaysOf}
 use Rattle.party.specs.Private.{Fit}
 use Rattle.party.specs.declared.Party.{Party}
 use Rattle.party.specs.declared.Reply.{Reply}
 use Rattle.party.specs.declared.Answer.the-variants as answer
-use Rattle.party.proofs.Causes.{state-fit, state-sound, inbox-sound}
+use Rattle.party.proofs.Causes.{state-fit, state-sound, inbox-sound, relays-sound}
 use Rattle.party.proofs.Kept.{take-padded}
 use Rattle.party.proofs.Outcomes.{root-refused, root-given}
 use Rattle.party.proofs.Progress.{result-short}
@@ -147,11 +147,11 @@ module _ (H : List ℕ → List ℕ) (wide : (s : List ℕ) → length (H s) ≡
   -- step 5
   relays-small : (inbox out : List ℕ) → takeRelaysOf H x inbox out .value < 2 ^ 32
   unfolding takeRelaysOf
-  relays-small inbox out = elim (ℕ-discrete (inboxCause 5 x inbox) 0) [
-    | yes e ↦ rw (eq-eqb (inboxCause 5 x inbox) 0 e)
+  relays-small inbox out = elim (ℕ-discrete (relaysCause x inbox) 0) [
+    | yes e ↦ rw (eq-eqb (relaysCause x inbox) 0 e)
         (ending-value x (resultOf H x inbox) out
-        (result-short H x (state-sound 5 x (inbox-sound 5 x inbox e .0) .0) inbox))
-    | no e ↦ rw (ne-eqb (inboxCause 5 x inbox) 0 e) (omega arith)
+        (result-short H x (state-sound 5 x (relays-sound x inbox e .0) .0) inbox))
+    | no e ↦ rw (ne-eqb (relaysCause x inbox) 0 e) (omega arith)
   ]
 
   -- any step

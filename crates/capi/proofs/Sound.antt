@@ -11,9 +11,9 @@ use lib.ListN.{length}
 use Rattle.limits.specs.Limits.{parties, groupCause}
 use Rattle.commitment.proofs.Opening.{spared, cleared}
 use Rattle.party.specs.State.{blankState, broken}
-use Rattle.party.specs.Steps.{stateCause, Stepped, refused, rootCause, agreeRootOf, bitCause, agreeBitOf, inboxCause, takeSharesOf, takeRelaysOf}
+use Rattle.party.specs.Steps.{stateCause, Stepped, refused, rootCause, agreeRootOf, bitCause, agreeBitOf, inboxCause, relaysCause, takeSharesOf, takeRelaysOf}
 use Rattle.party.specs.declared.Party.{Party}
-use Rattle.party.proofs.Causes.{state-sound, inbox-sound}
+use Rattle.party.proofs.Causes.{state-sound, inbox-sound, relays-sound}
 use Rattle.party.proofs.Outcomes.{root-refused, bit-refused, shares-refused, relays-refused}
 use Rattle.state_bytes.specs.Layout.{stateLength, stateOf}
 use Rattle.state_bytes.proofs.Reading.{state-short}
@@ -51,8 +51,8 @@ module _ (H : List ℕ → List ℕ) (x : Party) where
       state-sound 4 x (inbox-sound 4 x inbox
       (no-cause (inboxCause 4 x inbox) x out (takeSharesOf H x inbox out) (shares-refused H x inbox out) e) .0) .0
   whole (takeRelays inbox out) e =
-      state-sound 5 x (inbox-sound 5 x inbox
-      (no-cause (inboxCause 5 x inbox) x out (takeRelaysOf H x inbox out) (relays-refused H x inbox out) e) .0) .0
+      state-sound 5 x (relays-sound x inbox
+      (no-cause (relaysCause x inbox) x out (takeRelaysOf H x inbox out) (relays-refused H x inbox out) e) .0) .0
 
 -- bytes on which a call was accepted are those of a state
 blank-broken : broken blankState ≡ true

@@ -37,11 +37,12 @@ use Rattle.capi.proofs.Answers.{value-fits, over-written, over-left, open-refus
 use Rattle.capi.proofs.Small.{call-small, call-halves}
 use Rattle.capi.proofs.Kept.{call-kept, calls-kept, length-kept, open-kept}
 use Rattle.claims.specs.Terms.{Act, ended, Box, partyBox, Host, actSeen, actsSeen, hostBox, boxOf}
-use Rattle.claims.specs.Claims.{HostOpeningTells, HostStepTells, EveryCallTellsItsOutcome, Sitting, OneResult, AllGoodHostsEndWithOneResult}
+use Rattle.claims.specs.Claims.{HostOpeningTells, HostStepTells, EveryCallTellsItsOutcome, Sitting, AllGoodHostsEndWithOneResult}
+use Rattle.claims.specs.ReadAgain.{EveryReaderGetsIt}
 use Rattle.claims.proofs.Lists.{in-map, map-map, map-same}
 use Rattle.claims.proofs.Steps.{opening-tells, step-tells}
 use Rattle.claims.proofs.Tools.{shares-told, rebuild-told, hash-told, length-told, check-told, check-yes, packet-told}
-use Rattle.claims.proofs.Parties.{view, all-good-boxes-end-with-one-result}
+use Rattle.claims.proofs.Parties.{view, every-reader-gets-it}
 
 -- a call: its number, and the buffer
 called-number : (s : List ℕ) (c : Call) → called sha256 s c .number ≡ numberOf (made sha256 (stateOf s) c)
@@ -253,10 +254,10 @@ seen-all s (c ∷ cs) =
     go (off y) r = rw (y, above (eqb-false (made sha256 (stateOf s) c .cause) 0 y)) r
 
 -- the party with a host's number, book and calls
-abbrev partyOf : Host → Good
+abbrev pub partyOf : Host → Good
 partyOf h = record { own = h .own; message = h .book; calls = h .calls }
 
-box-same : (n t : ℕ) (h : Host) → hostBox n t h .cause ≡ 0 → hostBox n t h ≡ partyBox n t (partyOf h)
+pub box-same : (n t : ℕ) (h : Host) → hostBox n t h .cause ≡ 0 → hostBox n t h ≡ partyBox n t (partyOf h)
 unfolding did
 box-same n t h e =
     let own = h .own in
@@ -282,11 +283,15 @@ either-same : (n t : ℕ) (g : Good ⊎ Host) → boxOf n t g .cause ≡ 0 → b
 either-same n t (inl A) e = refl
 either-same n t (inr h) e = box-same n t h e
 
-pub all-good-hosts-end-with-one-result : AllGoodHostsEndWithOneResult
-all-good-hosts-end-with-one-result n t good z bit P =
+pub hosts-read : (n t : ℕ) (good : List (Good ⊎ Host)) (z : List ℕ) (bit : ℕ) → Sitting n t (map (boxOf n t) good) z bit
+    → EveryReaderGetsIt n t (map (boxOf n t) good) z bit
+hosts-read n t good z bit P =
     let same : map (boxOf n t) good ≡ map (partyBox n t) (map party good) =
     map-same (boxOf n t) (λ (g : Good ⊎ Host). partyBox n t (party g)) good
     (λ g i. either-same n t g (P .opened (boxOf n t g) (in-map (boxOf n t) i) .0))
     ∙ sym (map-map party (partyBox n t) good) in
-    subst (λ (boxes : List Box). (R : Result) × OneResult n t boxes z bit R) (sym same)
-    (all-good-boxes-end-with-one-result n t (map party good) z bit (subst (λ (boxes : List Box). Sitting n t boxes z bit) same P))
+    subst (λ (boxes : List Box). EveryReaderGetsIt n t boxes z bit) (sym same)
+    (every-reader-gets-it n t (map party good) z bit (subst (λ (boxes : List Box). Sitting n t boxes z bit) same P))
+
+pub all-good-hosts-end-with-one-result : AllGoodHostsEndWithOneResult
+all-good-hosts-end-with-one-result n t good z bit P = let r = hosts-read n t good z bit P in (r .0, r .1)

@@ -4,3 +4,4 @@ pub mod Tools
 pub mod Books
 pub mod Parties
 pub mod Hosts
+pub mod ReadAgain

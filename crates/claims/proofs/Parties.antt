@@ -15,13 +15,14 @@ use Rattle.merkle.specs.Height.{height}
 use Rattle.party.specs.State.{Result, nothing, settled}
 use Rattle.party.specs.Steps.{Stepped}
 use Rattle.agreement.specs.Calls.{Call, agreeRoot, agreeBit, takeShares, takeRelays, stepOf, Event, entry, inboxIn, writtenBy, heard, wrote, packetTo}
-use Rattle.agreement.specs.Calls.{bitGiven, resultShown, sentIn, sentOver, did, sentBy}
+use Rattle.agreement.specs.Calls.{bitGiven, sentIn, sentOver, did, sentBy}
 use Rattle.agreement.specs.Calls as calls
 use Rattle.agreement.specs.Agreement.{Good, absent, different, sumOver, joinOver, step, Premises, sent as allSent, Conclusions}
-use Rattle.agreement.proofs.Lists.{same-some}
+use Rattle.agreement.proofs.Lists.{same-some, first-in}
 use Rattle.agreement.proofs.Agreement.{agreement-sha256}
 use Rattle.claims.specs.Terms.{Act, rooted, sent, relayed, ended, stepIn, first, bytesIn, Box, actOf, partyBox}
 use Rattle.claims.specs.Claims.{Sitting, OneResult, bytesSent, AllGoodBoxesEndWithOneResult}
+use Rattle.claims.specs.ReadAgain.{EveryReaderGetsIt}
 use Rattle.claims.proofs.Lists.{in-map, all-map, map-map, sum-map, join-map}
 
 -- what is seen of an event
@@ -80,6 +81,18 @@ was-ended (agreeBit b out) r inbox R q = absurd (let k : _≡_ {A = ℕ} 0 1 = c
 was-ended (takeShares i out) r inbox R q = absurd (let k : _≡_ {A = ℕ} 0 1 = cc in omega arith)
 was-ended (takeRelays i out) r inbox R q = (cc, cc)
 
+-- every accepted step 5 gave R, if the events say so
+pub readers : (es : List Event) (R : Result) → ((e : Event) → List·Memᴰ e es → stepOf (e .call) ≡ 5 → e .reply .result ≡ some R)
+    → (inbox : List ℕ) (r : Option Result) → List·Memᴰ (ended inbox r) (map view es) → r ≡ some R
+readers es R h inbox r m = all-map view Gave es one (ended inbox r) m inbox r refl
+  where
+    Gave : Act → Type 0
+    Gave d = (inbox : List ℕ) (r : Option Result) → d ≡ ended inbox r → r ≡ some R
+
+    one : (e : Event) → List·Memᴰ e es → (inbox : List ℕ) (r : Option Result) → view e ≡ ended inbox r → r ≡ some R
+    one e i inbox r q =
+        sym (was-ended (e .call) (e .reply) inbox r q .1) ∙ h e i (sym (view-step (e .call) (e .reply)) ∙ ap stepIn q)
+
 -- the bytes sent
 view-bytes : (n : ℕ) (c : Call) (r : Stepped) → bytesIn n (actOf c r) ≡ sentIn n c (take (r .value) (r .buffer))
 view-bytes n (agreeRoot z) r = refl
@@ -87,7 +100,7 @@ view-bytes n (agreeBit bit out) r = refl
 view-bytes n (takeShares inbox out) r = refl
 view-bytes n (takeRelays inbox out) r = refl
 
-view-sent : (n : ℕ) (es : List Event) → sumOver (bytesIn n) (map view es) ≡ sentOver n es
+pub view-sent : (n : ℕ) (es : List Event) → sumOver (bytesIn n) (map view es) ≡ sentOver n es
 unfolding sumOver sentOver
 view-sent n [] = refl
 view-sent n (e ∷ es) = rw (view-bytes n (e .call) (e .reply), view-sent n es)
@@ -194,20 +207,21 @@ module _ (n t : ℕ) (good : List Good) (z : List ℕ) (bit : ℕ) where
         sum-map box (λ (B : Box). sumOver (bytesIn n) (B .acts)) (λ (A : Good). sentBy sha256 n t (A .own) (A .message) (A .calls))
         (λ A. view-sent n (did sha256 n t (A .own) (A .message) (A .calls))) good
 
-    shown : (R : Result) → bit ≡ 1 → (A : Good) → In A → resultShown (step sha256 n t good 5 A) ≡ some R
+    given : (R : Result) → Conclusions sha256 n t good bit R → bit ≡ 1 → (A : Good) → In A
         → (inbox : List ℕ) × (first 5 (box A .acts) ≡ some (ended inbox (some R)))
-    shown R b1 A h q =
+    given R C b1 A h =
         let s = P .step5 b1 (box A) (in-map box h) in
         let e = event 5 A (ended (s .0) (s .1)) (s .2) in
         let r = was-ended (e .0 .call) (e .0 .reply) (s .0) (s .1) (e .2) .1 in
-        (s .0, s .2 ∙ ap (λ (k : Option Result). some (ended (s .0) k)) (sym r ∙ sym (ap resultShown (e .1)) ∙ q))
+        let i = first-in 5 (did sha256 n t (A .own) (A .message) (A .calls)) (e .0) (e .1) in
+        (s .0, s .2 ∙ ap (λ (k : Option Result). some (ended (s .0) k)) (sym r ∙ C .gives A h (e .0) (i .0) (i .1)))
 
     conclusions : (R : Result) → Conclusions sha256 n t good bit R → OneResult n t (map box good) z bit R
     conclusions R C =
         record {
           held = all-map box (λ (B : Box). B .result ≡ some R) good (C .holds);
           given = λ b1. all-map box (λ (B : Box). (inbox : List ℕ) × (first 5 (B .acts) ≡ some (ended inbox (some R)))) good
-              (λ A h. shown R b1 A h (C .gives b1 A h));
+              (given R C b1);
           somebodys = whose (C .somebodys);
           common = λ m f. C .common m (λ A h. f (box A) (in-map box h));
           bound = λ m e. rw (bytes, length-map good box) (C .bound m e);
@@ -219,7 +233,17 @@ module _ (n t : ℕ) (good : List Good) (z : List ℕ) (bit : ℕ) where
         whose (inl e) = inl e
         whose (inr a) = inr (box (a .0), in-map box (a .1), a .2)
 
-pub all-good-boxes-end-with-one-result : AllGoodBoxesEndWithOneResult
-all-good-boxes-end-with-one-result n t good z bit P =
+pub every-reader-gets-it : (n t : ℕ) (good : List Good) (z : List ℕ) (bit : ℕ) → Sitting n t (map (partyBox n t) good) z bit
+    → EveryReaderGetsIt n t (map (partyBox n t) good) z bit
+every-reader-gets-it n t good z bit P =
     let r = agreement-sha256 n t good z bit (premises n t good z bit P) in
-    (r .0, conclusions n t good z bit P (r .0) (r .1))
+    let C = r .1 in (
+      r .0,
+      conclusions n t good z bit P (r .0) C,
+      C .void,
+      all-map (partyBox n t) (λ (B : Box). (inbox : List ℕ) (q : Option Result) → List·Memᴰ (ended inbox q) (B .acts) → q ≡ some (r .0)) good
+          (λ A h. readers (did sha256 n t (A .own) (A .message) (A .calls)) (r .0) (C .gives A h)),
+    )
+
+pub all-good-boxes-end-with-one-result : AllGoodBoxesEndWithOneResult
+all-good-boxes-end-with-one-result n t good z bit P = let r = every-reader-gets-it n t good z bit P in (r .0, r .1)

@@ -2,7 +2,7 @@
 -- the tests of the steps' definitions, one after the other. Assumes nothing.
 use mathlib.Core.Path.{_≡_, refl, sym, ap, _∙_, subst}
 use mathlib.Core.Logic.{_≢_}
-use mathlib.Core.Bool.{Bool, true, false, cond, not}
+use mathlib.Core.Bool.{Bool, true, false, cond, not, _||_}
 use mathlib.Core.List.{List, [], _∷_}
 use mathlib.Core.Option.{none}
 use Prim.Native.Nat.{ℕ, _-_, _*_, _≤_, _<_}
@@ -19,9 +19,9 @@ use Rattle.sha256.specs.Sha256.{sha256}
 use Rattle.commitment.specs.Commitment.{messageRoot, openCause}
 use Rattle.commitment.proofs.Opening.{open-bounds, spared}
 use Rattle.merkle.specs.Shares.{blank}
-use Rattle.party.specs.State.{seatOf, Result, nothing, settled, resultBytes, messageIn, atRoot, atFirst, atEnd, blankState, broken}
+use Rattle.party.specs.State.{seatOf, Result, nothing, settled, resultBytes, hasEnded, messageIn, atRoot, atFirst, atEnd, blankState, broken}
 use Rattle.party.specs.Steps.{turnOf, stateCause, openOf, Stepped, refused, writes, ending, rootCause, agreeRootOf, bitCause, outboxOf, agreeBitOf}
-use Rattle.party.specs.Steps.{inboxCause, relayOf, heldOf, takeSharesOf, resultOf, takeRelaysOf}
+use Rattle.party.specs.Steps.{inboxCause, relaysCause, relayOf, heldOf, takeSharesOf, resultOf, takeRelaysOf}
 use Rattle.party.specs.declared.Party.{Party}
 use Rattle.party.specs.declared.Opened.{Opened}
 use Rattle.party.proofs.Ways.{Way, on, off, way}
@@ -94,7 +94,7 @@ opening-tells n t own m =
     }
 
 -- a step: causes 5 and 6, then its argument's; then that of its buffer
-abbrev judged : ℕ → Party → Call → ℕ
+abbrev pub judged : ℕ → Party → Call → ℕ
 judged turn x c = cond (not (eqb (stateCause turn x) 0)) (stateCause turn x) (wrong x c)
 
 step-foremost : (a b d : Bool) (k : ℕ)
@@ -112,11 +112,11 @@ step-foremost false false d k = go (eqb k 0) d
     go false d = refl
 
 -- what a step does with its judgement
-record Does (x : Party) (c : Call) (k : ℕ) : Type 0 where
-  does : Stepped
-  is : made sha256 x c ≡ cond (not (eqb k 0)) (refused x k (lent c)) does
-  cause : does .cause ≡ when 9 (ltb (length (lent c)) (length (due x c)))
-  keeps : does .cause ≢ 0 → (does .state ≡ x) × (does .buffer ≡ lent c) × (does .value ≡ cond (eqb (does .cause) 9) (length (due x c)) 0)
+pub record Does (x : Party) (c : Call) (k : ℕ) : Type 0 where
+  pub does : Stepped
+  pub is : made sha256 x c ≡ cond (not (eqb k 0)) (refused x k (lent c)) does
+  pub cause : does .cause ≡ when 9 (ltb (length (lent c)) (length (due x c)))
+  pub keeps : does .cause ≢ 0 → (does .state ≡ x) × (does .buffer ≡ lent c) × (does .value ≡ cond (eqb (does .cause) 9) (length (due x c)) 0)
       × (does .result ≡ none)
 
 writes-cause : (x next : Party) (bs out : List ℕ) → writes x next bs out .cause ≡ when 9 (ltb (length out) (length bs))
@@ -152,7 +152,16 @@ ending-keeps x (settled m) out = go (way (ltb (length out) (length m)))
     go (on e) = rw e (λ d. (refl, refl, refl, refl))
     go (off e) = rw e (λ d. absurd (d refl))
 
-done : (x : Party) (c : Call) → Does x c (judged (stepOf c) x c)
+-- step 5 judges no inbox once the party has ended
+relays-judged : (x : Party) (inbox out : List ℕ) → relaysCause x inbox ≡ judged 5 x (takeRelays inbox out)
+unfolding relaysCause inboxCause
+relays-judged x inbox out = go (way (hasEnded (x .stage)))
+  where
+    go : Way (hasEnded (x .stage)) → relaysCause x inbox ≡ judged 5 x (takeRelays inbox out)
+    go (on h) = rw h (sym (or-none (stateCause 5 x)))
+    go (off h) = rw h
+
+pub done : (x : Party) (c : Call) → Does x c (judged (stepOf c) x c)
 unfolding made agreeRootOf agreeBitOf takeSharesOf takeRelaysOf rootCause bitCause inboxCause
 done x (agreeRoot z) = record { does = _; is = refl; cause = refl; keeps = λ d. absurd (d refl) }
 done x (agreeBit bit out) =
@@ -161,7 +170,12 @@ done x (agreeBit bit out) =
 done x (takeShares inbox out) =
     record { does = _; is = refl; cause = writes-cause x _ (relayOf sha256 x inbox) out; keeps = writes-keeps x _ (relayOf sha256 x inbox) out }
 done x (takeRelays inbox out) =
-    record { does = _; is = refl; cause = ending-cause x (resultOf sha256 x inbox) out; keeps = ending-keeps x (resultOf sha256 x inbox) out }
+    record {
+      does = _;
+      is = ap (λ (k : ℕ). cond (not (eqb k 0)) (refused x k out) (ending x (resultOf sha256 x inbox) out)) (relays-judged x inbox out);
+      cause = ending-cause x (resultOf sha256 x inbox) out;
+      keeps = ending-keeps x (resultOf sha256 x inbox) out;
+    }
 
 either-step : (b : Bool) (p q : Stepped) → cond b p q .cause ≡ cond b (p .cause) (q .cause)
 either-step true p q = refl
@@ -191,7 +205,7 @@ not-nine x c = go (broken x) (not (eqb (turnOf (x .stage)) (stepOf c))) (wrong x
     argument (agreeRoot z) = other 7 (not (eqb (length z) 32)) refl
     argument (agreeBit bit out) = other 7 (ltb 1 bit) refl
     argument (takeShares inbox out) = other 8 (not (fills (x .seat .n) inbox)) refl
-    argument (takeRelays inbox out) = other 8 (not (fills (x .seat .n) inbox)) refl
+    argument (takeRelays inbox out) = other 8 (not (hasEnded (x .stage) || fills (x .seat .n) inbox)) refl
 
     go : (a b : Bool) (k : ℕ) → eqb k 9 ≡ false → eqb (cond (not (eqb (cond a 5 (cond b 6 0)) 0)) (cond a 5 (cond b 6 0)) k) 9 ≡ false
     go true b k e = refl
@@ -215,7 +229,7 @@ refusal-keeps x c = go (way (eqb k 0))
     go (off e) = rw (D .is, e) refusal
 
 -- an accepted step
-ends : (x : Party) (r : Result) (out : List ℕ) → endedWith (x .seat) r out .buffer ≡ spliced out 0 (resultBytes r)
+pub ends : (x : Party) (r : Result) (out : List ℕ) → endedWith (x .seat) r out .buffer ≡ spliced out 0 (resultBytes r)
 ends x nothing out = sym (spliced-none out 0)
 ends x (settled m) out = refl
 
@@ -282,8 +296,8 @@ lawful x (takeShares inbox out) w turn fine room =
     shares-accepted sha256 x w inbox out turn
     (not-false (fills (x .seat .n) inbox) (spared (not (fills (x .seat .n) inbox)) 7 0 fine .0)) room
 lawful x (takeRelays inbox out) w turn fine room =
-    relays-accepted sha256 x w inbox out turn
-    (not-false (fills (x .seat .n) inbox) (spared (not (fills (x .seat .n) inbox)) 7 0 fine .0)) room
+    let looked : Bool = hasEnded (x .stage) || fills (x .seat .n) inbox in
+    relays-accepted sha256 x w inbox out turn (λ h. rw h at (not-false looked (spared (not looked) 7 0 fine .0))) room
 
 pub step-tells : (x : Party) (c : Call) → StepTells x c (made sha256 x c)
 step-tells x c = record { cause = step-told x c; refused = refusal-keeps x c; accepted = step-accepted x c; lawful = lawful x c }

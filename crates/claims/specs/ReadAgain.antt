@@ -41,6 +41,11 @@ pub record NothingMore (n : ℕ) (before after : Box) : Type 0 where
   pub sent : sumOver (bytesIn n) (after .acts) ≡ sumOver (bytesIn n) (before .acts)
   pub hashed : after .hashed ≡ before .hashed
 
+-- demand 3 for every reader: one result, which each accepted step 5 gave; nothing on bit 0
+abbrev pub EveryReaderGetsIt : ℕ → ℕ → List Box → List ℕ → ℕ → Type 0
+EveryReaderGetsIt n t boxes z bit = (R : Result) × OneResult n t boxes z bit R × (bit ≡ 0 → R ≡ nothing)
+    × All n t boxes z bit (λ A. (inbox : List ℕ) (r : Option Result) → List·Memᴰ (ended inbox r) (A .acts) → r ≡ some R)
+
 pub record ResultsAreReadAgain : Type 0 where
   pub step5 : (x : Party) (R : Result) (inbox out : List ℕ) → resultIn x ≡ some R → GivesAgain x R out (made sha256 x (takeRelays inbox out))
   pub others : (x : Party) (R : Result) (c : Call) → resultIn x ≡ some R → stepOf c ≢ 5 → made sha256 x c ≡ refused x (cond (broken x) 5 6) (lent c)
@@ -51,7 +56,6 @@ pub record ResultsAreReadAgain : Type 0 where
   -- a box that has ended, whatever it is called with afterwards
   pub later : (n t : ℕ) (g : Good ⊎ Host) (R : Result) (more : List Call) → boxOf n t g .cause ≡ 0 → boxOf n t g .result ≡ some R
       → NothingMore n (boxOf n t g) (boxOf n t (further more g))
-  -- demand 3 for every reader: under its premises, which speak of the first accepted step 5, each accepted one gave the one result; on bit 0, nothing
-  pub one : (n t : ℕ) (good : List (Good ⊎ Host)) (z : List ℕ) (bit : ℕ) → let boxes = map (boxOf n t) good in Sitting n t boxes z bit
-      → (R : Result) × OneResult n t boxes z bit R × (bit ≡ 0 → R ≡ nothing)
-      × All n t boxes z bit (λ A. (inbox : List ℕ) (r : Option Result) → List·Memᴰ (ended inbox r) (A .acts) → r ≡ some R)
+  -- under the premises of demand 3, of which the one on step 5 speaks of the first accepted one
+  pub one : (n t : ℕ) (good : List (Good ⊎ Host)) (z : List ℕ) (bit : ℕ) → Sitting n t (map (boxOf n t) good) z bit
+      → EveryReaderGetsIt n t (map (boxOf n t) good) z bit

@@ -13,6 +13,7 @@ use Rattle.limits.specs.Limits.{maxParties, maxMessage, maxShare}
 use Rattle.buffer.specs.Splice.{spliced}
 use Rattle.buffer.specs.Entries.{size}
 use Rattle.buffer.specs.Given.{Given, written}
+use Rattle.buffer.proofs.Splice.{length-spliced, spliced-start}
 use Rattle.buffer.proofs.Given.{written-done}
 use Rattle.merkle.specs.Shares.{blank}
 use Rattle.party.specs.State.{Result, nothing, settled, resultBytes, padded, atRoot, atBit, atFirst, atSecond, atEnd}
@@ -125,6 +126,20 @@ written-read x f s long =
     ap (λ (g : Given). stateOf (g .buffer))
     (written-done (stateBytes x) s (omega (arith, bytes-long x (f .root) (f .message) (f .share))))
     ∙ read-back x f (drop (0 + length (stateBytes x)) s)
+
+-- and writing it once more leaves every byte
+pub written-again : (x : Party) → Storable x → (s : List ℕ) → stateLength ≤ length s
+    → written (stateBytes x) (written (stateBytes x) s .buffer) .buffer ≡ written (stateBytes x) s .buffer
+written-again x f s long =
+    let bs : List ℕ = stateBytes x in
+    let fits : length bs ≤ length s = omega (arith, bytes-long x (f .root) (f .message) (f .share)) in
+    let once : written bs s .buffer ≡ spliced s 0 bs = ap (λ (g : Given). g .buffer) (written-done bs s fits) in
+    let twice : spliced (spliced s 0 bs) 0 bs ≡ spliced s 0 bs = spliced-start (spliced s 0 bs) bs
+    ∙ ap (λ (l : List ℕ). bs ++ l) (ap (drop (length bs)) (spliced-start s bs) ∙ drop-at bs (drop (length bs) s) (length bs) refl)
+    ∙ sym (spliced-start s bs) in
+    ap (λ (o : List ℕ). written bs o .buffer) once
+    ∙ ap (λ (g : Given). g .buffer) (written-done bs (spliced s 0 bs) (omega (arith, length-spliced s 0 bs (omega (arith, fits)), fits)))
+    ∙ twice ∙ sym once
 
 -- the five forms, within their limits
 length-padded : (k : ℕ) (l : List ℕ) → length l ≤ k → length (padded k l) ≡ k

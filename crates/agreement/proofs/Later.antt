@@ -1,0 +1,95 @@
+-- What a party's later calls can and cannot change. Every accepted step 5 gave the result that the state holds after the list; and once it holds one,
+-- whatever the party is called with, its result stays, no byte is sent and no string is hashed. By the laws of lists and of an ended party's calls.
+-- Assumes nothing.
+use mathlib.Core.Path.{_≡_, refl, sym, ap, _∙_}
+use mathlib.Core.Bool.{cond}
+use mathlib.Core.List.{List, [], _∷_, _++_, append-nil, append-assoc, List·Memᴰ}
+use mathlib.Core.Option.{some}
+use Prim.Native.Nat.{ℕ, _+_, _-_}
+use native.Mathlib.Omega.{arith}
+use lib.Dec.{eqb}
+use Rattle.erasure.specs.Coding.{shares}
+use Rattle.merkle.specs.Shares.{codingStrings}
+use Rattle.party.specs.State.{Result, resultIn}
+use Rattle.party.specs.declared.Party.{Party}
+use Rattle.party.proofs.Ways.{Way, on, off, way}
+use Rattle.agreement.specs.Calls.{Call, stepOf, Event, accepted, writtenBy, sentIn, sentOver, made, events, final, checkedIn, checkedOver}
+use Rattle.agreement.specs.Calls.{opening, did, resultAfter, hashed, sentBy}
+use Rattle.agreement.proofs.Run.{event, chain, Still, still, gave-held}
+
+accepted-both : (es fs : List Event) → accepted (es ++ fs) ≡ accepted es ++ accepted fs
+unfolding accepted
+accepted-both [] fs = refl
+accepted-both (e ∷ es) fs = go (way (eqb (e .reply .cause) 0)) (accepted-both es fs)
+  where
+    go : Way (eqb (e .reply .cause) 0) → accepted (es ++ fs) ≡ accepted es ++ accepted fs
+        → accepted (e ∷ (es ++ fs)) ≡ accepted (e ∷ es) ++ accepted fs
+    go (on y) r = rw y (ap (λ (l : List Event). e ∷ l) r)
+    go (off y) r = rw y r
+
+sent-both : (n : ℕ) (es fs : List Event) → sentOver n (es ++ fs) ≡ sentOver n es + sentOver n fs
+unfolding sentOver
+sent-both n [] fs = omega arith
+sent-both n (e ∷ es) fs =
+    ap (λ (k : ℕ). sentIn n (e .call) (writtenBy e) + k) (sent-both n es fs) ∙ omega arith
+
+module _ (H : List ℕ → List ℕ) where
+  checked-both : (es fs : List Event) → checkedOver H (es ++ fs) ≡ checkedOver H es ++ checkedOver H fs
+  unfolding checkedOver
+  checked-both [] fs = refl
+  checked-both (e ∷ es) fs =
+      ap (λ (l : List (List ℕ)). checkedIn H (e .before) (e .call) ++ l) (checked-both es fs)
+      ∙ sym (append-assoc (checkedIn H (e .before) (e .call)) (checkedOver H es) (checkedOver H fs))
+
+  final-both : (x : Party) (cs ds : List Call) → final H x (cs ++ ds) ≡ final H (final H x cs) ds
+  unfolding final
+  final-both x [] ds = refl
+  final-both x (c ∷ cs) ds = final-both (made H x c .state) cs ds
+
+  events-both : (x : Party) (cs ds : List Call) → events H x (cs ++ ds) ≡ events H x cs ++ events H (final H x cs) ds
+  unfolding events final
+  events-both x [] ds = refl
+  events-both x (c ∷ cs) ds = ap (λ (l : List Event). event H x c ∷ l) (events-both (made H x c .state) cs ds)
+
+  module _ (n t i : ℕ) (m : List ℕ) (calls : List Call) (r : Result) (h : resultAfter H n t i m calls ≡ some r) where
+    pub gave : (e : Event) → List·Memᴰ e (did H n t i m calls) → stepOf (e .call) ≡ 5 → e .reply .result ≡ some r
+    unfolding did
+    gave =
+        let x = opening H n t i m .state in
+        gave-held H x (final H x calls) (accepted (events H x calls)) r (chain H x calls) h
+
+    -- further calls
+    module _ (more : List Call) where
+      ended : Party
+      ended = final H (opening H n t i m .state) calls
+
+      rest : List Event
+      rest = accepted (events H ended more)
+
+      stays : Still H n r rest (final H ended more)
+      unfolding rest ended
+      stays =
+          let x = final H (opening H n t i m .state) calls in
+          still H n x (final H x more) (accepted (events H x more)) r h (chain H x more)
+
+      did-both : did H n t i m (calls ++ more) ≡ did H n t i m calls ++ rest
+      unfolding did rest ended
+      did-both =
+          let x = opening H n t i m .state in
+          ap accepted (events-both x calls more) ∙ accepted-both (events H x calls) (events H (final H x calls) more)
+
+      pub later-result : resultAfter H n t i m (calls ++ more) ≡ some r
+      unfolding ended
+      later-result = ap resultIn (final-both (opening H n t i m .state) calls more) ∙ stays .0
+
+      pub later-sent : sentBy H n t i m (calls ++ more) ≡ sentBy H n t i m calls
+      unfolding sentBy
+      later-sent = ap (sentOver n) did-both ∙ sent-both n (did H n t i m calls) rest ∙ omega (arith, stays .1)
+
+      pub later-hashed : hashed H n t i m (calls ++ more) ≡ hashed H n t i m calls
+      unfolding hashed
+      later-hashed =
+          ap (λ (l : List (List ℕ)). codingStrings H n (shares n (n - t) m) ++ l)
+          (ap (checkedOver H) did-both ∙ checked-both (did H n t i m calls) rest
+          ∙ ap (λ (l : List (List ℕ)). checkedOver H (did H n t i m calls) ++ l) (stays .2)
+          ∙ append-nil (checkedOver H (did H n t i m calls)))
