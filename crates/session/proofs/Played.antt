@@ -35,7 +35,7 @@ use Rattle.party.specs.declared.Party.{Party}
 use Rattle.party.specs.declared.Opened.{Opened}
 use Rattle.party.specs.declared.Answer.the-variants.{Happy}
 use Rattle.party.proofs.Ways.{Way, on, off, way}
-use Rattle.party.proofs.Kept.{message-root, message-bit, message-first}
+use Rattle.party.proofs.Kept.{message-root, message-bit, message-first, result-end}
 use Rattle.commitment.specs.Private.{Coded}
 use Rattle.commitment.proofs.Messages.{fine}
 use Rattle.party.proofs.Causes.{state-fine, root-fine}
@@ -43,12 +43,12 @@ use Rattle.party.proofs.Outcomes.{open-given, open-refused, root-given, root-re
 use Rattle.party.proofs.Progress.{open-accepted, bit-accepted, shares-accepted, relays-accepted}
 use Rattle.party.proofs.Progress.{root-whole, bit-whole, first-whole, second-whole, held-short, result-short}
 use Rattle.party.proofs.Rooms.{outbox-fits, relay-fits}
-use Rattle.agreement.specs.Calls.{Call, agreeRoot, agreeBit, takeShares, takeRelays, Event, accepted, first, entry, heard, wrote, packetTo, bitGiven, resultShown}
+use Rattle.agreement.specs.Calls.{Call, agreeRoot, agreeBit, takeShares, takeRelays, Event, accepted, first, entry, heard, wrote, packetTo, bitGiven}
 use Rattle.agreement.specs.Calls.{sentOver, made, events, final, did, firstOf, resultAfter, sentBy, opening}
 use Rattle.agreement.specs.Agreement.{Good, Each, step, Clean, Premises, sent, Conclusions, Agreement}
 use Rattle.agreement.proofs.Run.{did3, did4}
-use Rattle.agreement.proofs.Ran.{opened-is, result-end}
-use Rattle.agreement.proofs.Lists.{same-some}
+use Rattle.agreement.proofs.Ran.{opened-is}
+use Rattle.agreement.proofs.Lists.{same-some, first-in}
 use Rattle.agreement.proofs.Agreement.{agreement, agreement-sha256}
 use Rattle.plan.specs.Layout.{unnamed, nIn, tIn, hasRoot, hasBit, rootIn, goodIn, booksIn, exchangeIn}
 use Rattle.plan.specs.Layout as layout
@@ -322,7 +322,7 @@ module _ (H : List ℕ → List ℕ) (wide : (x : List ℕ) → length (H x) ≡
           let fits : length (resultBytes (steps.resultOf H X3 (secondInbox H s p))) ≤ length room5 =
           omega (arith, result-short H X3 w (secondInbox H s p), length-replicate {A = ℕ} maxMessage 0) in
           ap (λ (x : Party). steps.takeRelaysOf H x (secondInbox H s p) room5 .cause) state-4
-          ∙ relays-accepted H X3 w (secondInbox H s p) room5 turn-second (filled (λ k. secondFrom p (k + 1))) fits
+          ∙ relays-accepted H X3 w (secondInbox H s p) room5 turn-second (λ w. filled (λ k. secondFrom p (k + 1))) fits
 
     -- the accepted calls are all that were made
     abbrev E2 : Event
@@ -429,15 +429,11 @@ module _ (H : List ℕ → List ℕ) (wide : (x : List ℕ) → length (H x) ≡
     unfolding secondInbox inboxTo
     heard-5 b q l h = ap (heard n q) (fifth-is b) ∙ entry-of (secondFrom p) q l h
 
-    shows-5 : bit ≡ 1 → resultShown (first-of 5) ≡ step5 H s p .result
-    unfolding made step5
-    shows-5 b = ap resultShown (fifth-is b)
-
     ends-0 : bit ≡ 0 → resultAfter H n t p m (callsOf H s p) ≡ some nothing
     unfolding callsOf final made opened step2 step3
     ends-0 b =
         rw (eq-eqb bit 0 b)
-        (ap resultIn (state-3 ∙ ap (λ (e : Bool). cond e (atEnd (seatOf n t p) nothing) X2) (eq-eqb bit 0 b)) ∙ result-end n t p nothing)
+        (ap resultIn (state-3 ∙ ap (λ (e : Bool). cond e (atEnd (seatOf n t p) nothing) X2) (eq-eqb bit 0 b)) ∙ result-end (seatOf n t p) nothing)
 
     sent-is : sentBy H n t p m (callsOf H s p) ≡ sentOf H s p
     unfolding sentBy sentOver sentOf made step3 step4
@@ -552,14 +548,22 @@ module _ (H : List ℕ → List ℕ) (wide : (x : List ℕ) → length (H x) ≡
   sent-figure =
       sym (sum-of H s (λ (A : Good). sentBy H n t (A .own) (A .message) (A .calls)) n 1 (λ q l h g. sent-is q l (omega arith)))
 
-  -- what a party's line gives is the one result
+  -- what a party's step 5 gave, and so its line, is the one result
+  gives-5 : (R : Result) → Conclusions H n t good bit R → (p : ℕ) → 1 ≤ p → p ≤ n → isGood s p ≡ true → bit ≡ 1 → step5 H s p .result ≡ some R
+  unfolding made step5
+  gives-5 R C p l h g b =
+      let A = goodParty H s p in
+      let e = fifth-is p l h b in
+      let i = first-in 5 (did H n t (A .own) (A .message) (A .calls)) _ e in
+      C .gives A (member p l h g) _ (i .0) (i .1)
+
   line-of : (R : Result) → Conclusions H n t good bit R → (p : ℕ) → 1 ≤ p → p ≤ n → isGood s p ≡ true → endsWith H s p ≡ R
   unfolding endsWith
   line-of R C p l h g =
       either-bit p l h (cond (eqb bit 0) nothing (orNothing (step5 H s p .result)) ≡ R)
       (λ b. rw (eq-eqb bit 0 b) (same-some (sym (ends-0 p l h b) ∙ C .holds (goodParty H s p) (member p l h g))))
       (λ b. rw (ne-eqb bit 0 (λ q. omega arith))
-      (ap orNothing (sym (shows-5 p l h b) ∙ C .gives b (goodParty H s p) (member p l h g))))
+      (ap orNothing (gives-5 R C p l h g b)))
 
   lines-same : (R : Result) → ((p : ℕ) → 1 ≤ p → p ≤ n → isGood s p ≡ true → endsWith H s p ≡ R)
       → (k p : ℕ) → 1 ≤ p → p + k ≤ n + 1 → linesFrom H s k p ≡ linesOf s R k p

@@ -19,7 +19,7 @@ use Rattle.buffer.specs.declared.Written.{Written}
 use Rattle.buffer.specs.declared.Written.the-variants.{Refused, Done}
 use Rattle.buffer.proofs.Given.{written-done}
 use Rattle.party.specs.State.{Result, nothing, settled}
-use Rattle.party.specs.Steps.{resultGiven, refused, ending, inboxCause, resultOf, takeRelaysOf}
+use Rattle.party.specs.Steps.{resultGiven, refused, ending, relaysCause, resultOf, takeRelaysOf}
 use Rattle.party.specs.declared.Party.{Party}
 use Rattle.party.specs.declared.Answer.{Answer}
 use Rattle.party.specs.declared.Answer.the-variants as answer
@@ -135,10 +135,10 @@ ending-room x (settled m) out = go (ltb (length out) (length m)) refl
 module _ (H : List ℕ → List ℕ) where
   relays-room : (x : Party) (inbox out : List ℕ) → messageLength (takeRelaysOf H x inbox out .answer) ≤ length out
   unfolding takeRelaysOf
-  relays-room x inbox out = go (not (eqb (inboxCause 5 x inbox) 0))
+  relays-room x inbox out = go (not (eqb (relaysCause x inbox) 0))
     where
       go : (b : Bool)
-          → messageLength (cond b (refused x (inboxCause 5 x inbox) out) (ending x (resultOf H x inbox) out) .answer) ≤ length out
+          → messageLength (cond b (refused x (relaysCause x inbox) out) (ending x (resultOf H x inbox) out) .answer) ≤ length out
       go true = omega arith
       go false = ending-room x (resultOf H x inbox) out
 
