@@ -265,8 +265,8 @@ impl Party {
         let Outcome::Message(len) = outcome else {
             return self.settle_nothing();
         };
-        let message = self.message;
-        self.settle(&message[..len], out)
+        let kept = self.message;
+        self.settle(&kept[..len], out)
     }
 
     // Cause 5, 6 or 8 of step 5, or 0.

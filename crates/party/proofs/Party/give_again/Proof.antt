@@ -55,8 +55,8 @@ returns c =
     ap (λ (r : Reply). stepped r (Out st)) (c .settle-nothing .ensures)
     ∙ ap (λ (o : Outcome). ending (X st) (resultFrom o (X st .message)) (Out st)) (sym (c .before .enum-told .given .1))
 
-array-share-prefix-message : tie.Need-array-share-prefix-message
-array-share-prefix-message c = let k = c .before .before in omega (arith, long (Entry k), short k)
+array-share-prefix-kept : tie.Need-array-share-prefix-kept
+array-share-prefix-kept c = let k = c .before .before in omega (arith, long (Entry k), short k)
 
 slice-aggregate-settle : tie.Need-slice-aggregate-settle
 slice-aggregate-settle c = sym (exact (c .before .before .before))
@@ -82,7 +82,7 @@ give-again-spec =
     enum-told
     settle-nothing-requires
     returns
-    array-share-prefix-message
+    array-share-prefix-kept
     slice-aggregate-settle
     settle-requires
     same-length
