@@ -29,6 +29,38 @@ use Rattle.party.specs.declared.Stage.the-variants.{Root, Bit, First, Se
 use Rattle.party.specs.declared.Party.{Party}
 use Rattle.party.specs.declared.Answer.the-variants as answer
 
+-- a party holds a result exactly if it has ended, and then step 5 is in turn
+module _ (x : Party) where
+  pub holds-none : hasEnded (x .stage) ≡ false → resultIn x ≡ none
+  holds-none = go (x .stage)
+    where
+      go : (s : Stage) → hasEnded s ≡ false → resultAt s (x .message) ≡ none
+      go Root h = refl
+      go Bit h = refl
+      go First h = refl
+      go Second h = refl
+      go (Ended o) h = absurd (true≢false h)
+
+  pub holds-ended : (r : Result) → resultIn x ≡ some r → (hasEnded (x .stage) ≡ true) × (turnOf (x .stage) ≡ 5)
+  holds-ended r = go (x .stage)
+    where
+      go : (s : Stage) → resultAt s (x .message) ≡ some r → (hasEnded s ≡ true) × (turnOf s ≡ 5)
+      go Root h = absurd (Option·none-ne-some r h)
+      go Bit h = absurd (Option·none-ne-some r h)
+      go First h = absurd (Option·none-ne-some r h)
+      go Second h = absurd (Option·none-ne-some r h)
+      go (Ended o) h = (refl, refl)
+
+  pub holds-not : resultIn x ≡ none → hasEnded (x .stage) ≡ false
+  holds-not = go (x .stage)
+    where
+      go : (s : Stage) → resultAt s (x .message) ≡ none → hasEnded s ≡ false
+      go Root h = refl
+      go Bit h = refl
+      go First h = refl
+      go Second h = refl
+      go (Ended o) h = absurd (Option·some-ne-none (resultFrom o (x .message)) h)
+
 module _ (H : List ℕ → List ℕ) where
   -- step 1, the opening
   module _ (n t own : ℕ) (m : List ℕ) where
@@ -122,38 +154,6 @@ module _ (H : List ℕ → List ℕ) where
         → resultFound H x inbox ≡ rebuilt (recovered (x .seat .n - x .seat .t) (present 1 (gathered H x 1 (bodies (x .seat .n) inbox))))
     unfolding resultFound
     found-rebuilt h = rw h
-
--- a party holds a result exactly if it has ended, and then step 5 is in turn
-module _ (x : Party) where
-  pub holds-none : hasEnded (x .stage) ≡ false → resultIn x ≡ none
-  holds-none = go (x .stage)
-    where
-      go : (s : Stage) → hasEnded s ≡ false → resultAt s (x .message) ≡ none
-      go Root h = refl
-      go Bit h = refl
-      go First h = refl
-      go Second h = refl
-      go (Ended o) h = absurd (true≢false h)
-
-  pub holds-ended : (r : Result) → resultIn x ≡ some r → (hasEnded (x .stage) ≡ true) × (turnOf (x .stage) ≡ 5)
-  holds-ended r = go (x .stage)
-    where
-      go : (s : Stage) → resultAt s (x .message) ≡ some r → (hasEnded s ≡ true) × (turnOf s ≡ 5)
-      go Root h = absurd (Option·none-ne-some r h)
-      go Bit h = absurd (Option·none-ne-some r h)
-      go First h = absurd (Option·none-ne-some r h)
-      go Second h = absurd (Option·none-ne-some r h)
-      go (Ended o) h = (refl, refl)
-
-  pub holds-not : resultIn x ≡ none → hasEnded (x .stage) ≡ false
-  holds-not = go (x .stage)
-    where
-      go : (s : Stage) → resultAt s (x .message) ≡ none → hasEnded s ≡ false
-      go Root h = refl
-      go Bit h = refl
-      go First h = refl
-      go Second h = refl
-      go (Ended o) h = absurd (Option·some-ne-none (resultFrom o (x .message)) h)
 
 -- what is sent: the answer of the writer says whether the state is the next one
 pub writes-given : (x next : Party) (bs out : List ℕ) (r : Written) (o : List ℕ) → gave r o ≡ written bs out
