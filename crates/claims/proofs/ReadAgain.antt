@@ -57,9 +57,12 @@ module _ (x : Party) (R : Result) (h : resultIn x ≡ some R) where
       record {
         cause = T .cause ∙ rw (e .0, eq-eqb (turnOf (x .stage)) 5 (e .1), same);
         kept = λ d. rw same at (T .refused d);
-        given = λ a. let g = T .accepted a in
-            (g .0 ∙ ap (atEnd (x .seat)) same, g .1 ∙ ap (λ (r : Result). spliced out 0 (resultBytes r)) same,
-            g .2 ∙ ap (λ (r : Result). length (resultBytes r)) same, g .3 ∙ ap {B = Option Result} some same);
+        given = λ a. let g = T .accepted a in (
+          g .0 ∙ ap (atEnd (x .seat)) same,
+          g .1 ∙ ap (λ (r : Result). spliced out 0 (resultBytes r)) same,
+          g .2 ∙ ap (λ (r : Result). length (resultBytes r)) same,
+          g .3 ∙ ap {B = Option Result} some same,
+        );
       }
 
   others : (c : Call) → stepOf c ≢ 5 → made sha256 x c ≡ refused x (cond (broken x) 5 6) (lent c)
