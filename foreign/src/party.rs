@@ -186,8 +186,12 @@ impl State {
         })
     }
 
-    /// Step 5; the answer is the length of the message, or none for nothing.
+    /// Step 5; the answer is the length of the message, or none for nothing. A party that has
+    /// ended gives its result again, whatever the inbox.
     pub fn take_relays(self, inbox: &[u8], out: &mut [u8]) -> Given<Option<usize>> {
+        if let Stage::Ended(outcome) = self.stage {
+            return self.read_again(outcome, out);
+        }
         self.step(Stage::Second, |party| {
             let senders = entries(party.n, inbox)?;
             let found = if party.happy() {
@@ -195,11 +199,19 @@ impl State {
             } else {
                 party.rebuilt(&senders)
             };
-            let written = match &found {
-                Some(message) => Some(place(message, out)?),
-                None => None,
+            party.end(found, out)
+        })
+    }
+
+    /// The result in the stage and the message's room; nothing else of the state is kept.
+    fn read_again(self, outcome: Outcome, out: &mut [u8]) -> Given<Option<usize>> {
+        let room = self.message;
+        self.step(Stage::Ended(outcome), |party| {
+            let stored = match outcome {
+                Outcome::Nothing => None,
+                Outcome::Message(length) => Some(room[..length as usize].to_vec()),
             };
-            Ok((party.ended(found), written))
+            party.end(stored, out)
         })
     }
 
@@ -344,6 +356,19 @@ impl Party {
         }
     }
 
+    /// Writes the message, if there is one, and ends with it or with nothing.
+    fn end(
+        &self,
+        found: Option<Vec<u8>>,
+        out: &mut [u8],
+    ) -> Result<(State, Option<usize>), Refusal> {
+        let written = match &found {
+            Some(message) => Some(place(message, out)?),
+            None => None,
+        };
+        Ok((self.ended(found), written))
+    }
+
     /// The state at the end, with nothing or with the message found.
     fn ended(&self, found: Option<Vec<u8>>) -> State {
         let outcome = match &found {
@@ -402,10 +427,12 @@ mod tests {
         agreed
     }
 
-    /// The result that the second inbox gives, which the state holds as well.
+    /// The result that the second inbox gives, which the state holds as well, and gives again.
     fn result(state: State, inbox: &[u8]) -> Option<Vec<u8>> {
-        let mut out = vec![LENT; LONGEST_MESSAGE];
+        let (mut out, mut again) = (vec![LENT; LONGEST_MESSAGE], vec![LENT; LONGEST_MESSAGE]);
         let (state, answer) = state.take_relays(inbox, &mut out);
+        let second = state.clone().take_relays(&[], &mut again);
+        assert_eq!((second, &again), ((state.clone(), answer), &out));
         let found = answer.expect("accepted").map(|length| &out[..length]);
         let held = match state.stage {
             Stage::Ended(Outcome::Message(length)) => first(&state.message, length),
@@ -465,6 +492,7 @@ mod tests {
                 ..State::blank()
             };
             assert_eq!(state, nothing);
+            assert_eq!(state.take_relays(&[], &mut []), (nothing, Ok(None)));
         }
     }
 
@@ -519,6 +547,92 @@ mod tests {
             let given = broken.clone().take_relays(&[], &mut out);
             assert_eq!(given.0, broken);
             assert_eq!(cause(given), 5);
+        }
+    }
+
+    /// A state that ended with this result, as it is given back, and with all that no ended state
+    /// has.
+    fn ended(result: Option<&[u8]>) -> [State; 2] {
+        let bytes = result.unwrap_or_default();
+        let clean = State {
+            n: 3,
+            t: 1,
+            own: 2,
+            stage: Stage::Ended(match result {
+                Some(message) => Outcome::Message(message.len() as u64),
+                None => Outcome::Nothing,
+            }),
+            message: padded(bytes),
+            ..State::blank()
+        };
+        let mut dirty = State {
+            len: 2,
+            root: [9; 32],
+            share: [9; LONGEST_SHARE],
+            held: 5,
+            ..clean.clone()
+        };
+        dirty.message[bytes.len()..].fill(9);
+        [clean, dirty]
+    }
+
+    /// None, laid out well, cut, with a byte too much, and noise.
+    const INBOXES: [&[u8]; 5] = [&[], &[0; 6], &[0; 5], &[0; 7], &[0xFF; 40]];
+
+    #[test]
+    fn a_result_is_read_again_whatever_the_inbox() {
+        for result in [
+            None,
+            Some(&b""[..]),
+            Some(b"A"),
+            Some(&[7; LONGEST_MESSAGE]),
+        ] {
+            let [clean, dirty] = ended(result);
+            let bytes = result.unwrap_or_default();
+            let accepted = (clean.clone(), Ok(result.map(<[u8]>::len)));
+            for inbox in INBOXES {
+                for (state, more) in [(&clean, 0), (&dirty, 0), (&dirty, 9)] {
+                    let mut out = vec![LENT; bytes.len() + more];
+                    assert_eq!(state.clone().take_relays(inbox, &mut out), accepted);
+                    assert_eq!(out, [bytes, &vec![LENT; more]].concat());
+                }
+                for room in [0, bytes.len().saturating_sub(1)] {
+                    let mut out = vec![LENT; room];
+                    let given = dirty.clone().take_relays(inbox, &mut out);
+                    if bytes.is_empty() {
+                        assert_eq!(given, accepted);
+                    } else {
+                        assert_eq!(given.0, dirty);
+                        assert_eq!(short(given), (9, bytes.len()));
+                    }
+                    assert_eq!(out, vec![LENT; room]);
+                }
+            }
+        }
+    }
+
+    /// Cause 5 comes before all others, cause 6 of the steps that are over before 7, 8 and 9.
+    #[test]
+    fn an_ended_party_refuses_by_its_lowest_cause() {
+        let states = [None, Some(&b"AB"[..])].map(ended).concat();
+        for state in &states {
+            for root in [&[][..], &[0; 32]] {
+                assert_eq!(cause(state.clone().agree_root(root)), 6);
+            }
+            for inbox in INBOXES {
+                for room in [0, 80] {
+                    let mut out = vec![LENT; room];
+                    assert_eq!(cause(state.clone().agree_bit(2, &mut out)), 6);
+                    assert_eq!(cause(state.clone().agree_bit(1, &mut out)), 6);
+                    assert_eq!(cause(state.clone().take_shares(inbox, &mut out)), 6);
+                    let mut broken = state.clone();
+                    broken.held = LONGEST_SHARE as u64 + 1;
+                    let given = broken.clone().take_relays(inbox, &mut out);
+                    assert_eq!(given.0, broken);
+                    assert_eq!(cause(given), 5);
+                    assert_eq!(out, vec![LENT; room]);
+                }
+            }
         }
     }
 

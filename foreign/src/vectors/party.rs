@@ -100,14 +100,13 @@ fn stage_number(stage: Stage) -> (u8, u64) {
     }
 }
 
-/// The kind of the step that is in turn, if one is.
-fn turn(stage: Stage) -> Option<u8> {
+/// The kind of the step that is in turn; at the end it is the one that reads the result again.
+fn turn(stage: Stage) -> u8 {
     match stage {
-        Stage::Root => Some(2),
-        Stage::Bit => Some(3),
-        Stage::First => Some(4),
-        Stage::Second => Some(5),
-        Stage::Ended(_) => None,
+        Stage::Root => 2,
+        Stage::Bit => 3,
+        Stage::First => 4,
+        Stage::Second | Stage::Ended(_) => 5,
     }
 }
 
@@ -148,11 +147,15 @@ fn valueless(answer: Answer) -> Answer {
     }
 }
 
-/// The cases so far, their calls counted by kind and answer, the source of randomness, and what
-/// the reader carries.
+/// How often the calls of each kind had each answer.
+type Tally = BTreeMap<(Kind, Answer), usize>;
+
+/// The cases so far, their calls counted, those on ended states by themselves as well, the source
+/// of randomness, and what the reader carries.
 struct File {
     out: Vec<Case>,
-    answers: BTreeMap<(Kind, Answer), usize>,
+    answers: Tally,
+    at_the_end: Tally,
     random: Random,
     state: State,
     inbox: Vec<u8>,
@@ -164,7 +167,8 @@ impl File {
     fn new() -> File {
         File {
             out: Vec::new(),
-            answers: BTreeMap::new(),
+            answers: Tally::new(),
+            at_the_end: Tally::new(),
             random: Random::new(0x9A47),
             state: State::blank(),
             inbox: vec![0; LARGEST_INBOX],
@@ -234,7 +238,7 @@ impl File {
         };
         let mut out = vec![UNTOUCHED; room];
         let (state, answer) = self.tried(call, &mut out);
-        self.state = state;
+        let before = std::mem::replace(&mut self.state, state);
         if let Call::Shares(inbox) | Call::Relays(inbox) = call {
             self.put_inbox(inbox);
         }
@@ -244,6 +248,10 @@ impl File {
             Call::Shares(inbox) => (Kind::FirstInboxes, Part::new().two(inbox.len()).two(room)),
             Call::Relays(inbox) => (Kind::SecondInboxes, Part::new().two(inbox.len()).two(room)),
         };
+        if let Stage::Ended(_) = before.stage {
+            let count = self.at_the_end.entry((kind, valueless(answer)));
+            *count.or_default() += 1;
+        }
         self.called(kind, given, answer, &out, &[]);
     }
 
@@ -341,7 +349,7 @@ impl File {
     /// Each step that is not in turn, half of the time with a cause over 6 as well.
     fn out_of_turn(&mut self) {
         for kind in 2..=5 {
-            if turn(self.state.stage) != Some(kind) {
+            if turn(self.state.stage) != kind {
                 let well = self.once_in(2);
                 let call = self.some_call(kind, well);
                 let room = self.pick(&[0, 40]);
@@ -367,10 +375,10 @@ impl File {
         self.set(number, old);
     }
 
-    /// A step in turn, if one is, and another, each well made or not.
+    /// The step in turn and another, each well made or not.
     fn two_calls(&mut self) {
         let any = self.random.below(4) as u8 + 2;
-        for kind in [turn(self.state.stage).unwrap_or(2), any] {
+        for kind in [turn(self.state.stage), any] {
             let well = self.once_in(2);
             let call = self.some_call(kind, well);
             let room = self.pick(&[0, 40, 200]);
@@ -387,9 +395,15 @@ impl File {
         self.set_stage(old);
     }
 
-    /// Bytes that no stage has: past the lengths, and root or share where they are not held.
+    /// Bytes that no stage has: past the lengths, and root, share or message where they are not
+    /// held.
     fn dirt(&mut self) {
-        let (len, held) = (self.state.len as usize, self.state.held as usize);
+        let ended = matches!(self.state.stage, Stage::Ended(_));
+        let len = match ended {
+            true => stage_number(self.state.stage).1,
+            false => self.state.len,
+        };
+        let (len, held) = (len as usize, self.state.held as usize);
         let bytes = self.random.bytes(3);
         if len + 3 <= LONGEST_MESSAGE {
             let at = self.pick(&[len, LONGEST_MESSAGE - 3]);
@@ -399,9 +413,13 @@ impl File {
             let at = self.pick(&[held, LONGEST_SHARE - 3]);
             self.put(Place::Share, at, &bytes);
         }
-        if matches!(self.state.stage, Stage::Root | Stage::Ended(_)) {
+        if ended || self.state.stage == Stage::Root {
             let at = self.random.below(30);
             self.put(Place::Root, at, &bytes);
+        }
+        if ended && self.once_in(2) {
+            let length = self.pick(&[1, 5, LONGEST_MESSAGE as u64]);
+            self.set(Number::Len, length);
         }
         let holds = matches!(self.state.stage, Stage::Second);
         if !holds && self.once_in(2) {
@@ -489,22 +507,36 @@ impl File {
         packets
     }
 
+    /// These packets, badly laid out: they run short or leave bytes over.
+    fn bad_inbox(&mut self, packets: &[Vec<u8>]) -> Vec<u8> {
+        let good = lay_out(packets);
+        match self.random.below(6) {
+            0 => good[..good.len() - 1].to_vec(),
+            1 => [&good[..], &[0]].concat(),
+            2 => lay_out(&packets[..packets.len() - 1]),
+            3 => [&good[..], &[0, 0]].concat(),
+            4 => [&good[..1], &[good[1] ^ 1], &good[2..]].concat(),
+            _ => Vec::new(),
+        }
+    }
+
     /// The call with badly laid out inboxes: cause 8, and cause 9 at once where there is one.
     fn badly(&mut self, packets: &[Vec<u8>], call: fn(Vec<u8>) -> Call) {
-        let good = lay_out(packets);
-        let needed = self.needed(&call(good.clone()));
+        let needed = self.needed(&call(lay_out(packets)));
         for _ in 0..2 {
-            let bad = match self.random.below(6) {
-                0 => good[..good.len() - 1].to_vec(),
-                1 => [&good[..], &[0]].concat(),
-                2 => lay_out(&packets[..packets.len() - 1]),
-                3 => [&good[..], &[0, 0]].concat(),
-                4 => [&good[..1], &[good[1] ^ 1], &good[2..]].concat(),
-                _ => Vec::new(),
-            };
+            let bad = self.bad_inbox(packets);
             let room = self.pick(&[0, needed.saturating_sub(1), needed]);
             self.call(&call(bad), room);
         }
+    }
+
+    /// Step 5 on a party that has ended: it does with every inbox.
+    fn again(&mut self, packets: &[Vec<u8>]) {
+        let inbox = match self.once_in(3) {
+            true => lay_out(packets),
+            false => self.bad_inbox(packets),
+        };
+        self.short_then_enough(&Call::Relays(inbox));
     }
 }
 
@@ -624,6 +656,8 @@ fn play(file: &mut File, plan: &Plan) {
         file.short_then_enough(&Call::Relays(lay_out(&packets)));
         file.meanwhile();
     }
+    let packets = file.packets(&plan.agreed, plan.own, plan.first, bearing_theirs);
+    file.again(&packets);
     file.out_of_turn();
 }
 
@@ -668,6 +702,154 @@ fn near_roots(file: &mut File) {
         file.put(Place::Message, 0, b"AB");
         file.set(Number::Len, 2);
     }
+}
+
+/// The group and the number of the parties that read their results again.
+const READER: (usize, usize, usize) = (3, 1, 2);
+
+/// Takes a party to its end, a happy one where it is to end with a message.
+fn end_with(file: &mut File, length: Option<usize>, bit: u8) {
+    let (n, t, own) = READER;
+    let message = file.random.bytes(length.unwrap_or(4));
+    file.open(n as u64, t as u64, own as u64, &message);
+    let root = match length {
+        Some(_) => Sharing::of(shares_of(n, n - t, &frame_of(n - t, &message))).root,
+        None => [7; 32],
+    };
+    file.call(&Call::Root(root.to_vec()), 0);
+    file.short_then_enough(&Call::Bit(bit));
+    if bit == 1 {
+        file.short_then_enough(&Call::Shares(vec![0; 2 * n]));
+        file.short_then_enough(&Call::Relays(vec![0; 2 * n]));
+    }
+}
+
+/// What may stand beside its result in an ended state, though no step gives it so.
+#[derive(Clone, Copy)]
+enum Stale {
+    Clean,
+    Root,
+    Share,
+    Len,
+    /// Bytes past the result.
+    Behind,
+    /// A message and its root, as a happy party has them.
+    Happy,
+    /// Another message's root and the own share of it, from which a party rebuilds.
+    Holding,
+}
+
+const STALE: [Stale; 7] = [
+    Stale::Clean,
+    Stale::Root,
+    Stale::Share,
+    Stale::Len,
+    Stale::Behind,
+    Stale::Happy,
+    Stale::Holding,
+];
+
+/// Puts it into the state; the result stays.
+fn soil(file: &mut File, stale: Stale, other: &Sharing) {
+    let (n, t, own) = READER;
+    let result = stage_number(file.state.stage).1 as usize;
+    match stale {
+        Stale::Clean => {}
+        Stale::Root => file.put(Place::Root, 0, &[7; 32]),
+        Stale::Share => {
+            file.put(Place::Share, 0, b"stale");
+            file.set(Number::Held, 5);
+        }
+        Stale::Len => {
+            let length = file.pick(&[1, 9, LONGEST_MESSAGE as u64]);
+            file.set(Number::Len, length);
+        }
+        Stale::Behind => {
+            let bytes = vec![7; (LONGEST_MESSAGE - result).min(9)];
+            file.put(Place::Message, result, &bytes);
+            file.put(Place::Message, LONGEST_MESSAGE - bytes.len(), &bytes);
+        }
+        Stale::Happy => {
+            let length = (result + 3).min(LONGEST_MESSAGE - 1);
+            let frame = frame_of(n - t, &file.state.message[..length]);
+            let root = Sharing::of(shares_of(n, n - t, &frame)).root;
+            file.put(Place::Root, 0, &root);
+            file.set(Number::Len, length as u64);
+        }
+        Stale::Holding => {
+            let share = &other.shares[own - 1];
+            file.put(Place::Root, 0, &other.root);
+            file.put(Place::Share, 0, share);
+            file.set(Number::Held, share.len() as u64);
+        }
+    }
+}
+
+/// How parties end: with nothing, on bit 0 or for want of shares, or with a message of this length.
+const ENDS: [(Option<usize>, u8); 5] = [
+    (None, 0),
+    (None, 1),
+    (Some(0), 1),
+    (Some(1), 1),
+    (Some(LONGEST_MESSAGE), 1),
+];
+
+/// Ended states of every kind, clean or not, with every kind of inbox and room.
+fn ended(file: &mut File) {
+    let (n, t, own) = READER;
+    let other = file.sharing(n, n - t, 6, Making::Honest);
+    let theirs: Vec<Vec<u8>> = (1..=n).map(|j| other.packet(j)).collect();
+    let relays = lay_out(&theirs);
+    let inboxes = [
+        relays.clone(),
+        vec![0; 2 * n],
+        Vec::new(),
+        relays[..relays.len() - 1].to_vec(),
+        [&relays[..], &[0]].concat(),
+        file.random.bytes(37),
+    ];
+    for (length, bit) in ENDS {
+        end_with(file, length, bit);
+        for (stale, inbox) in STALE
+            .iter()
+            .flat_map(|it| inboxes.iter().map(move |to| (it, to)))
+        {
+            soil(file, *stale, &other);
+            file.short_then_enough(&Call::Relays(inbox.clone()));
+        }
+        soil(file, Stale::Holding, &other);
+        let mine = lay_out(&vec![other.packet(own); n]);
+        inboxes.iter().chain([&mine]).for_each(|it| over(file, it));
+        inboxes.iter().for_each(|it| broken_end(file, it));
+    }
+}
+
+/// The steps that are over, each with cause 6 and one above it at once.
+fn over(file: &mut File, inbox: &[u8]) {
+    for room in [0, 200] {
+        file.call(&Call::Shares(inbox.to_vec()), room);
+        file.call(&Call::Bit(1), room);
+    }
+    let wrong = [2, 3].map(|kind| file.some_call(kind, false));
+    wrong.iter().for_each(|call| file.call(call, 0));
+}
+
+/// Step 5 on an ended state that breaks a limit, with this inbox and mostly too little room.
+fn broken_end(file: &mut File, inbox: &[u8]) {
+    let needed = stage_number(file.state.stage).1 as usize;
+    for (number, value) in [
+        (Number::N, 0),
+        (Number::T, 2),
+        (Number::Own, 4),
+        (Number::Len, LONG),
+        (Number::Held, WIDE),
+    ] {
+        let old = file.set(number, value);
+        let room = file.pick(&[0, needed.saturating_sub(1), needed]);
+        file.call(&Call::Relays(inbox.to_vec()), room);
+        file.set(number, old);
+    }
+    file.overlong();
 }
 
 /// All n and t that are taken.
@@ -915,7 +1097,7 @@ fn opened(file: &mut File, n: u64, t: u64, own: u64, message: &[u8]) {
 }
 
 /// How many lists of calls in no order, so that the calls of steps are at least so many.
-const LISTS: usize = 410;
+const LISTS: usize = 375;
 const LEAST_CALLS: usize = 20_000;
 
 /// Lists of calls and changes in no order.
@@ -986,6 +1168,7 @@ fn worked(file: &mut File) {
         file.short_then_enough(&Call::Shares(lay_out(&first)));
         let second = [lowest.packet(1), lowest.packet(2), Vec::new()];
         file.short_then_enough(&Call::Relays(lay_out(&second)));
+        file.short_then_enough(&Call::Relays(Vec::new()));
     }
     for message in [&b"AB"[..], b"", &[9; LONGEST_MESSAGE]] {
         file.open(1, 0, 1, message);
@@ -996,6 +1179,7 @@ fn worked(file: &mut File) {
         file.short_then_enough(&Call::Shares(vec![0, 0]));
         file.short_then_enough(&Call::Relays(vec![0, 0]));
         file.out_of_turn();
+        file.short_then_enough(&Call::Relays(Vec::new()));
     }
 }
 
@@ -1030,6 +1214,17 @@ const WANTED: [(Kind, &[Answer]); 5] = [
     ),
 ];
 
+/// The same of the calls on ended states, which have no others.
+const WANTED_AT_THE_END: [(Kind, &[Answer]); 4] = [
+    (Kind::AgreedRoots, &[Refused(5), Refused(6)]),
+    (Kind::AgreedBits, &[Refused(5), Refused(6)]),
+    (Kind::FirstInboxes, &[Refused(5), Refused(6)]),
+    (
+        Kind::SecondInboxes,
+        &[Done(0), Nothing, Short(0), Refused(5)],
+    ),
+];
+
 pub fn cases() -> Vec<Case> {
     let mut file = File::new();
     worked(&mut file);
@@ -1041,6 +1236,7 @@ pub fn cases() -> Vec<Case> {
     no_message(&mut file);
     swapped(&mut file);
     forged(&mut file);
+    ended(&mut file);
     wander(&mut file);
     file.well_mixed();
     file.out
@@ -1053,11 +1249,21 @@ impl File {
         let steps = self.answers.iter().filter(|((kind, _), _)| !opening(kind));
         let calls: usize = steps.map(|(_, times)| times).sum();
         assert!(calls >= LEAST_CALLS, "{calls} calls");
-        for (kind, answers) in WANTED {
-            for &answer in answers {
-                let times = self.answers.get(&(kind, answer)).copied();
-                assert!(times >= Some(5), "{kind:?}, {answer:?}: {times:?}");
-            }
+        enough(&self.answers, &WANTED);
+        enough(&self.at_the_end, &WANTED_AT_THE_END);
+        let met = self.at_the_end.keys();
+        let wanted = WANTED_AT_THE_END.iter();
+        let wanted = wanted.flat_map(|(kind, answers)| answers.iter().map(move |it| (*kind, *it)));
+        assert!(met.copied().eq(wanted), "{:?}", self.at_the_end);
+    }
+}
+
+/// Stops the run unless each of these answers was had several times.
+fn enough(tally: &Tally, wanted: &[(Kind, &[Answer])]) {
+    for &(kind, answers) in wanted {
+        for &answer in answers {
+            let times = tally.get(&(kind, answer)).copied();
+            assert!(times >= Some(5), "{kind:?}, {answer:?}: {times:?}");
         }
     }
 }
