@@ -28,7 +28,7 @@ pub enum Cause {
     Length,
     /// Cause 5: bytes that are no state, or one of another layout.
     State,
-    /// Cause 6: not the step that is due, or no result to tell of.
+    /// Cause 6: not the step that is due, which at the end is step 5 alone, or no result to tell of.
     Step,
     /// Cause 7: a root that is not [`HASH`](crate::HASH) bytes, or a bit that is not 0 or 1. The
     /// types here leave no room for it.

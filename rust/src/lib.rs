@@ -22,6 +22,8 @@
 //! assert_eq!(party.stage(), Stage::AwaitsRelays);
 //! assert_eq!(party.take_relays(&inbox)?, Outcome::Message(b"AB"));
 //! assert_eq!(party.result(), Some(Outcome::Message(b"AB")));
+//! // Whoever does the step again gets the same, and needs no inbox.
+//! assert_eq!(party.take_relays(&[])?, Outcome::Message(b"AB"));
 //! # Ok(())
 //! # }
 //! ```

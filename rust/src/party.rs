@@ -28,9 +28,9 @@ pub enum Stage {
     AwaitsShares,
     /// It waits for the second inbox: [`Party::take_relays`] is due.
     AwaitsRelays,
-    /// It ended with nothing.
+    /// It ended with nothing, which [`Party::take_relays`] gives again.
     EndedWithNothing,
-    /// It ended with a message.
+    /// It ended with a message, which [`Party::take_relays`] gives again.
     EndedWithMessage,
 }
 
@@ -153,7 +153,25 @@ impl Party {
     }
 
     /// Step 5: takes the second inbox; the answer is the result, which [`Party::result`] gives from
-    /// then on. Causes: [`Cause::Step`], [`Cause::Entries`].
+    /// then on. A party that has ended, at this step or on the bit `false`, gives its result again, as
+    /// often as it is asked, and does not look at the inbox: a second reader may hand in none. Causes:
+    /// [`Cause::Step`], [`Cause::Entries`], and none once the party has ended.
+    ///
+    /// ```
+    /// use cipangohu::{Cause, Outcome, Party};
+    ///
+    /// # fn main() -> Result<(), Cause> {
+    /// let (mut party, root) = Party::open(1, 0, 1, b"AB")?;
+    /// party.agree_root(&root)?;
+    /// party.agree_bit(true, &mut [0; 2])?;
+    /// party.take_shares(&[0; 2], &mut [])?;
+    /// assert_eq!(party.take_relays(&[]), Err(Cause::Entries));
+    /// assert_eq!(party.take_relays(&[0; 2])?, Outcome::Message(b"AB"));
+    /// assert_eq!(party.take_relays(&[])?, Outcome::Message(b"AB"));
+    /// assert_eq!(party.take_shares(&[0; 2], &mut []), Err(Cause::Step));
+    /// # Ok(())
+    /// # }
+    /// ```
     pub fn take_relays(&mut self, inbox: &[u8]) -> Result<Outcome<'_>, Cause> {
         let answer = calls::take_relays(&mut self.state, inbox, &mut [0; MAX_MESSAGE]);
         self.stepped(answer)?;

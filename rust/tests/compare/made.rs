@@ -111,6 +111,20 @@ impl Play {
         }
         bytes
     }
+
+    /// What may be handed in as an inbox where none is looked at: one, none, one that is cut or has
+    /// bytes over, noise.
+    pub fn any_inbox(&self, exchange: usize, random: &mut Random) -> Vec<u8> {
+        let mut bytes = self.inbox(exchange, random);
+        match random.below(5) {
+            0 => bytes.clear(),
+            1 => bytes.truncate(random.below(bytes.len() + 1)),
+            2 => bytes.extend([0; 3]),
+            3 => bytes = random.bytes(40),
+            _ => {}
+        }
+        bytes
+    }
 }
 
 /// Bytes for a buffer of this length, none of them a zero that nobody would miss.
@@ -164,7 +178,7 @@ pub fn spoil(state: &mut Vec<u8>, play: &Play, random: &mut Random) {
     }
 }
 
-fn put(state: &mut [u8], at: usize, bytes: &[u8]) {
+pub fn put(state: &mut [u8], at: usize, bytes: &[u8]) {
     state[at..at + bytes.len()].copy_from_slice(bytes);
 }
 
@@ -180,7 +194,7 @@ fn other_length(state: &mut [u8], (at, limit): (usize, u16), random: &mut Random
 }
 
 /// Puts the share that the party should have been sent into its state.
-fn hold(state: &mut [u8], play: &Play) {
+pub fn hold(state: &mut [u8], play: &Play) {
     let share = &play.scene.agreed.shares[play.group.2 - 1];
     put(state, AT_HELD, &(share.len() as u16).to_be_bytes());
     put(state, AT_SHARE, share);

@@ -4,6 +4,7 @@
 //!
 //! COMPARE_ROUNDS multiplies the number of cases (1 if left out).
 
+mod again;
 mod call;
 mod made;
 mod reference;
@@ -69,12 +70,13 @@ fn ask(state: &[u8], tally: &mut Tally) {
     }
 }
 
-/// The step that is in turn, mostly, or any other.
+/// The step that is in turn, mostly, or any other. At the end it is step 5, with any bytes as the
+/// inbox.
 fn some_step(play: &Play, stage: u8, random: &mut Random) -> Call {
     let turn = if random.once_in(4) {
         random.below(4) as u8
     } else {
-        stage % 4
+        stage
     };
     match turn {
         0 => {
@@ -89,7 +91,8 @@ fn some_step(play: &Play, stage: u8, random: &mut Random) -> Call {
             Call::AgreeBit(random.pick(&[1, 1, 1, 1, 1, 1, 0, 2, 255, odd]))
         }
         2 => Call::TakeShares(play.inbox(0, random)),
-        _ => Call::TakeRelays(play.inbox(1, random)),
+        3 => Call::TakeRelays(play.inbox(1, random)),
+        _ => Call::TakeRelays(play.any_inbox(1, random)),
     }
 }
 

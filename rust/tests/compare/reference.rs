@@ -16,7 +16,7 @@ pub const AT_STAGE: usize = 4;
 pub const AT_LENGTH: usize = 5;
 pub const AT_HELD: usize = 7;
 pub const AT_ROOT: usize = 9;
-const AT_MESSAGE: usize = AT_ROOT + HASH;
+pub const AT_MESSAGE: usize = AT_ROOT + HASH;
 pub const AT_SHARE: usize = AT_MESSAGE + MAX_MESSAGE;
 
 fn accepted(value: usize) -> Answer {

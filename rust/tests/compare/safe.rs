@@ -37,8 +37,8 @@ fn wrote(answer: Result<usize, Cause>, out: &[u8]) -> Result<Vec<u8>, Cause> {
     answer.map(|length| out[..length].to_vec())
 }
 
-/// The four steps on the library's party and on the foreign state; tells whether it ended with a
-/// message.
+/// The four steps on the library's party and on the foreign state, and a second reader; tells
+/// whether it ended with a message.
 fn steps(play: &Play, random: &mut Random) -> bool {
     let (n, t, own) = play.group;
     let (mut party, root) = Party::open(n, t, own, &play.message).expect("a lawful opening");
@@ -64,6 +64,9 @@ fn steps(play: &Play, random: &mut Random) -> bool {
         None => Outcome::Nothing,
     });
     assert_eq!(party.take_relays(&second), expected);
+    if expected.is_ok() {
+        assert_eq!(party.take_relays(&play.any_inbox(1, random)), expected);
+    }
     assert_eq!(party.result(), expected.ok());
     assert_eq!(party.state()[..], encoded(&state));
     assert_eq!(Party::from_state(party.state()).as_ref(), Ok(&party));
