@@ -1,4 +1,5 @@
-/* Checks of what the header itself defines, for the tests: a failed one ends the program with its line. Prints the causes in words. */
+/* Checks of what the header itself defines, and of second readers, for the tests: a failed one ends the program with its line. Prints the causes in
+ * words. */
 #include <stdio.h>
 #include <stdlib.h>
 #include <string.h>
@@ -62,6 +63,47 @@ static void check_packet(uint32_t outbox_len) {
     CHECK(cipangohu_packet_share(packet.at, 0).at == NULL && cipangohu_packet_path(packet.at, 0).at == NULL);
 }
 
+/* A second reader gets the result with no inbox and with one that is none, where the buffer has room. */
+static void check_second_reader(void) {
+    const uint8_t junk[5] = {255, 255, 255, 255, 255};
+    uint8_t ended[CIPANGOHU_STATE], screen[3] = {7, 7, 7};
+    cipangohu_answer answer = cipangohu_take_relays(state, sizeof state, junk, sizeof junk, screen, 1);
+    memcpy(ended, state, sizeof ended);
+    CHECK(answer.cause == CIPANGOHU_CAUSE_ROOM && answer.value == 2 && memcmp(screen, "\7\7\7", 3) == 0);
+    answer = cipangohu_take_relays(state, sizeof state, NULL, 0, screen, sizeof screen);
+    CHECK(answer.cause == CIPANGOHU_ACCEPTED && answer.value == CIPANGOHU_SETTLED && memcmp(screen, "AB\7", 3) == 0);
+    answer = cipangohu_take_relays(state, sizeof state, junk, sizeof junk, screen, cipangohu_result_length(state, sizeof state).value);
+    CHECK(answer.cause == CIPANGOHU_ACCEPTED && answer.value == CIPANGOHU_SETTLED && memcmp(state, ended, sizeof ended) == 0);
+    CHECK(cipangohu_take_shares(state, sizeof state, junk, sizeof junk, NULL, 0).cause == CIPANGOHU_CAUSE_STEP);
+    CHECK(cipangohu_agree_bit(state, sizeof state, 2, NULL, 0).cause == CIPANGOHU_CAUSE_STEP);
+    CHECK(cipangohu_agree_root(state, sizeof state, NULL, 0).cause == CIPANGOHU_CAUSE_STEP);
+    CHECK(memcmp(state, ended, sizeof ended) == 0);
+}
+
+/* An ended state with stale bytes (a share's length, a root, a byte behind the result, a share) stays so where the buffer is short, and comes back
+ * clean where the result is read again. */
+static void check_stale_state(void) {
+    uint8_t ended[CIPANGOHU_STATE], stale[CIPANGOHU_STATE];
+    memcpy(ended, state, sizeof ended);
+    state[8] = state[9] = state[9 + CIPANGOHU_ROOT + 2] = state[CIPANGOHU_STATE - 1] = 1;
+    memcpy(stale, state, sizeof stale);
+    CHECK(cipangohu_take_relays(state, sizeof state, NULL, 0, out, 1).cause == CIPANGOHU_CAUSE_ROOM && memcmp(state, stale, sizeof stale) == 0);
+    CHECK(cipangohu_take_relays(state, sizeof state, NULL, 0, out, 2).value == CIPANGOHU_SETTLED && memcmp(state, ended, sizeof ended) == 0);
+    state[7] = 255;
+    CHECK(cipangohu_take_relays(state, sizeof state, NULL, 0, NULL, 0).cause == CIPANGOHU_CAUSE_STATE && state[7] == 255);
+    memcpy(state, ended, sizeof ended);
+}
+
+/* On bit 0 a party has ended with nothing, and gives that to any reader. */
+static void check_nothing(void) {
+    cipangohu_answer answer = cipangohu_open(1, 0, 1, NULL, 0, state, sizeof state, root, sizeof root);
+    CHECK(answer.cause == CIPANGOHU_ACCEPTED && cipangohu_agree_root(state, sizeof state, root, sizeof root).value == 1);
+    CHECK(cipangohu_agree_bit(state, sizeof state, 0, out, sizeof out).value == 2);
+    answer = cipangohu_take_relays(state, sizeof state, NULL, 0, NULL, 0);
+    CHECK(answer.cause == CIPANGOHU_ACCEPTED && answer.value == CIPANGOHU_NOTHING);
+    CHECK(cipangohu_stage(state, sizeof state).value == CIPANGOHU_ENDED_WITH_NOTHING && cipangohu_result(state, sizeof state).at == NULL);
+}
+
 /* Stage, own number and result of party 1 along its steps, of which it hears nothing but its own. */
 static void check_party(void) {
     const uint8_t silence[6] = {0};
@@ -81,6 +123,8 @@ static void check_party(void) {
     CHECK(cipangohu_take_relays(state, sizeof state, silence, sizeof silence, out, sizeof out).value == CIPANGOHU_SETTLED);
     CHECK(cipangohu_stage(state, sizeof state).value == CIPANGOHU_ENDED_WITH_MESSAGE);
     CHECK(cipangohu_result(state, sizeof state).len == 2 && memcmp(cipangohu_result(state, sizeof state).at, "AB", 2) == 0);
+    check_second_reader();
+    check_stale_state();
     state[0] = CIPANGOHU_LAYOUT + 1;
     CHECK(cipangohu_result(state, sizeof state).at == NULL && cipangohu_own(state, sizeof state).cause == CIPANGOHU_CAUSE_STATE);
 }
@@ -90,6 +134,7 @@ int main(void) {
     check_any_bytes();
     check_append();
     check_party();
+    check_nothing();
     for (uint32_t cause = 0; cause <= CIPANGOHU_CAUSE_NO_MESSAGE + 1; cause++) printf("%u %s\n", (unsigned)cause, cipangohu_cause_text(cause));
     return 0;
 }

@@ -3,7 +3,8 @@
  * A host opens its party with a message and puts the root that comes of it into a short agreement. It hands in the agreed root, and puts the bit
  * that comes of it into a second short agreement. It hands in the agreed bit, and sends each entry of the outbox that comes of it to the party of
  * that number. It hands in what the others sent, and sends the relay that comes of it to all others. It hands in what they relayed, and has the
- * result: a message, or nothing. (A party is one box of a sitting, and a message is a test book; documents for people say box and book.)
+ * result: a message, or nothing. Whoever does that last step again gets the same result. (A party is one box of a sitting, and a message is a test
+ * book; documents for people say box and book.)
  *
  * The host keeps the party's state, CIPANGOHU_STATE bytes, and hands it to every step. Its layout, with numbers big-endian here and in all entries:
  * byte 0 the version of the layout, CIPANGOHU_LAYOUT, byte 1 n, byte 2 t, byte 3 own number, byte 4 stage, bytes 5-6 the length of the message (of
@@ -74,7 +75,7 @@ enum cipangohu_causes {
     CIPANGOHU_CAUSE_NUMBER = 3,      /* a number that is not 1 to n */
     CIPANGOHU_CAUSE_LENGTH = 4,      /* too long a message, string, share, entry or entries */
     CIPANGOHU_CAUSE_STATE = 5,       /* not a state */
-    CIPANGOHU_CAUSE_STEP = 6,        /* not the step that is due, or no result to tell of */
+    CIPANGOHU_CAUSE_STEP = 6,        /* not the step that is due, which at the end is step 5 alone, or no result to tell of */
     CIPANGOHU_CAUSE_ROOT_OR_BIT = 7, /* a root that is not CIPANGOHU_ROOT bytes, or a bit that is not 0 or 1 */
     CIPANGOHU_CAUSE_ENTRIES = 8,     /* entries that run short or leave bytes over */
     CIPANGOHU_CAUSE_ROOM = 9,        /* a buffer too short for what is written */
@@ -142,11 +143,14 @@ CIPANGOHU_MUST_USE cipangohu_answer cipangohu_take_shares(uint8_t *state, size_t
                                                           uint8_t *out, size_t out_len);
 
 /* Step 5, the second inbox: writes the message, if the result is one. Value: CIPANGOHU_SETTLED for a message of any length, which
- * cipangohu_result_length tells, or CIPANGOHU_NOTHING; it is no length itself. Causes 5, 6, 8, and 9 where a message was found. */
+ * cipangohu_result_length tells, or CIPANGOHU_NOTHING; it is no length itself. A party that has ended, at this step or on bit 0, gives its result
+ * again, as often as it is asked. It does not look at the inbox: a second reader hands in any bytes, or none (NULL and 0). Causes 5, 6, 8, and 9
+ * where there is a message (of a party that has ended: 5, and 9 where its result is a message). */
 CIPANGOHU_MUST_USE cipangohu_answer cipangohu_take_relays(uint8_t *state, size_t state_len, const uint8_t *inbox, size_t inbox_len,
                                                           uint8_t *out, size_t out_len);
 
-/* The length of the message that a party ended with. Causes 5, and 6 where it has not ended, or with nothing. */
+/* The length of the message that a party ended with, and so the room that reading it again needs. Causes 5, and 6 where it has not ended, or with
+ * nothing. */
 CIPANGOHU_MUST_USE cipangohu_answer cipangohu_result_length(const uint8_t *state, size_t state_len);
 
 /* The stage of a party. Cause 5. */
@@ -236,7 +240,7 @@ CIPANGOHU_MUST_USE static inline cipangohu_answer cipangohu_append(uint8_t *entr
     return answer;
 }
 
-/* The message that a party ended with, where it lies in the state; no address where there is none. */
+/* The message that a party ended with, where it lies in the state, for whoever need not do step 5 again; no address where there is none. */
 static inline cipangohu_bytes cipangohu_result(const uint8_t *state, size_t state_len) {
     cipangohu_bytes result = {NULL, 0};
     cipangohu_answer length = cipangohu_result_length(state, state_len);

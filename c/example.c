@@ -1,4 +1,5 @@
-/* A session in one process: parties 1 and 2 have the message "AB", party 3 has another one and rebuilds theirs. Prints each party's result.
+/* A session in one process: parties 1 and 2 have the message "AB", party 3 has another one and rebuilds theirs. Prints each party's result, as the
+ * desk reads it, and what a second reader is given later, the screen in the hall.
  *     gcc c/example.c $(pkg-config --cflags --libs cipangohu) -o example && ./example */
 #include <stdio.h>
 #include <stdlib.h>
@@ -33,5 +34,10 @@ int main(void) {
         uint32_t settled = value(cipangohu_take_relays(state[i], STATE, relays, end, out, OUTBOX));
         cipangohu_bytes result = cipangohu_result(state[i], STATE);
         printf(settled ? "%zu = %.*s\n" : "%zu -\n", i + 1, (int)result.len, (const char *)result.at);
+    }
+    for (size_t i = 0; i < N; i++) { /* the screen has no inbox, and needs none */
+        uint32_t settled = value(cipangohu_take_relays(state[i], STATE, NULL, 0, out, OUTBOX));
+        size_t len = settled ? value(cipangohu_result_length(state[i], STATE)) : 0;
+        printf(settled ? "screen: %zu = %.*s\n" : "screen: %zu -\n", i + 1, (int)len, (const char *)out);
     }
 }

@@ -10,12 +10,13 @@ use crate::hex;
 use crate::liars::Lie;
 
 pub const USAGE: &str = "usage: host --parties N --faults T --book BOOK [--own-book I=BOOK]...
-            [--lie I=LIE]... [--limit-ms MS] [--seed S] [--break DUTY]
+            [--lie I=LIE]... [--limit-ms MS] [--seed S] [--break DUTY] [--screen J]
   BOOK  hexadecimal bytes, or the name of a file
   LIE   silent, noise, split, other-book, replay or forge
   MS    milliseconds, the time limit of each exchange; 500 if left out
   S     a number that settles what liars do by chance; 0 if left out
-  DUTY  forge, clock, agreement or state, which the host then does badly";
+  DUTY  forge, clock, agreement or state, which the host then does badly
+  J     a good box, whose result a screen reads again when the sitting is over";
 
 /// What the host can be told to do badly.
 #[derive(Clone, Copy, Debug, PartialEq, Eq)]
@@ -41,6 +42,8 @@ pub struct Options {
     pub limit: Duration,
     pub seed: u64,
     pub broken: Option<Duty>,
+    /// The good party whose result is read a second time.
+    pub screen: Option<usize>,
     /// The number of the party that this process is; none for the process that starts the others.
     pub own: Option<usize>,
 }
@@ -96,6 +99,7 @@ impl Options {
             limit: Duration::from_millis(500),
             seed: 0,
             broken: None,
+            screen: None,
             own: None,
         };
         let mut given = Vec::new();
@@ -131,6 +135,7 @@ impl Options {
             "--limit-ms" => self.limit = Duration::from_millis(u64::from(number::<u32>(value)?)),
             "--seed" => self.seed = number(value)?,
             "--break" => self.broken = Some(value.parse()?),
+            "--screen" => self.screen = Some(number(value)?),
             "--as" => self.own = Some(number(value)?),
             _ => return Err(format!("{name} is not known\n{USAGE}")),
         }
@@ -143,11 +148,16 @@ impl Options {
             .own_messages
             .keys()
             .chain(self.lies.keys())
+            .chain(&self.screen)
             .chain(&self.own);
         let mut strange = named.filter(|own| !(1..=self.parties).contains(own));
-        strange
-            .next()
-            .map_or(Ok(()), |own| Err(format!("there is no box {own}")))
+        if let Some(own) = strange.next() {
+            return Err(format!("there is no box {own}"));
+        }
+        match self.screen.filter(|own| self.lies.contains_key(own)) {
+            Some(own) => Err(format!("box {own} lies: the screen reads a good one")),
+            None => Ok(()),
+        }
     }
 
     /// The message that a party opens with.
@@ -177,7 +187,7 @@ mod tests {
     fn a_whole_line() {
         let line =
             "--parties 5 --faults 2 --book 4142 --own-book 3=43 --lie 4=noise --lie 5=split \
-                    --limit-ms 70 --seed 9 --break clock";
+                    --limit-ms 70 --seed 9 --break clock --screen 2";
         let options = parsed(line).unwrap();
         assert_eq!((options.parties, options.faults, options.seed), (5, 2, 9));
         assert_eq!(
@@ -188,6 +198,7 @@ mod tests {
         assert_eq!(options.lies[&4], Lie::Noise);
         assert_eq!(options.limit, Duration::from_millis(70));
         assert!(options.breaks(Duty::Clock) && !options.breaks(Duty::State));
+        assert_eq!(options.screen, Some(2));
     }
 
     #[test]
@@ -203,6 +214,9 @@ mod tests {
             "--seed",
             "--what 1",
             "--break all",
+            "--screen 0",
+            "--screen 4",
+            "--lie 3=noise --screen 3",
         ] {
             assert!(parsed(&format!("{few} {more}")).is_err(), "{more}");
         }

@@ -1,11 +1,12 @@
 //! One party's process. On standard output it tells its port, then that it is ready, then its
-//! report; on standard input it is told its roster, then to go.
+//! report, then its result again; on standard input it is told its roster, then to go, then to show
+//! the result.
 
 use std::io::{stdin, BufRead, Write};
 use std::net::TcpListener;
 use std::sync::Arc;
 
-use cipangohu::Outcome;
+use cipangohu::{Outcome, Party};
 
 use crate::agreement::Agreement;
 use crate::good::{self, Failure, Report};
@@ -19,6 +20,7 @@ use crate::wire::Hello;
 /// The words between a party's process and the one that started it.
 pub const READY: &str = "ready";
 pub const GO: &str = "go";
+pub const SHOW: &str = "show";
 
 fn told() -> Result<String, String> {
     let mut line = String::new();
@@ -36,19 +38,35 @@ fn tell(line: &str) -> Result<(), String> {
         .map_err(|error| error.to_string())
 }
 
-/// The line that reports how a good party ended: the bytes it sent, and its result as a
-/// rehearsal prints it.
-fn reported(ended: Result<Report, Failure>) -> String {
+/// A result as a rehearsal prints it.
+fn shown(result: Outcome) -> String {
+    match result {
+        Outcome::Nothing => String::from("-"),
+        Outcome::Message([]) => String::from("="),
+        Outcome::Message(message) => format!("= {}", hex::encode(message)),
+    }
+}
+
+/// The line that reports how a good party ended: the bytes it sent, and its result.
+fn reported(ended: &Result<Report, Failure>) -> String {
     match ended {
         Ok(Report { party, sent }) => match party.result() {
-            Some(Outcome::Nothing) => format!("{sent} -"),
-            Some(Outcome::Message([])) => format!("{sent} ="),
-            Some(Outcome::Message(message)) => format!("{sent} = {}", hex::encode(message)),
+            Some(result) => format!("{sent} {}", shown(result)),
             None => String::from("0 error: the party has not ended"),
         },
         Err(Failure::Refused(cause)) => format!("0 error: {cause}"),
         Err(Failure::Link(error)) => format!("0 error: {error}"),
     }
+}
+
+/// Shows the result to whoever asks after the report. The inbox is gone by then; step 5 needs none
+/// to give the result again.
+fn show(party: &mut Party) -> Result<(), String> {
+    while told()? == SHOW {
+        let again = party.take_relays(&[]).map_err(|cause| cause.to_string())?;
+        tell(&shown(again))?;
+    }
+    Ok(())
 }
 
 /// The links from and to all others; a silent liar opens none.
@@ -93,9 +111,11 @@ pub fn run(options: &Options, own: usize) -> Result<(), String> {
 
     let Peer { port, said, .. } = roster.agreement;
     let mut agreement = Agreement::join(port, own, said, options.limit).map_err(text)?;
-    match liar {
-        Some(liar) => liar.run(options, &mut links, &mut agreement),
-        None => tell(&reported(good::run(options, &mut links, &mut agreement)))?,
-    }
+    let Some(liar) = liar else {
+        let ended = good::run(options, &mut links, &mut agreement);
+        tell(&reported(&ended))?;
+        return ended.map_or(Ok(()), |mut report| show(&mut report.party));
+    };
+    liar.run(options, &mut links, &mut agreement);
     Ok(())
 }

@@ -12,7 +12,7 @@ use cipangohu::Party;
 use crate::agreement::{serve, Terms};
 use crate::links::PATIENCE;
 use crate::options::{Duty, Options};
-use crate::process::{GO, READY};
+use crate::process::{GO, READY, SHOW};
 use crate::roster::{tokens, Roster};
 
 /// A party's process; it is ended with this.
@@ -88,6 +88,13 @@ fn ended(process: &Process, patience: Duration) -> Ended {
     }
 }
 
+/// The screen in the hall: it shows a party's result, which the desk has read before.
+fn screen(process: &mut Process) {
+    let again = process.tell(SHOW).and_then(|()| process.line(PATIENCE));
+    let shown = again.unwrap_or_else(|message| format!("error: {message}"));
+    println!("screen {} {shown}", process.own);
+}
+
 /// The limits are the party's: it says whether it would open with this number and message.
 fn check_openings(options: &Options) -> Result<(), String> {
     for own in 1..=options.parties.max(1) {
@@ -157,7 +164,14 @@ pub fn run(options: &Options, arguments: &[String]) -> Result<bool, String> {
         .iter()
         .filter(|process| !options.lies.contains_key(&process.own));
     let ended: Vec<Ended> = good.map(|process| ended(process, patience)).collect();
-    Ok(print(options, &ended))
+    let alike = print(options, &ended);
+    let read = processes
+        .iter_mut()
+        .find(|process| options.screen == Some(process.own));
+    if let Some(process) = read {
+        screen(process);
+    }
+    Ok(alike)
 }
 
 fn print(options: &Options, ended: &[Ended]) -> bool {

@@ -166,6 +166,31 @@ fn worked_sittings() {
     assert_eq!(alone.lines[..2], ["1 = 4142", "sent 0"]);
 }
 
+/// The screen shows what the desk has, also where that is nothing or the empty book; a box that
+/// rebuilt it is read again like one that had it.
+#[test]
+fn a_second_reader_gets_the_result() {
+    let insists = "--lie 1=other-book --lie 5=other-book";
+    for (words, result) in [
+        ("--parties 3 --faults 1 --book 4142 --screen 1", "1 = 4142"),
+        (
+            "--parties 3 --faults 1 --book 41 --own-book 2=42 --lie 3=silent --screen 2",
+            "2 = 41",
+        ),
+        (
+            &format!("--parties 5 --faults 2 --book 41 --own-book 3=43 {insists} --screen 2"),
+            "2 -",
+        ),
+        ("--parties 1 --faults 0 --book /dev/null --screen 1", "1 ="),
+    ] {
+        let run = host(&format!("{words} {LIMIT}"));
+        assert_eq!(run.status, 0, "{words}: {}", run.error);
+        assert!(run.lines.contains(&result.to_string()), "{:?}", run.lines);
+        let last = run.lines.last().expect("a line");
+        assert_eq!(*last, format!("screen {result}"));
+    }
+}
+
 #[test]
 fn messages_from_files_and_of_any_length() {
     let file = Path::new(env!("CARGO_TARGET_TMPDIR")).join("message");
@@ -230,6 +255,7 @@ fn wrong_words_are_refused() {
         "--parties 4 --faults 2 --book 41",
         "--parties 3 --faults 1 --book 41 --lie 4=noise",
         "--parties 3 --faults 1 --book 41 --lie 3=truth",
+        "--parties 3 --faults 1 --book 41 --lie 3=noise --screen 3",
     ] {
         let run = host(words);
         assert_eq!((run.status, run.lines.len()), (2, 0), "{words}");

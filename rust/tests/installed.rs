@@ -125,7 +125,10 @@ fn programs_are_built_and_run() {
         ),
         (
             "example",
-            String::from("1 happy\n2 happy\n3 unhappy\n1 = AB\n2 = AB\n3 = AB\n"),
+            String::from(
+                "1 happy\n2 happy\n3 unhappy\n1 = AB\n2 = AB\n3 = AB\n\
+                 screen: 1 = AB\nscreen: 2 = AB\nscreen: 3 = AB\n",
+            ),
         ),
         ("checks", causes()),
     ];
