@@ -73,6 +73,10 @@ fn states_have_the_bytes_that_are_told() {
                     assert_eq!(party.state()[..], told, "line {}", example.line);
                     stages.insert(told[AT_STAGE]);
                 }
+                "written over" => {
+                    let bytes = written_over(party.state(), &field.value).expect("bytes to write");
+                    party = Party::from_state(&bytes).expect("a state");
+                }
                 "root" | "bit" | "outbox" | "relay" | "result" => (),
                 _ => step(&mut party, field),
             }
@@ -162,6 +166,9 @@ fn calls_are_answered_as_it_is_told() {
         let (mut state, mut out) = (Vec::new(), Vec::new());
         for pair in example.fields.windows(2) {
             let [call, told] = pair else { unreachable!() };
+            if call.name == "written over" {
+                state = written_over(&state, &call.value).expect("bytes to write");
+            }
             if !CALLS.contains(&call.name.as_str()) {
                 continue;
             }

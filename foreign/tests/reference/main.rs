@@ -132,7 +132,7 @@ fn every_cause_has_an_example() {
 }
 
 /// Parts of the text, and wrong ones in their place: one for each kind and more.
-const SPOILT: [(&str, &str); 29] = [
+const SPOILT: [(&str, &str); 33] = [
     ("product 57 83: c1", "product 57 83: c2"),
     ("share 3: c3 c4", "share 3: c3 c5"),
     ("share 3: c3 c4\n", ""),
@@ -153,6 +153,19 @@ const SPOILT: [(&str, &str); 29] = [
     ),
     ("relay: 07 02 00 02 82", "relay: 07 02 00 02 83"),
     ("result: book 41 42", "result: nothing"),
+    (
+        "inbox ff ff ff\nresult: book 41 42",
+        "inbox ff ff ff\ncause: 8",
+    ),
+    (
+        "room 1\ncause: 9, needs 2\ntake_relays",
+        "room 1\nresult: book 41\ntake_relays",
+    ),
+    (
+        "result: book 41\nstate: byte 0 01 01 00 01 05 00 01 00 00",
+        "result: book 41\nstate: byte 0 01 01 00 01 05 00 01 00 02",
+    ),
+    ("written over: byte 7 00 02", "written over: byte 7 00 03"),
     (
         "state: byte 0 01 02 00 02 03",
         "state: byte 0 01 02 00 02 02",

@@ -144,7 +144,7 @@ fn encoded(state: &State) -> Vec<u8> {
 }
 
 /// One box: its opening, then its steps, each on the state that the last one gave; where the example
-/// tells the state, as well.
+/// tells the state, or writes over it, as well.
 pub fn sitting(example: &Example) -> Told {
     let mut told = Told::default();
     let mut box_state = State::blank();
@@ -160,6 +160,12 @@ pub fn sitting(example: &Example) -> Told {
                 let shown = written_over(&zeros, &field.value).expect("a state");
                 let right = shown == encoded(&box_state);
                 told.add("state", if right { &field.value } else { "another" });
+                continue;
+            }
+            "written over" => {
+                let bytes = written_over(&encoded(&box_state), &field.value);
+                box_state = decoded(&bytes.expect("bytes to write")).expect("a state");
+                told.add(name, &field.value);
                 continue;
             }
             "root" | "bit" | "outbox" | "relay" | "result" | "value" | "cause" => continue,
