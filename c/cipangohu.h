@@ -43,7 +43,7 @@ extern "C" {
 
 /* The version of this header, and as one number, which cipangohu_version gives of the library. */
 #define CIPANGOHU_VERSION_MAJOR 1
-#define CIPANGOHU_VERSION_MINOR 0
+#define CIPANGOHU_VERSION_MINOR 1
 #define CIPANGOHU_VERSION_PATCH 0
 #define CIPANGOHU_VERSION ((CIPANGOHU_VERSION_MAJOR << 16) | (CIPANGOHU_VERSION_MINOR << 8) | CIPANGOHU_VERSION_PATCH)
 

@@ -51,6 +51,14 @@ module _ (H : List ℕ → List ℕ) where
   events-both x [] ds = refl
   events-both x (c ∷ cs) ds = ap (λ (l : List Event). event H x c ∷ l) (events-both (made H x c .state) cs ds)
 
+  -- the accepted calls of a list that goes on
+  pub did-both : (n t i : ℕ) (m : List ℕ) (calls more : List Call) → did H n t i m (calls ++ more)
+      ≡ did H n t i m calls ++ accepted (events H (final H (opening H n t i m .state) calls) more)
+  unfolding did
+  did-both n t i m calls more =
+      let x = opening H n t i m .state in
+      ap accepted (events-both x calls more) ∙ accepted-both (events H x calls) (events H (final H x calls) more)
+
   module _ (n t i : ℕ) (m : List ℕ) (calls : List Call) (r : Result) (h : resultAfter H n t i m calls ≡ some r) where
     pub gave : (e : Event) → List·Memᴰ e (did H n t i m calls) → stepOf (e .call) ≡ 5 → e .reply .result ≡ some r
     unfolding did
@@ -60,36 +68,27 @@ module _ (H : List ℕ → List ℕ) where
 
     -- further calls
     module _ (more : List Call) where
-      ended : Party
+      abbrev ended : Party
       ended = final H (opening H n t i m .state) calls
 
-      rest : List Event
+      abbrev rest : List Event
       rest = accepted (events H ended more)
 
       stays : Still H n r rest (final H ended more)
-      unfolding rest ended
-      stays =
-          let x = final H (opening H n t i m .state) calls in
-          still H n x (final H x more) (accepted (events H x more)) r h (chain H x more)
-
-      did-both : did H n t i m (calls ++ more) ≡ did H n t i m calls ++ rest
-      unfolding did rest ended
-      did-both =
-          let x = opening H n t i m .state in
-          ap accepted (events-both x calls more) ∙ accepted-both (events H x calls) (events H (final H x calls) more)
+      stays = still H n ended (final H ended more) rest r h (chain H ended more)
 
       pub later-result : resultAfter H n t i m (calls ++ more) ≡ some r
-      unfolding ended
       later-result = ap resultIn (final-both (opening H n t i m .state) calls more) ∙ stays .0
 
       pub later-sent : sentBy H n t i m (calls ++ more) ≡ sentBy H n t i m calls
       unfolding sentBy
-      later-sent = ap (sentOver n) did-both ∙ sent-both n (did H n t i m calls) rest ∙ omega (arith, stays .1)
+      later-sent =
+          ap (sentOver n) (did-both n t i m calls more) ∙ sent-both n (did H n t i m calls) rest ∙ omega (arith, stays .1)
 
       pub later-hashed : hashed H n t i m (calls ++ more) ≡ hashed H n t i m calls
       unfolding hashed
       later-hashed =
           ap (λ (l : List (List ℕ)). codingStrings H n (shares n (n - t) m) ++ l)
-          (ap (checkedOver H) did-both ∙ checked-both (did H n t i m calls) rest
+          (ap (checkedOver H) (did-both n t i m calls more) ∙ checked-both (did H n t i m calls) rest
           ∙ ap (λ (l : List (List ℕ)). checkedOver H (did H n t i m calls) ++ l) (stays .2)
           ∙ append-nil (checkedOver H (did H n t i m calls)))

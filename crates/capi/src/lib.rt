@@ -29,7 +29,7 @@ use state_bytes::LENGTH;
 // The version of the library.
 const MAJOR: u32 = 1;
 
-const MINOR: u32 = 0;
+const MINOR: u32 = 1;
 
 const PATCH: u32 = 0;
 

@@ -1,50 +1,56 @@
 -- Results are read again: step 5 on a party that holds a result, by the tests of its definition; on bytes, since an accepted step 5 writes a state that is
 -- read back and written over itself; whatever comes later, and for every reader of a session, by the laws of agreement. Assumes nothing.
-use mathlib.Core.Path.{_≡_, refl, sym, ap, ap₂, _∙_, subst}
+use mathlib.Core.Path.{_≡_, refl, sym, ap, _∙_, subst}
 use mathlib.Core.Logic.{_⊎_, inl, inr, _≢_}
 use mathlib.Core.Bool.{Bool, true, false, cond, not}
-use mathlib.Core.List.{List, [], _∷_, _++_, map, List·Memᴰ}
+use mathlib.Core.List.{List, [], _∷_, _++_, map, map-append}
 use mathlib.Core.Option.{Option, none, some, Option·none-ne-some}
-use Prim.Native.Nat.{ℕ, _≤_}
+use Prim.Native.Nat.{ℕ, _-_, _≤_}
 use native.Mathlib.Decide.{ℕ-discrete}
 use native.Mathlib.Omega.{arith}
-use borrow.Author.Tests.{le-ltb, eq-eqb, ne-eqb}
+use borrow.Author.Tests.{le-ltb, ltb-false, eq-eqb, ne-eqb}
 use lib.Dec.{ltb, eqb}
-use lib.ListN.{length}
-use Rattle.limits.specs.Limits.{maxMessage}
+use lib.ListN.{length, replicate}
+use Rattle.limits.specs.Limits.{maxMessage, maxShare}
 use Rattle.buffer.specs.Splice.{spliced}
+use Rattle.buffer.specs.Entries.{fills}
 use Rattle.buffer.specs.Given.{written}
 use Rattle.sha256.specs.Sha256.{sha256}
-use Rattle.party.specs.State.{Result, resultBytes, resultIn, atEnd, broken}
-use Rattle.party.specs.Steps.{turnOf, stateCause, resultOf, Stepped, refused}
+use Rattle.party.specs.State.{Result, nothing, settled, resultBytes, resultIn, messageIn, atBit, atFirst, atSecond, atEnd, broken}
+use Rattle.party.specs.Steps.{turnOf, stateCause, openOf, resultFound, resultOf, Stepped, refused}
+use Rattle.party.specs.declared.Stage.the-variants.{Second}
 use Rattle.party.specs.declared.Seat.{Seat}
 use Rattle.party.specs.declared.Party.{Party}
-use Rattle.party.proofs.Causes.{fit-of}
+use Rattle.party.proofs.Causes.{fit-of, whole-stage}
 use Rattle.party.proofs.Outcomes.{holds-ended}
-use Rattle.party.proofs.Progress.{result-short, end-whole}
 use Rattle.party.proofs.Kept.{result-end}
-use Rattle.agreement.specs.Calls.{Call, takeRelays, stepOf, made, did, sentBy, resultAfter}
-use Rattle.agreement.specs.Agreement.{Good, sumOver}
-use Rattle.agreement.proofs.Run.{endedWith, did5}
+use Rattle.agreement.specs.Calls.{Call, agreeRoot, agreeBit, takeShares, takeRelays, stepOf, Event, accepted, made, events, final, did, sentBy}
+use Rattle.agreement.specs.Agreement.{Good}
+use Rattle.agreement.proofs.Run.{endedWith, did5, event}
 use Rattle.agreement.proofs.Lists.{same-some}
-use Rattle.agreement.proofs.Later.{gave, later-result, later-sent, later-hashed}
+use Rattle.agreement.proofs.Later.{did-both, gave, later-result, later-sent, later-hashed}
 use Rattle.state_bytes.specs.Layout.{stateBytes, stateOf}
 use Rattle.state_bytes.proofs.Inverse.{written-again, end-storable}
-use Rattle.capi.specs.Calls.{Replies, numberOf, over, replies, called}
+use Rattle.capi.specs.Calls.{packed, valueShown, Replies, numberOf, over, replies, called}
 use Rattle.capi.proofs.Answers.{over-written, replies-are}
 use Rattle.capi.proofs.Sound.{whole, accepted-long}
 use Rattle.capi.proofs.Kept.{call-kept}
-use Rattle.claims.specs.Terms.{when, foremost, lent, due, wrong, bytesIn, Box, partyBox, Host, boxOf}
-use Rattle.claims.specs.Claims.{StepTells}
-use Rattle.claims.specs.ReadAgain.{GivesAgain, NothingMore, further, ResultsAreReadAgain}
-use Rattle.claims.proofs.Steps.{judged, done, ends, step-tells}
-use Rattle.claims.proofs.Parties.{readers, view-sent}
+use Rattle.claims.specs.Terms.{when, foremost, lent, wrong, next, ended, Box, partyBox, Host, boxOf, further, NothingMore}
+use Rattle.claims.specs.ReadAgain.{GivesAgain, ResultsAreReadAgain}
+use Rattle.claims.proofs.Steps.{opening-tells, done, ends, step-tells}
+use Rattle.claims.proofs.Parties.{view, readers, view-sent}
 use Rattle.claims.proofs.Hosts.{partyOf, box-same, hosts-read}
 
 -- the result of step 5 on a party that holds one
 result-held : (x : Party) (R : Result) (inbox : List ℕ) → resultIn x ≡ some R → resultOf sha256 x inbox ≡ R
 unfolding resultOf
 result-held x R inbox h = rw h
+
+-- the fields of the ended form
+form : (s : Seat) (R : Result) → (atEnd s R .seat ≡ s) × (atEnd s R .message ≡ resultBytes R ++ replicate (maxMessage - length (resultBytes R)) 0)
+    × (atEnd s R .len ≡ 0) × (atEnd s R .root ≡ replicate 32 0) × (atEnd s R .share ≡ replicate maxShare 0) × (atEnd s R .held ≡ 0)
+unfolding atEnd
+form s R = (refl, refl, refl, refl, refl, refl)
 
 module _ (x : Party) (R : Result) (h : resultIn x ≡ some R) where
   gives-again : (inbox out : List ℕ) → GivesAgain x R out (made sha256 x (takeRelays inbox out))
@@ -58,11 +64,20 @@ module _ (x : Party) (R : Result) (h : resultIn x ≡ some R) where
         cause = T .cause ∙ rw (e .0, eq-eqb (turnOf (x .stage)) 5 (e .1), same);
         kept = λ d. rw same at (T .refused d);
         given = λ a. let g = T .accepted a in (
-          g .0 ∙ ap (atEnd (x .seat)) same,
           g .1 ∙ ap (λ (r : Result). spliced out 0 (resultBytes r)) same,
           g .2 ∙ ap (λ (r : Result). length (resultBytes r)) same,
           g .3 ∙ ap {B = Option Result} some same,
         );
+        clean = λ a. let is = T .accepted a .0 ∙ ap (atEnd (x .seat)) same in
+            let f = form (x .seat) R in (
+              ap resultIn is ∙ result-end (x .seat) R,
+              ap (λ (y : Party). y .seat) is ∙ f .0,
+              ap (λ (y : Party). y .message) is ∙ f .1,
+              ap (λ (y : Party). y .len) is ∙ f .2,
+              ap (λ (y : Party). y .root) is ∙ f .3,
+              ap (λ (y : Party). y .share) is ∙ f .4,
+              ap (λ (y : Party). y .held) is ∙ f .5,
+            );
       }
 
   others : (c : Call) → stepOf c ≢ 5 → made sha256 x c ≡ refused x (cond (broken x) 5 6) (lent c)
@@ -79,112 +94,171 @@ module _ (x : Party) (R : Result) (h : resultIn x ≡ some R) where
       go true = refl
       go false = rw late
 
--- an accepted step 5 on bytes, and the state that it leaves
-module _ (s inbox out : List ℕ) (R : Result) (g : made sha256 (stateOf s) (takeRelays inbox out) .result ≡ some R) where
-  abbrev desk : Call
-  desk = takeRelays inbox out
+-- a party that waits for the second inbox
+first-reading : (x : Party) (inbox out : List ℕ) → x .stage ≡ Second → made sha256 x (takeRelays inbox out) .cause
+    ≡ foremost (when 5 (broken x) ∷ when 8 (not (fills (x .seat .n) inbox)) ∷ when 9 (ltb (length out) (length (resultBytes (resultFound sha256 x inbox)))) ∷ [])
+unfolding foremost resultOf
+first-reading x inbox out h = step-tells x (takeRelays inbox out) .cause ∙ rw h
 
+-- a state with the ended form is read again
+module _ (s : Seat) (R : Result) (sound : broken (atEnd s R) ≡ false) (inbox room : List ℕ) (fits : length (resultBytes R) ≤ length room) where
+  read-end : made sha256 (atEnd s R) (takeRelays inbox room) ≡ endedWith s R room
+  unfolding foremost atEnd
+  read-end =
+      let y = atEnd s R in
+      let held = result-end s R in
+      let e : made sha256 y (takeRelays inbox room) .cause ≡ 0 = gives-again y R held inbox room .cause
+      ∙ rw (sound, le-ltb (length room) (length (resultBytes R)) fits) in
+      did5 sha256 y inbox room e .1 ∙ ap (λ (r : Result). endedWith s r room) (result-held y R inbox held)
+
+-- an accepted call leaves an ended form, or a party that waits
+module _ (s : Seat) (R : Result) (y : Party) (held : resultIn y ≡ some R) where
+  ended-form : (r : Result) → y ≡ atEnd s r → y ≡ atEnd s R
+  ended-form r q = q ∙ ap (atEnd s) (same-some (sym (result-end s r) ∙ sym (ap resultIn q) ∙ held))
+
+  waiting-form : (z : Party) → y ≡ z → resultIn z ≡ none → y ≡ atEnd s R
+  waiting-form z q n = absurd (Option·none-ne-some R (sym n ∙ sym (ap resultIn q) ∙ held))
+
+bit-form : (s : Seat) (R : Result) (b : Bool) (m z : List ℕ) (y : Party) → resultIn y ≡ some R → y ≡ cond b (atEnd s nothing) (atFirst s m z) → y ≡ atEnd s R
+unfolding atFirst
+bit-form s R true m z y h q = ended-form s R y h nothing q
+bit-form s R false m z y h q = waiting-form s R y h _ q refl
+
+next-form : (x : Party) (c : Call) (R : Result) (y : Party) → resultIn y ≡ some R → y ≡ next x c → y ≡ atEnd (x .seat) R
+unfolding atBit atSecond
+next-form x (agreeRoot z) R y h q = waiting-form (x .seat) R y h _ q refl
+next-form x (agreeBit bit out) R y h q = bit-form (x .seat) R (eqb bit 0) (messageIn x) (x .root) y h q
+next-form x (takeShares inbox out) R y h q = waiting-form (x .seat) R y h _ q refl
+next-form x (takeRelays inbox out) R y h q = ended-form (x .seat) R y h (resultOf sha256 x inbox) q
+
+-- on bytes: the state that such a call leaves, and the reader after it
+short-end : (s : Seat) (R : Result) → broken (atEnd s R) ≡ false → length (resultBytes R) ≤ maxMessage
+unfolding atEnd
+short-end s nothing e = omega arith
+short-end s (settled m) e = ltb-false maxMessage (length m) (whole-stage (atEnd s (settled m)) e)
+
+module _ (s : List ℕ) (c : Call) (R : Result) (inbox room : List ℕ) (e : made sha256 (stateOf s) c .cause ≡ 0)
+    (h : resultIn (stateOf (called sha256 s c .state)) ≡ some R) (fits : length (resultBytes R) ≤ length room) where
   abbrev x : Party
   x = stateOf s
-
-  accepted : made sha256 x desk .cause ≡ 0
-  accepted = go (ℕ-discrete (made sha256 x desk .cause) 0)
-    where
-      go : Dec (made sha256 x desk .cause ≡ 0) → made sha256 x desk .cause ≡ 0
-      go (yes e) = e
-      go (no d) = absurd (Option·none-ne-some R (sym (step-tells x desk .refused d .3) ∙ g))
-
-  found : resultOf sha256 x inbox ≡ R
-  found = same-some (sym (ap (λ (r : Stepped). r .result) (did5 sha256 x inbox out accepted .1)) ∙ g)
-
-  first : made sha256 x desk ≡ endedWith (x .seat) R out
-  first = did5 sha256 x inbox out accepted .1 ∙ ap (λ (r : Result). endedWith (x .seat) r out) found
-
-  sound : broken x ≡ false
-  sound = whole sha256 x desk accepted
-
-  short : length (resultBytes R) ≤ maxMessage
-  short = subst (λ (r : Result). length (resultBytes r) ≤ maxMessage) found (result-short sha256 x sound inbox)
 
   abbrev y : Party
   y = atEnd (x .seat) R
 
-  state-is : called sha256 s desk .state ≡ written (stateBytes y) s .buffer
+  left : made sha256 x c .state ≡ y
+  left = next-form x c R (made sha256 x c .state) (ap resultIn (sym (call-kept sha256 s c)) ∙ h) (step-tells x c .accepted e .0)
+
+  sound : broken y ≡ false
+  sound = sym (ap broken left) ∙ step-tells x c .accepted e .4
+
+  bytes : called sha256 s c .state ≡ written (stateBytes y) s .buffer
   unfolding called
-  state-is = ap (λ (q : Replies). q .state) (over-written s (made sha256 x desk) accepted) ∙ ap (λ (r : Stepped). written (stateBytes (r .state)) s .buffer) first
+  bytes = ap (λ (q : Replies). q .state) (over-written s (made sha256 x c) e) ∙ ap (λ (p : Party). written (stateBytes p) s .buffer) left
 
-  says : stateOf (called sha256 s desk .state) ≡ y
-  says = call-kept sha256 s desk ∙ ap (λ (r : Stepped). r .state) first
+  screen : called sha256 (called sha256 s c .state) (takeRelays inbox room)
+      ≡ replies (packed 0 (valueShown (some R) 0)) (called sha256 s c .state) (spliced room 0 (resultBytes R))
+  unfolding called
+  screen =
+      let S = called sha256 s c .state in
+      let k = takeRelays inbox room in
+      let f = fit-of x (whole sha256 x c e) in
+      let is = read-end (x .seat) R sound inbox room fits in
+      ap (λ (p : Party). over S (made sha256 p k)) (call-kept sha256 s c ∙ left)
+      ∙ over-written S (made sha256 y k) (ap (λ (r : Stepped). r .cause) is)
+      ∙ ap (λ (r : Stepped). replies (numberOf r) (written (stateBytes (r .state)) S .buffer) (r .buffer)) is
+      ∙ replies-are _ _ _ _ _ _ (ap (packed 0) (shown R))
+      (ap (λ (b : List ℕ). written (stateBytes y) b .buffer) bytes
+      ∙ written-again y (end-storable (x .seat) (f .high) (omega (arith, f .faults)) (f .last) R (short-end (x .seat) R sound)) s (accepted-long sha256 s c e)
+      ∙ sym bytes)
+      (ends x R room)
+    where
+      shown : (r : Result) → valueShown (some r) (length (resultBytes r)) ≡ valueShown (some r) 0
+      shown nothing = refl
+      shown (settled m) = refl
 
-  -- and the screen after it
-  module _ (other room : List ℕ) (fits : length (resultBytes R) ≤ length room) where
-    abbrev screen : Call
-    screen = takeRelays other room
+-- a party that has ended, called further: it stays sound, so that a reader with room is accepted
+final-whole : (x : Party) (cs : List Call) → broken x ≡ false → broken (final sha256 x cs) ≡ false
+unfolding final
+final-whole x [] h = h
+final-whole x (c ∷ cs) h = final-whole (made sha256 x c .state) cs (go (ℕ-discrete (made sha256 x c .cause) 0))
+  where
+    go : Dec (made sha256 x c .cause ≡ 0) → broken (made sha256 x c .state) ≡ false
+    go (yes e) = step-tells x c .accepted e .4
+    go (no d) = ap broken (step-tells x c .refused d .0) ∙ h
 
-    held : resultOf sha256 y other ≡ R
-    held = result-held y R other (result-end (x .seat) R)
+one-accepted : (x : Party) (c : Call) → made sha256 x c .cause ≡ 0 → accepted (events sha256 x (c ∷ [])) ≡ event sha256 x c ∷ []
+unfolding accepted events
+one-accepted x c e = rw (eq-eqb (made sha256 x c .cause) 0 e)
 
-    welcome : made sha256 y screen .cause ≡ 0
-    unfolding foremost
-    welcome =
-        let f = fit-of x sound in
-        gives-again y R (result-end (x .seat) R) other room .cause
-        ∙ rw (
-          end-whole (x .seat) (f .low) (f .high) (omega (arith, f .faults)) (f .first) (f .last) R short,
-          le-ltb (length room) (length (resultBytes R)) fits,
-        )
+module _ (n t : ℕ) (A : Good) (R : Result) (h : partyBox n t A .result ≡ some R) where
+  abbrev i : ℕ
+  i = A .own
 
-    second : made sha256 y screen ≡ endedWith (x .seat) R room
-    unfolding atEnd
-    second = did5 sha256 y other room welcome .1 ∙ ap (λ (r : Result). endedWith (x .seat) r room) held
+  abbrev m : List ℕ
+  m = A .message
 
-    read : called sha256 (called sha256 s desk .state) screen
-        ≡ replies (called sha256 s desk .number) (called sha256 s desk .state) (spliced room 0 (resultBytes R))
-    unfolding called
-    read =
-        let S = called sha256 s desk .state in
-        let f = fit-of x sound in
-        ap (λ (p : Party). over S (made sha256 p screen)) says ∙ over-written S (made sha256 y screen) welcome
-        ∙ ap (λ (r : Stepped). replies (numberOf r) (written (stateBytes (r .state)) S .buffer) (r .buffer)) second
-        ∙ replies-are _ _ _ _ _ _ (sym (ap numberOf first))
-        (ap (λ (b : List ℕ). written (stateBytes y) b .buffer) state-is
-        ∙ written-again y (end-storable (x .seat) (f .high) (omega (arith, f .faults)) (f .last) R short) s (accepted-long sha256 s desk accepted)
-        ∙ sym state-is)
-        (ends x R room)
+  abbrev cs : List Call
+  cs = A .calls
 
--- a party that has ended, called further
-party-later : (n t : ℕ) (A : Good) (R : Result) (more : List Call) → partyBox n t A .result ≡ some R
-    → NothingMore n (partyBox n t A) (partyBox n t (record { own = A .own; message = A .message; calls = A .calls ++ more }))
-unfolding sentBy
-party-later n t A R more h =
-    let i = A .own in
-    let m = A .message in
-    let cs = A .calls in
-    let held = later-result sha256 n t i m cs R h more in
-    record {
-      held = held ∙ sym h;
-      given = λ inbox r k. readers (did sha256 n t i m (cs ++ more)) R (gave sha256 n t i m (cs ++ more) R held) inbox r k ∙ sym h;
-      sent = view-sent n (did sha256 n t i m (cs ++ more)) ∙ later-sent sha256 n t i m cs R h more ∙ sym (view-sent n (did sha256 n t i m cs));
-      hashed = later-hashed sha256 n t i m cs R h more;
-    }
+  abbrev longer : List Call → Good
+  longer more = record { own = i; message = m; calls = cs ++ more }
 
-later : (n t : ℕ) (g : Good ⊎ Host) (R : Result) (more : List Call) → boxOf n t g .cause ≡ 0 → boxOf n t g .result ≡ some R
-    → NothingMore n (boxOf n t g) (boxOf n t (further more g))
-later n t (inl A) R more e h = party-later n t A R more h
-later n t (inr k) R more e h =
-    let a = box-same n t k e in
-    let longer : Host = record { own = k .own; book = k .book; stateRoom = k .stateRoom; rootRoom = k .rootRoom; calls = k .calls ++ more } in
-    let b = box-same n t longer e in
-    subst (λ (after : Box). NothingMore n (boxOf n t (inr k)) after) (sym b)
-    (subst (λ (before : Box). NothingMore n before (partyBox n t (partyOf longer))) (sym a)
-    (party-later n t (partyOf k) R more (sym (ap (λ (B : Box). B .result) a) ∙ h)))
+  party-later : (more : List Call) → NothingMore n (partyBox n t A) (partyBox n t (longer more))
+  unfolding sentBy
+  party-later more =
+      let held = later-result sha256 n t i m cs R h more in
+      record {
+        held = held ∙ sym h;
+        readings = λ inbox r k. readers (did sha256 n t i m (cs ++ more)) R (gave sha256 n t i m (cs ++ more) R held) inbox r k ∙ sym h;
+        sent = view-sent n (did sha256 n t i m (cs ++ more)) ∙ later-sent sha256 n t i m cs R h more ∙ sym (view-sent n (did sha256 n t i m cs));
+        hashed = later-hashed sha256 n t i m cs R h more;
+      }
+
+  party-next : (inbox out : List ℕ) → partyBox n t A .cause ≡ 0 → length (resultBytes R) ≤ length out
+      → partyBox n t (longer (takeRelays inbox out ∷ [])) .acts ≡ partyBox n t A .acts ++ (ended inbox (some R) ∷ [])
+  unfolding foremost
+  party-next inbox out e fits =
+      let c = takeRelays inbox out in
+      let fin = final sha256 (openOf sha256 n t i m .state) cs in
+      let g = gives-again fin R h inbox out in
+      let sound = final-whole (openOf sha256 n t i m .state) cs (opening-tells n t i m .accepted e .2) in
+      let a : made sha256 fin c .cause ≡ 0 = g .cause ∙ rw (sound, le-ltb (length out) (length (resultBytes R)) fits) in
+      ap (map view) (did-both sha256 n t i m cs (c ∷ []) ∙ ap (λ (l : List Event). did sha256 n t i m cs ++ l) (one-accepted fin c a))
+      ∙ map-append view (did sha256 n t i m cs) (event sha256 fin c ∷ [])
+      ∙ ap (λ (r : Option Result). partyBox n t A .acts ++ (ended inbox r ∷ [])) (g .given a .2)
+
+-- and any good box
+abbrev longerHost : Host → List Call → Host
+longerHost k more = record { own = k .own; book = k .book; stateRoom = k .stateRoom; rootRoom = k .rootRoom; calls = k .calls ++ more }
+
+module _ (n t : ℕ) (R : Result) where
+  later : (g : Good ⊎ Host) (more : List Call) → boxOf n t g .cause ≡ 0 → boxOf n t g .result ≡ some R
+      → NothingMore n (boxOf n t g) (boxOf n t (further more g))
+  later (inl A) more e h = party-later n t A R h more
+  later (inr k) more e h =
+      let a = box-same n t k e in
+      subst (λ (after : Box). NothingMore n (boxOf n t (inr k)) after) (sym (box-same n t (longerHost k more) e))
+      (subst (λ (before : Box). NothingMore n before (partyBox n t (partyOf (longerHost k more)))) (sym a)
+      (party-later n t (partyOf k) R (sym (ap (λ (B : Box). B .result) a) ∙ h) more))
+
+  next-reader : (g : Good ⊎ Host) (inbox out : List ℕ) → boxOf n t g .cause ≡ 0 → boxOf n t g .result ≡ some R
+      → length (resultBytes R) ≤ length out → boxOf n t (further (takeRelays inbox out ∷ []) g) .acts ≡ boxOf n t g .acts ++ (ended inbox (some R) ∷ [])
+  next-reader (inl A) inbox out e h fits = party-next n t A R h inbox out e fits
+  next-reader (inr k) inbox out e h fits =
+      let a = box-same n t k e in
+      let b = box-same n t (longerHost k (takeRelays inbox out ∷ [])) e in
+      ap (λ (B : Box). B .acts) b
+      ∙ party-next n t (partyOf k) R (sym (ap (λ (B : Box). B .result) a) ∙ h) inbox out (sym (ap (λ (B : Box). B .cause) a) ∙ e) fits
+      ∙ ap (λ (B : Box). B .acts ++ (ended inbox (some R) ∷ [])) (sym a)
 
 pub results-are-read-again : ResultsAreReadAgain
 results-are-read-again =
     record {
       step5 = λ x R inbox out h. gives-again x R h inbox out;
       others = λ x R c h. others x R h c;
-      screen = λ s inbox out other room R g fits. read s inbox out R g other room fits;
-      later = later;
+      first = first-reading;
+      screen = screen;
+      next = λ n t g R. next-reader n t R g;
+      later = λ n t g R. later n t R g;
       one = hosts-read;
     }

@@ -20,7 +20,7 @@ use Rattle.commitment.specs.Commitment.{messageRoot, openCause}
 use Rattle.commitment.proofs.Opening.{open-bounds, spared}
 use Rattle.merkle.specs.Shares.{blank}
 use Rattle.party.specs.State.{seatOf, Result, nothing, settled, resultBytes, hasEnded, messageIn, atRoot, atFirst, atEnd, blankState, broken}
-use Rattle.party.specs.Steps.{turnOf, stateCause, openOf, Stepped, refused, writes, ending, rootCause, agreeRootOf, bitCause, outboxOf, agreeBitOf}
+use Rattle.party.specs.Steps.{turnOf, stateCause, openOf, Stepped, causeOf, valueOf, resultGiven, refused, writes, ending, rootCause, agreeRootOf, bitCause, outboxOf, agreeBitOf}
 use Rattle.party.specs.Steps.{inboxCause, relaysCause, relayOf, heldOf, takeSharesOf, resultOf, takeRelaysOf}
 use Rattle.party.specs.declared.Party.{Party}
 use Rattle.party.specs.declared.Opened.{Opened}
@@ -299,5 +299,30 @@ lawful x (takeRelays inbox out) w turn fine room =
     let looked : Bool = hasEnded (x .stage) || fills (x .seat .n) inbox in
     relays-accepted sha256 x w inbox out turn (λ h. rw h at (not-false looked (spared (not looked) 7 0 fine .0))) room
 
+-- cause, value and result are those of the answer
+abbrev Answers : Stepped → Type 0
+Answers r = (r .cause ≡ causeOf (r .answer)) × (r .value ≡ valueOf (r .answer)) × (r .result ≡ resultGiven (r .answer) (r .buffer))
+
+either-answers : (b : Bool) (p q : Stepped) → Answers p → Answers q → Answers (cond b p q)
+either-answers true p q f g = f
+either-answers false p q f g = g
+
+writes-answers : (x next : Party) (bs out : List ℕ) → Answers (writes x next bs out)
+writes-answers x next bs out = either-answers (ltb (length out) (length bs)) _ _ (refl, refl, refl) (refl, refl, refl)
+
+ending-answers : (x : Party) (r : Result) (out : List ℕ) → Answers (ending x r out)
+ending-answers x nothing out = (refl, refl, refl)
+ending-answers x (settled m) out = either-answers (ltb (length out) (length m)) _ _ (refl, refl, refl) (refl, refl, refl)
+
+step-answers : (x : Party) (c : Call) → Answers (made sha256 x c)
+unfolding made agreeRootOf agreeBitOf takeSharesOf takeRelaysOf
+step-answers x (agreeRoot z) = either-answers (not (eqb (rootCause x z) 0)) _ _ (refl, refl, refl) (refl, refl, refl)
+step-answers x (agreeBit bit out) = either-answers (not (eqb (bitCause x bit) 0)) _ _ (refl, refl, refl) (writes-answers x _ (outboxOf sha256 x bit) out)
+step-answers x (takeShares inbox out) =
+    either-answers (not (eqb (inboxCause 4 x inbox) 0)) _ _ (refl, refl, refl) (writes-answers x _ (relayOf sha256 x inbox) out)
+step-answers x (takeRelays inbox out) =
+    either-answers (not (eqb (relaysCause x inbox) 0)) _ _ (refl, refl, refl) (ending-answers x (resultOf sha256 x inbox) out)
+
 pub step-tells : (x : Party) (c : Call) → StepTells x c (made sha256 x c)
-step-tells x c = record { cause = step-told x c; refused = refusal-keeps x c; accepted = step-accepted x c; lawful = lawful x c }
+step-tells x c =
+    record { cause = step-told x c; refused = refusal-keeps x c; accepted = step-accepted x c; lawful = lawful x c; answer = step-answers x c }

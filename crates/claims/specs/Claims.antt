@@ -28,7 +28,7 @@ use Rattle.packet.specs.Answer.{causeIn, readAt}
 use Rattle.packet.specs.Class.{valid, classOf, classStrings}
 use Rattle.commitment.specs.Commitment.{messageRoot, packetWith}
 use Rattle.party.specs.State.{Result, nothing, settled, seatOf, atRoot, blankState, broken}
-use Rattle.party.specs.Steps.{turnOf, openOf, Stepped}
+use Rattle.party.specs.Steps.{turnOf, openOf, Stepped, causeOf, valueOf, resultGiven}
 use Rattle.party.specs.declared.Party.{Party}
 use Rattle.party.specs.declared.Opened.{Opened}
 use Rattle.agreement.specs.Calls.{Call, stepOf, made, entry}
@@ -53,6 +53,7 @@ pub record StepTells (x : Party) (c : Call) (r : Stepped) : Type 0 where
   pub accepted : r .cause ≡ 0 → (r .state ≡ next x c) × (r .buffer ≡ spliced (lent c) 0 (due x c)) × (r .value ≡ answered x c)
       × (r .result ≡ outcome x c) × (broken (r .state) ≡ false)
   pub lawful : broken x ≡ false → turnOf (x .stage) ≡ stepOf c → wrong x c ≡ 0 → length (due x c) ≤ length (lent c) → r .cause ≡ 0
+  pub answer : (r .cause ≡ causeOf (r .answer)) × (r .value ≡ valueOf (r .answer)) × (r .result ≡ resultGiven (r .answer) (r .buffer))
 
 pub record HostOpeningTells (s z : List ℕ) (r : Opened) (q : Replies) : Type 0 where
   pub number : q .number ≡ cond (eqb (r .cause) 0)
@@ -173,7 +174,7 @@ module _ (n t : ℕ) (good : List Box) (z : List ℕ) (bit : ℕ) where
   abbrev pub bytesSent : ℕ
   bytesSent = sumOver (λ (A : Box). sumOver (bytesIn n) (A .acts)) good
 
-  -- one result R, in every state and from every step 5: nothing or a good box's book, the common one where all opened with one; and few bytes
+  -- one result R, in every state and from the first step 5: nothing or a good box's book, the common one where all opened with one; and few bytes
   pub record OneResult (R : Result) : Type 0 where
     pub held : All (λ A. A .result ≡ some R)
     pub given : bit ≡ 1 → All (λ A. (inbox : List ℕ) × (first 5 (A .acts) ≡ some (ended inbox (some R))))

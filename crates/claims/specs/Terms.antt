@@ -2,7 +2,7 @@
 -- host of the C interface with bytes. Assumes nothing.
 use mathlib.Core.Path.{_≡_}
 use mathlib.Core.Bool.{Bool, true, false, cond, not, _||_}
-use mathlib.Core.List.{List, [], _∷_, map}
+use mathlib.Core.List.{List, [], _∷_, _++_, map, List·Memᴰ}
 use mathlib.Core.Logic.{_⊎_, inl, inr}
 use mathlib.Core.Option.{Option, none, some}
 use Prim.Native.Nat.{ℕ, _+_, _-_, _*_, _/_, _^_}
@@ -22,7 +22,7 @@ use Rattle.party.specs.State.{Result, nothing, settled, resultBytes, resultIn, 
 use Rattle.party.specs.Steps.{openOf, Stepped, outboxOf, relayOf, heldOf, resultOf}
 use Rattle.party.specs.declared.Party.{Party}
 use Rattle.agreement.specs.Calls.{Call, agreeRoot, agreeBit, takeShares, takeRelays, Event, did, hashed, lengths, resultAfter}
-use Rattle.agreement.specs.Agreement.{Good}
+use Rattle.agreement.specs.Agreement.{Good, sumOver}
 use Rattle.state_bytes.specs.Layout.{stateOf}
 use Rattle.capi.specs.Calls.{Replies, openCall, called, resultLengthCall}
 use Rattle.capi.specs.Lists.{left}
@@ -122,7 +122,7 @@ exampleDigests =
     ∷ 0xa3 ∷ 0x3c ∷ 0xe4 ∷ 0x59 ∷ 0x64 ∷ 0xff ∷ 0x21 ∷ 0x67 ∷ 0xf6 ∷ 0xec ∷ 0xed ∷ 0xd4 ∷ 0x19 ∷ 0xdb ∷ 0x06 ∷ 0xc1 ∷ []) ∷ []
 
 -- an accepted call, as whoever makes it sees it: the agreed root and the bit answered; the agreed bit and the outbox; the first inbox and the relay;
--- the second inbox and the result
+-- the second inbox, or whatever is handed in with a later reading, and the result
 pub data Act : Type 0 where
   rooted : List ℕ → ℕ → Act
   sent : ℕ → List ℕ → Act
@@ -217,3 +217,15 @@ hostBox n t h =
 abbrev pub boxOf : ℕ → ℕ → Good ⊎ Host → Box
 boxOf n t (inl A) = partyBox n t A
 boxOf n t (inr h) = hostBox n t h
+
+-- a good box that is called further
+abbrev pub further : List Call → Good ⊎ Host → Good ⊎ Host
+further more (inl A) = inl (record { own = A .own; message = A .message; calls = A .calls ++ more })
+further more (inr h) = inr (record { own = h .own; book = h .book; stateRoom = h .stateRoom; rootRoom = h .rootRoom; calls = h .calls ++ more })
+
+-- the same result, held and given by every accepted step 5; the bytes sent and the list of strings hashed are those from before
+pub record NothingMore (n : ℕ) (before after : Box) : Type 0 where
+  pub held : after .result ≡ before .result
+  pub readings : (inbox : List ℕ) (r : Option Result) → List·Memᴰ (ended inbox r) (after .acts) → r ≡ before .result
+  pub sent : sumOver (bytesIn n) (after .acts) ≡ sumOver (bytesIn n) (before .acts)
+  pub hashed : after .hashed ≡ before .hashed
