@@ -1,14 +1,12 @@
 -- What is asked of a state: refused where the bytes are none, told where they are; and every value fits its half. Assumes nothing.
 use mathlib.Core.Path.{_≡_, refl, sym, ap, _∙_}
-use mathlib.Core.Bool.{Bool, true, false, not, _||_}
+use mathlib.Core.Bool.{Bool, true, false, not}
 use mathlib.Core.List.{List, [], _∷_}
 use Prim.Native.Nat.{ℕ, _≤_}
 use borrow.Author.Tests.{ltb-false}
 use types.Run.{OneOf, miss}
 use denote.Enum.Declared.{tagOf}
-use lib.Dec.{ltb, eqb}
-use Rattle.limits.specs.Limits.{maxMessage, maxShare, numbered, groupCause}
-use Rattle.limits.proofs.Booleans.{neither}
+use Rattle.limits.specs.Limits.{maxMessage}
 use Rattle.party.specs.State.{overlong, broken}
 use Rattle.party.specs.declared.Outcome.the-variants as outcome
 use Rattle.party.specs.declared.Stage.{Stage}

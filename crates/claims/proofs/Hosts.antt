@@ -2,17 +2,17 @@
 -- with its number, book and calls. From the laws of the C interface. Assumes nothing.
 use mathlib.Core.Path.{_≡_, refl, sym, ap, ap₂, _∙_, subst}
 use mathlib.Core.Logic.{_⊎_, inl, inr, _≢_}
-use mathlib.Core.Bool.{Bool, true, false, cond, not}
-use mathlib.Core.List.{List, [], _∷_, map, List·Memᴰ}
+use mathlib.Core.Bool.{true, false, cond}
+use mathlib.Core.List.{List, [], _∷_, map}
 use mathlib.Core.Option.{Option, none, some}
-use Prim.Native.Nat.{ℕ, _+_, _-_, _*_, _/_, _^_, _≤_, _<_}
+use Prim.Native.Nat.{ℕ, _-_, _/_, _^_, _≤_, _<_}
 use native.Mathlib.Decide.{ℕ-discrete, decLt}
 use native.Mathlib.Omega.{arith}
 use borrow.Author.Tests.{lt-ltb, le-ltb, eq-eqb, ne-eqb, eqb-true, eqb-false}
 use lib.Dec.{ltb, eqb}
 use lib.ListN.{length, take}
 use Rattle.buffer.specs.Splice.{spliced}
-use Rattle.buffer.specs.Given.{Given, written}
+use Rattle.buffer.specs.Given.{written}
 use Rattle.buffer.proofs.Splice.{take-spliced}
 use Rattle.sha256.specs.Sha256.{sha256}
 use Rattle.sha256.proofs.Laws.{sha256-length}
@@ -32,7 +32,7 @@ use Rattle.agreement.proofs.Run.{endedWith, did2, did3, did4, did5, event}
 use Rattle.agreement.proofs.Ran.{opened-is}
 use Rattle.state_bytes.specs.Layout.{stateLength, stateBytes, stateOf}
 use Rattle.capi.specs.Calls.{packed, Replies, valueShown, numberOf, openCall, called, resultLengthCall}
-use Rattle.capi.specs.Lists.{left, lengthOf}
+use Rattle.capi.specs.Lists.{lengthOf}
 use Rattle.capi.proofs.Answers.{value-fits, over-written, over-left, open-refused, open-state, open-root, open-done}
 use Rattle.capi.proofs.Small.{call-small, call-halves}
 use Rattle.capi.proofs.Kept.{call-kept, calls-kept, length-kept, open-kept}

@@ -1,23 +1,21 @@
 -- All good boxes end with one result, parties with their lists of calls: from agreement at SHA-256, whose premises and conclusions are told there by
 -- events. What is seen of an event is what the claim says of it. Assumes nothing.
-use mathlib.Core.Path.{_≡_, refl, sym, ap, _∙_, subst}
+use mathlib.Core.Path.{_≡_, refl, sym, ap, _∙_}
 use mathlib.Core.Logic.{_⊎_, inl, inr, _≢_}
 use mathlib.Core.Bool.{Bool, true, false, cond}
 use mathlib.Core.List.{List, [], _∷_, map, List·Memᴰ}
 use mathlib.Core.Option.{Option, none, some}
-use Prim.Native.Nat.{ℕ, _+_, _-_, _*_, _≤_}
+use Prim.Native.Nat.{ℕ, _-_}
 use native.Mathlib.Omega.{arith}
 use lib.Dec.{eqb}
-use lib.ListN.{length, take, length-map}
+use lib.ListN.{take, length-map}
 use Rattle.sha256.specs.Sha256.{sha256}
-use Rattle.erasure.specs.Coding.{shareLength}
-use Rattle.merkle.specs.Height.{height}
 use Rattle.party.specs.State.{Result, nothing, settled}
 use Rattle.party.specs.Steps.{Stepped}
-use Rattle.agreement.specs.Calls.{Call, agreeRoot, agreeBit, takeShares, takeRelays, stepOf, Event, entry, inboxIn, writtenBy, heard, wrote, packetTo}
+use Rattle.agreement.specs.Calls.{Call, agreeRoot, agreeBit, takeShares, takeRelays, stepOf, Event, entry, inboxIn, heard, wrote, packetTo}
 use Rattle.agreement.specs.Calls.{bitGiven, sentIn, sentOver, did, sentBy}
 use Rattle.agreement.specs.Calls as calls
-use Rattle.agreement.specs.Agreement.{Good, absent, different, sumOver, joinOver, step, Premises, sent as allSent, Conclusions}
+use Rattle.agreement.specs.Agreement.{Good, sumOver, step, Premises, sent as allSent, Conclusions}
 use Rattle.agreement.proofs.Lists.{same-some, first-in}
 use Rattle.agreement.proofs.Agreement.{agreement-sha256}
 use Rattle.claims.specs.Terms.{Act, rooted, sent, relayed, ended, stepIn, first, bytesIn, Box, actOf, partyBox}

@@ -36,7 +36,7 @@ use Rattle.agreement.specs.Agreement.{Good, different, absent, sumOver, joinOve
 use Rattle.state_bytes.specs.Layout.{stateLength, stateBytes, stateOf}
 use Rattle.capi.specs.Calls.{packed, valueShown, Replies, openCall, called}
 use Rattle.claims.specs.Terms.{when, foremost, groupThen, lent, wrong, due, next, answered, outcome, unless, causeJoined, bookJoined, unread}
-use Rattle.claims.specs.Terms.{Leads, leaves, exampleMessages, exampleDigests, rooted, sent, relayed, ended, first, bytesIn, Box, partyBox, Host, boxOf}
+use Rattle.claims.specs.Terms.{Leads, leaves, exampleMessages, exampleDigests, rooted, sent, relayed, ended, first, bytesIn, Box, partyBox, boxOf}
 
 -- DEMAND 1. The opening, a step on any state, and both on bytes: the cause, what a refusal keeps, what an accepted call gives, and that a lawful one is
 -- accepted. Cause 9 tells the length needed

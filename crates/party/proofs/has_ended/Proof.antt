@@ -1,10 +1,5 @@
 -- `party::has_ended` meets its contract, by cases of the stage. Assumes nothing.
-use mathlib.Core.Path.{_≡_, refl, sym}
-use mathlib.Core.Bool.{false}
-use mathlib.Core.List.{[], _∷_}
-use types.Run.{OneOf}
-use denote.Enum.Declared.{tagOf}
-use Rattle.party.specs.State.{hasEnded}
+use mathlib.Core.Path.{sym}
 use Rattle.party.proofs.Stages.{waits}
 use borrow.Author.Needs.{needs}
 use Rattle.party.proofs.has_ended.Statement.{statement}

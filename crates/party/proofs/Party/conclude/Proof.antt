@@ -1,6 +1,6 @@
 -- `party::Party::conclude` meets its contract: each return is one result that is found, by whether the party is happy and by the answer of rebuilding from
 -- the shares that were gathered. Assumes nothing.
-use mathlib.Core.Path.{_≡_, refl, sym, ap, _∙_}
+use mathlib.Core.Path.{_≡_, sym, ap, _∙_}
 use mathlib.Core.List.{List}
 use Prim.Native.Nat.{ℕ, zero, _-_, _≤_}
 use native.Mathlib.Omega.{arith}

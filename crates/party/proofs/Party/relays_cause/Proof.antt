@@ -1,5 +1,5 @@
 -- `party::Party::relays_cause` meets its contract: by whether the party has ended. Assumes nothing.
-use mathlib.Core.Path.{_≡_, sym, _∙_}
+use mathlib.Core.Path.{sym, _∙_}
 use Rattle.party.proofs.Causes.{relays-ended, relays-waiting}
 use borrow.Author.Needs.{needs}
 use Rattle.party.proofs.Party.relays_cause.Statement.{statement}

@@ -1,5 +1,5 @@
 -- `party::Party::settle_nothing` meets its contract: the state has the ended form. Assumes nothing.
-use mathlib.Core.Path.{_≡_, refl, ap, _∙_}
+use mathlib.Core.Path.{refl, ap, _∙_}
 use Rattle.party.specs.State.{nothing}
 use Rattle.party.specs.declared.Party.{Party}
 use Rattle.party.specs.declared.Answer.the-variants as answer
