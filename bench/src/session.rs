@@ -43,13 +43,14 @@ impl Setting {
     }
 }
 
-/// The states before each step, the agreed root, and what every party receives.
+/// The states before each step and at the end, the agreed root, and what every party receives.
 pub struct Moments<P> {
     pub root: Hash,
     pub opened: Vec<P>,
     pub voted: Vec<P>,
     pub sent: Vec<P>,
     pub relayed: Vec<P>,
+    pub ended: Vec<P>,
     pub first: Vec<Vec<u8>>,
     pub second: Vec<u8>,
 }
@@ -150,12 +151,15 @@ pub fn moments<P: Party>(setting: Setting) -> Moments<P> {
     let first = deliver(&send_all(&mut sent));
     let mut relayed = sent.clone();
     let second = lay_out(&relay_all(&mut relayed, &first));
+    let mut ended = relayed.clone();
+    settle_all(&mut ended, &second);
     Moments {
         root,
         opened,
         voted,
         sent,
         relayed,
+        ended,
         first,
         second,
     }

@@ -17,10 +17,11 @@ pub enum Step {
     ShareSent,
     OwnMessage,
     Rebuild,
+    Again,
 }
 
 impl Step {
-    pub const ALL: [Step; 7] = [
+    pub const ALL: [Step; 8] = [
         Step::Open,
         Step::Root,
         Step::Bit,
@@ -28,6 +29,7 @@ impl Step {
         Step::ShareSent,
         Step::OwnMessage,
         Step::Rebuild,
+        Step::Again,
     ];
 
     pub fn name(self) -> &'static str {
@@ -39,6 +41,7 @@ impl Step {
             Step::ShareSent => "step 4, a share sent",
             Step::OwnMessage => "step 5, own book",
             Step::Rebuild => "step 5, by rebuild",
+            Step::Again => "step 5, read again",
         }
     }
 }
@@ -72,6 +75,9 @@ pub fn work<'a, P: Party>(step: Step, setting: Setting, at: &'a Moments<P>) -> W
         }),
         Step::Rebuild => again(&at.relayed[last], move |party| {
             party.take_relays(&at.second, &mut out).expect("a message")
+        }),
+        Step::Again => again(&at.ended[0], move |party| {
+            party.take_relays(&[], &mut out).expect("a message")
         }),
     }
 }
