@@ -16,8 +16,8 @@
  * length over its limit at any stage. All else is taken for the state that it says; this is no seal against forgers. Bytes past a length are
  * ignored. Of a longer buffer the first CIPANGOHU_STATE bytes are the state.
  *
- * An answer has a cause, 0 if the call was accepted, and a value. With cause 9 the value is the length that the buffer needs; of all other
- * refusals it is 0. A refused call leaves every lent byte as it was, and bytes of a buffer past what is written keep their values. Where several
+ * An answer has a cause, 0 if the call was accepted, and a value, which says nothing without the cause: with cause 9 it is the length that the buffer
+ * needs, of all other refusals it is 0. A refused call leaves every lent byte as it was, and bytes of a buffer past what is written keep their values. Where several
  * causes apply, the one that stands first behind "Causes" is given.
  *
  * An entry is a two-byte length and as many bytes, up to CIPANGOHU_ENTRY; n of them, in number order, make an inbox, an outbox, or what is rebuilt
@@ -28,7 +28,7 @@
  * the share and its path, hash by hash from the leaf upward. None that can be read is longer than CIPANGOHU_PACKET.
  *
  * A buffer that a call writes overlaps no other buffer of that call. Through a pointer with length 0 nothing is read or written. Nothing is
- * global: calls on different buffers may run at once. In trials every call fits a stack of 256 KiB, the host's own buffers not counted;
+ * global: calls on different buffers may run at once, and so may calls that only read one state. In trials every call fits a stack of 256 KiB, the host's own buffers not counted;
  * CIPANGOHU_INBOX bytes are better kept elsewhere. */
 #ifndef CIPANGOHU_H
 #define CIPANGOHU_H
@@ -75,7 +75,7 @@ enum cipangohu_causes {
     CIPANGOHU_CAUSE_NUMBER = 3,      /* a number that is not 1 to n */
     CIPANGOHU_CAUSE_LENGTH = 4,      /* too long a message, string, share, entry or entries */
     CIPANGOHU_CAUSE_STATE = 5,       /* not a state */
-    CIPANGOHU_CAUSE_STEP = 6,        /* not the step that is due, which at the end is step 5 alone, or no result to tell of */
+    CIPANGOHU_CAUSE_STEP = 6,        /* not the step that is due, which at the end is step 5 alone, or no message to tell of */
     CIPANGOHU_CAUSE_ROOT_OR_BIT = 7, /* a root that is not CIPANGOHU_ROOT bytes, or a bit that is not 0 or 1 */
     CIPANGOHU_CAUSE_ENTRIES = 8,     /* entries that run short or leave bytes over */
     CIPANGOHU_CAUSE_ROOM = 9,        /* a buffer too short for what is written */
@@ -103,7 +103,7 @@ typedef struct cipangohu_answer {
     uint32_t cause;
 } cipangohu_answer;
 
-/* Bytes that lie in a buffer of the host; no address where there is nothing to tell of. What is there and empty has an address. */
+/* Bytes that lie in a buffer of the host; no address where there are none to tell of. What is there and empty has an address. */
 typedef struct cipangohu_bytes {
     const uint8_t *at;
     size_t len;
@@ -143,14 +143,15 @@ CIPANGOHU_MUST_USE cipangohu_answer cipangohu_take_shares(uint8_t *state, size_t
                                                           uint8_t *out, size_t out_len);
 
 /* Step 5, the second inbox: writes the message, if the result is one. Value: CIPANGOHU_SETTLED for a message of any length, which
- * cipangohu_result_length tells, or CIPANGOHU_NOTHING; it is no length itself. A party that has ended, at this step or on bit 0, gives its result
- * again, as often as it is asked. It does not look at the inbox: a second reader hands in any bytes, or none (NULL and 0). Causes 5, 6, 8, and 9
- * where there is a message (of a party that has ended: 5, and 9 where its result is a message). */
+ * cipangohu_result_length tells, or CIPANGOHU_NOTHING; it is no length itself. Causes 5, 6, 8, and 9 where a message was found.
+ * Since version 1.1 a party that has ended, at this step or on bit 0, gives its result to every further reader in the same way, and writes its state
+ * anew. It does not look at the inbox. Readers hand in none (NULL and 0): a party that has not ended yet refuses that, and would take entries for its
+ * second inbox. Causes then 5, and 9 where the result is a message. */
 CIPANGOHU_MUST_USE cipangohu_answer cipangohu_take_relays(uint8_t *state, size_t state_len, const uint8_t *inbox, size_t inbox_len,
                                                           uint8_t *out, size_t out_len);
 
-/* The length of the message that a party ended with, and so the room that reading it again needs. Causes 5, and 6 where it has not ended, or with
- * nothing. */
+/* The length of the message that a party ended with, and so the room that a further reader needs. Causes 5, and 6 where it has not ended, or with
+ * nothing, which needs no room. */
 CIPANGOHU_MUST_USE cipangohu_answer cipangohu_result_length(const uint8_t *state, size_t state_len);
 
 /* The stage of a party. Cause 5. */
@@ -180,8 +181,8 @@ CIPANGOHU_MUST_USE cipangohu_answer cipangohu_rebuild(size_t n, size_t t, const 
 /* SHA-256 of up to CIPANGOHU_HASHED bytes. Value: CIPANGOHU_ROOT. Causes 4, 9. */
 CIPANGOHU_MUST_USE cipangohu_answer cipangohu_hash(const uint8_t *message, size_t message_len, uint8_t *out, size_t out_len);
 
-/* The library's CIPANGOHU_VERSION. It fits a program that was built with a header of the same major number and with CIPANGOHU_STATE as
- * cipangohu_state_size gives it. */
+/* The library's CIPANGOHU_VERSION. It fits a program that was built with a header of the same major number, of no higher minor number, and with
+ * CIPANGOHU_STATE as cipangohu_state_size gives it. */
 uint32_t cipangohu_version(void);
 
 /* The library's CIPANGOHU_STATE. */
@@ -240,7 +241,8 @@ CIPANGOHU_MUST_USE static inline cipangohu_answer cipangohu_append(uint8_t *entr
     return answer;
 }
 
-/* The message that a party ended with, where it lies in the state, for whoever need not do step 5 again; no address where there is none. */
+/* The message that a party ended with, where it lies in the state; nothing is written. No address where there is none: cipangohu_stage tells whether
+ * the party ended with nothing or waits. */
 static inline cipangohu_bytes cipangohu_result(const uint8_t *state, size_t state_len) {
     cipangohu_bytes result = {NULL, 0};
     cipangohu_answer length = cipangohu_result_length(state, state_len);

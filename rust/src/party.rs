@@ -52,7 +52,8 @@ fn told(state: &[u8]) -> Result<(Stage, usize), Cause> {
 }
 
 /// A party, by its state. It cannot be cloned: a step done twice from one state would send two
-/// different things.
+/// different things. Of one that has ended, which sends nothing more, a reader may take a copy by
+/// [`Party::state`] and [`Party::from_state`].
 #[derive(PartialEq, Eq)]
 pub struct Party {
     state: [u8; STATE],
@@ -153,9 +154,10 @@ impl Party {
     }
 
     /// Step 5: takes the second inbox; the answer is the result, which [`Party::result`] gives from
-    /// then on. A party that has ended, at this step or on the bit `false`, gives its result again, as
-    /// often as it is asked, and does not look at the inbox: a second reader may hand in none. Causes:
-    /// [`Cause::Step`], [`Cause::Entries`], and none once the party has ended.
+    /// then on. A party that has ended, at this step or on the bit `false`, gives its result to every
+    /// further reader and does not look at the inbox. Readers hand in none: a party that has not ended
+    /// yet refuses that, and would take entries for its second inbox. Causes: [`Cause::Step`],
+    /// [`Cause::Entries`], and none once the party has ended.
     ///
     /// ```
     /// use cipangohu::{Cause, Outcome, Party};
