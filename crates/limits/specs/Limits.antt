@@ -10,7 +10,7 @@ maxParties = 16
 
 -- a message (document 01: book) has 0 to maxMessage bytes
 abbrev pub maxMessage : ℕ
-maxMessage = 1024
+maxMessage = 3072
 
 -- a share has 1 to maxShare bytes
 abbrev pub maxShare : ℕ

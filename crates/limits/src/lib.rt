@@ -6,7 +6,7 @@ ghost use Rattle.limits.specs.Limits.{greatest, parties, numbered, group
 pub const MAX_PARTIES: usize = 16;
 
 // The greatest length of a message (document 01: book).
-pub const MAX_MESSAGE: usize = 1024;
+pub const MAX_MESSAGE: usize = 3072;
 
 // The greatest length of a share: that of one party alone, whose share is the whole frame.
 pub const MAX_SHARE: usize = MAX_MESSAGE + 2;

@@ -1,12 +1,12 @@
 -- The cases of document 01 hold. By computation, and for messages of a given length by the laws of the opening. Assumes nothing.
 use mathlib.Core.Path.{_≡_, refl, ap, _∙_}
 use mathlib.Core.List.{List}
-use Prim.Native.Nat.{ℕ}
+use Prim.Native.Nat.{ℕ, _+_}
 use native.Mathlib.Omega.{arith}
 use lib.Dec.{lit≤}
 use lib.ListN.{length}
 use Rattle.sha256.specs.Sha256.{sha256}
-use Rattle.limits.specs.Limits.{parties, numbered, groupCause}
+use Rattle.limits.specs.Limits.{maxMessage, parties, numbered, groupCause}
 use Rattle.erasure.specs.Cases as erasure
 use Rattle.merkle.specs.Tree.{splitFrom, split, shapeOf, shape, size, sides}
 use Rattle.merkle.specs.Shares.{pathLengthOf}
@@ -17,7 +17,7 @@ use Rattle.commitment.proofs.Opening.{open-long}
 use Rattle.party.proofs.Outcomes.{open-refused}
 use Rattle.party.proofs.Progress.{open-accepted}
 
-too-long : (m : List ℕ) → length m ≡ 1025 → causeOf 3 1 m ≡ 4
+too-long : (m : List ℕ) → length m ≡ maxMessage + 1 → causeOf 3 1 m ≡ 4
 unfolding parties groupCause
 too-long m e =
     let c : openCause 3 1 1 (length m) ≡ 4 = open-long 3 1 1 (length m) refl (lit≤ tt) (lit≤ tt) (omega arith) in

@@ -1,9 +1,10 @@
--- The cases of document 01 that are marked P, in one table over the definitions that contracts cite. The numbers are document 01's own.
--- Assumes nothing.
+-- The cases of document 01 that are marked P, in one table over the definitions that contracts cite. The numbers are document 01's own, but
+-- for the greatest length of a message. Assumes nothing.
 use mathlib.Core.Path.{_≡_}
 use mathlib.Core.List.{List, [], _∷_, map}
-use Prim.Native.Nat.{ℕ}
+use Prim.Native.Nat.{ℕ, _+_}
 use lib.ListN.{length}
+use Rattle.limits.specs.Limits.{maxMessage}
 use Rattle.sha256.specs.Sha256.{sha256}
 use Rattle.erasure.specs.Cases as erasure
 use Rattle.merkle.specs.Answer.{counted}
@@ -24,6 +25,6 @@ pub record Cases : Type 0 where
   pub sixteen : causeOf 16 7 [] ≡ 0
   pub eight-faults : causeOf 16 8 [] ≡ 2
   pub seventeen : causeOf 17 7 [] ≡ 1
-  -- book of 1,024 taken, 1,025 is cause 4
-  pub longest : (m : List ℕ) → length m ≡ 1024 → causeOf 3 1 m ≡ 0
-  pub too-long : (m : List ℕ) → length m ≡ 1025 → causeOf 3 1 m ≡ 4
+  -- a book of the greatest length is taken, one with a byte more is cause 4
+  pub longest : (m : List ℕ) → length m ≡ maxMessage → causeOf 3 1 m ≡ 0
+  pub too-long : (m : List ℕ) → length m ≡ maxMessage + 1 → causeOf 3 1 m ≡ 4
