@@ -36,9 +36,8 @@ pub struct Sent {
     pub answer: Written,
 }
 
-// A message's shares, one behind the other, and the length of each.
-struct Shares {
-    bytes: [u8; MAX_SHARES],
+// How many bytes a message's shares have: together, and each.
+struct Lengths {
     size: usize,
     len: usize,
 }
@@ -54,9 +53,8 @@ pub fn root(n: usize, t: usize, own: usize, message: &[u8]) -> Rooted
             root: [0; 32],
         };
     }
-    let coded = code(n, t, message);
-    let size = coded.size;
-    let bytes = coded.bytes;
+    let mut bytes = [0u8; MAX_SHARES];
+    let Lengths { size, .. } = code(n, t, message, &mut bytes);
     let leaves = merkle::leaves(n, &bytes[..size]);
     merkle::root(n, &leaves)
 }
@@ -82,10 +80,8 @@ pub fn send(
             answer: Written::Refused(cause),
         };
     }
-    let coded = code(n, t, message);
-    let len = coded.len;
-    let size = coded.size;
-    let bytes = coded.bytes;
+    let mut bytes = [0u8; MAX_SHARES];
+    let Lengths { size, len } = code(n, t, message, &mut bytes);
     let leaves = merkle::leaves(n, &bytes[..size]);
     let nodes = merkle::nodes(n, &leaves);
     let top = merkle::root_in(n, &leaves, &nodes).root;
@@ -124,22 +120,16 @@ pub fn open_cause(n: usize, t: usize, own: usize, len: usize) -> u8
     0
 }
 
-// The shares of a message.
-fn code(n: usize, t: usize, message: &[u8]) -> Shares
-    requires { ⌜ Coded n t (now message) ⌝ }
-    ensures { λ r. ⌜ (r .size ≤ maxShares) × (take (r .size) (r .bytes) ≡ shares n (n - t) (now (message .entry)))
+// Writes the shares of a message, one behind the other, where there is room for all shares of any.
+fn code(n: usize, t: usize, message: &[u8], out: &mut [u8]) -> Lengths
+    requires { ⌜ Coded n t (now message) × (length (now out) ≡ maxShares) ⌝ }
+    ensures { λ r. ⌜ (r .size ≤ maxShares) × (take (r .size) (now (out .exit)) ≡ shares n (n - t) (now (message .entry)))
         × (r .len ≡ shareLength (n - t) (length (now (message .entry)))) × (r .size ≡ n * r .len) ⌝ }
 {
-    let mut bytes = [0u8; MAX_SHARES];
-    let Written::Done(size) = erasure::encode(n, t, message, &mut bytes) else {
-        return Shares {
-            bytes: [0; MAX_SHARES],
-            size: 0,
-            len: 0,
-        };
+    let Written::Done(size) = erasure::encode(n, t, message, out) else {
+        return Lengths { size: 0, len: 0 };
     };
-    Shares {
-        bytes,
+    Lengths {
         size,
         len: size / n,
     }

@@ -1,9 +1,10 @@
 -- `commitment::root` meets its contract: a refusal, or the root over the leaves of the message's shares. Assumes nothing.
 use mathlib.Core.Path.{_≡_, sym, ap, _∙_}
+use mathlib.Core.List.{List}
 use Prim.Native.Nat.{ℕ}
 use native.Mathlib.Omega.{arith}
 use borrow.Author.Needs.{needs}
-use lib.ListN.{length}
+use lib.ListN.{length, length-replicate}
 use lib.Seq.{length-take-le}
 use Rattle.sha256.specs.Sha256.{sha256}
 use Rattle.merkle.specs.Shares.{blank, leavesOf, rootedOf}
@@ -20,9 +21,12 @@ use Rattle.commitment.proofs.root.Tie as tie
 fine : (e : tie.Else1) → let a = e .before .before .before .args in openCause (a .n) (a .t) (a .own) (length (a .message .now)) ≡ 0
 fine e = sym (e .before .open-cause .ensures) ∙ e .if1 .left
 
--- an array has as many elements as its type says
-long : (q : tie.After-code) → length (q .code .result .bytes) ≡ maxShares
-long q = search needs
+-- the array with the shares has as many elements as before
+abbrev Shares : tie.After-code → List ℕ
+Shares q = q .code .last .1 .1 .1 .0
+
+long : (q : tie.After-code) → length (Shares q) ≡ maxShares
+long q = omega (arith, q .code .kept .1 .1 .1 .0, length-replicate {A = ℕ} maxShares 0)
 
 open-cause-requires : tie.Need-open-cause-requires
 open-cause-requires c κs = search needs
@@ -34,16 +38,22 @@ returns c =
     ap {B = Rooted} (λ (i : ℕ). record { cause = i; root = blank }) k
     ∙ sym (rooted-refused sha256 (a .n) (a .t) (a .own) (a .message .now) (λ q. c .if1 .taken (k ∙ q)))
 
+slice-aggregate-code : tie.Need-slice-aggregate-code
+slice-aggregate-code c = search needs
+
 code-requires : tie.Need-code-requires
-code-requires c κs = let a = c .before .before .before .args in open-coded (a .n) (a .t) (a .own) (a .message .now) (fine c)
+code-requires c κs =
+    let e = c .before in
+    let a = e .before .before .before .args in
+    (open-coded (a .n) (a .t) (a .own) (a .message .now) (fine e), length-replicate {A = ℕ} maxShares 0)
 
 array-share-prefix-bytes : tie.Need-array-share-prefix-bytes
-array-share-prefix-bytes c = omega (arith, long (c .before), c .before .code .ensures .0)
+array-share-prefix-bytes c = search needs
 
 slice-aggregate-leaves : tie.Need-slice-aggregate-leaves
 slice-aggregate-leaves c =
     let q = c .before .before in
-    sym (length-take-le (q .code .result .size) (q .code .result .bytes) (omega (arith, long q, q .code .ensures .0)))
+    sym (length-take-le (q .code .result .size) (Shares q) (omega (arith, long q, q .code .ensures .0)))
 
 leaves-requires : tie.Need-leaves-requires
 leaves-requires c κs = search needs
@@ -56,7 +66,7 @@ unfolding messageRoot
 returns-2 c =
     let l = c .before .before in
     let q = l .before .before .before in
-    let e = q .before in
+    let e = q .before .before in
     let a = e .before .before .before .args in
     let w = open-coded (a .n) (a .t) (a .own) (a .message .now) (fine e) in
     c .root .ensures
@@ -70,6 +80,7 @@ root-spec =
     (tie.spec
     open-cause-requires
     returns
+    slice-aggregate-code
     code-requires
     array-share-prefix-bytes
     slice-aggregate-leaves
