@@ -8,6 +8,7 @@ ghost use Rattle.sha256.specs.Sha256.{sha256};
 ghost use Rattle.limits.specs.Limits.{maxParties, maxMessage, maxShare};
 ghost use Rattle.buffer.specs.Splice.{spliced};
 ghost use Rattle.buffer.specs.Entries.{fills, bodies};
+ghost use Rattle.buffer.specs.Given.{gave, written};
 ghost use Rattle.merkle.specs.Shares.{blank};
 ghost use Rattle.commitment.specs.Commitment.{mailWith};
 ghost use Rattle.party.specs.State.{partyLimits, padded, messageIn, shareHeld, nothing, settled, atEnd, resultFrom, hasEnded, blankState, overlong, broken, happy};
@@ -85,12 +86,6 @@ pub enum Answer {
 pub struct Reply {
     pub state: Party,
     pub answer: Answer,
-}
-
-// What came of sending: whether the party is happy, and what the step then gives back.
-struct Tried {
-    happy: bool,
-    reply: Reply,
 }
 
 impl Party {
@@ -176,10 +171,10 @@ impl Party {
             return self.silent(next, out);
         }
         let root = self.root;
+        let Sent { happy, answer } = self.send(false, out);
         let next = self.waiting(Stage::First, root, [0; MAX_SHARE], 0);
-        let Tried { happy, reply } = self.send(false, next, out);
         if happy {
-            return reply;
+            return self.after(next, answer);
         }
         self.silent(next, out)
     }
@@ -195,10 +190,10 @@ impl Party {
         let n = self.seat.n;
         let own = self.seat.own;
         let root = self.root;
+        let Sent { happy, answer } = self.send(true, out);
         let next = self.waiting(Stage::Second, root, [0; MAX_SHARE], 0);
-        let Tried { happy, reply } = self.send(true, next, out);
         if happy {
-            return reply;
+            return self.after(next, answer);
         }
         let Placed::At(from, len, count) = first_valid(n, own, &root, inbox) else {
             return Reply {
@@ -294,17 +289,17 @@ impl Party {
         8
     }
 
-    // What a happy party sends, its relay or else its outbox, and the next state if it was written; nothing is touched if the party is not happy.
-    fn send(self, relays: bool, next: Party, out: &mut [u8]) -> Tried
+    // What a happy party sends, its relay or else its outbox; nothing is touched if the party is not happy.
+    fn send(self, relays: bool, out: &mut [u8]) -> Sent
         requires { ⌜ Fit self ⌝ }
         ensures { λ r. ⌜ (r .happy ≡ happy sha256 self)
-            × (r .happy ≡ true → stepped (r .reply) (now (out .exit)) ≡ writes self next (mailWith sha256 relays (self .seat .n) (self .seat .t) (self .seat .own) (messageIn self)) (now (out .entry)))
+            × (r .happy ≡ true → gave (r .answer) (now (out .exit)) ≡ written (mailWith sha256 relays (self .seat .n) (self .seat .t) (self .seat .own) (messageIn self)) (now (out .entry)))
             × (r .happy ≡ false → now (out .exit) ≡ now (out .entry)) ⌝ }
     {
         let root = self.root;
         let len = self.len;
         let message = self.message;
-        let Sent { happy, answer } = commitment::send(
+        commitment::send(
             relays,
             self.seat.n,
             self.seat.t,
@@ -312,11 +307,7 @@ impl Party {
             &message[..len],
             &root,
             out,
-        );
-        Tried {
-            happy,
-            reply: self.after(next, answer),
-        }
+        )
     }
 
     // What comes of writing: the next state where bytes were written, else this one.

@@ -1,5 +1,6 @@
 -- `party::Party::agree_bit` meets its contract: each way out is an outcome of the definition. Assumes nothing.
 use mathlib.Core.Path.{_≡_, refl, sym, ap, ap₂, _∙_}
+use mathlib.Core.Bool.{false}
 use mathlib.Core.List.{List, []}
 use Prim.Native.Nat.{ℕ, _*_}
 use native.Mathlib.Omega.{arith}
@@ -7,6 +8,7 @@ use borrow.Author.Needs.{needs}
 use lib.ListN.{length, replicate}
 use Rattle.sha256.specs.Sha256.{sha256}
 use Rattle.limits.specs.Limits.{maxMessage}
+use Rattle.commitment.specs.Commitment.{mailWith}
 use Rattle.party.specs.State.{nothing, messageIn, atFirst}
 use Rattle.party.specs.Steps.{stepped, stateCause, refused, writes, outboxOf, agreeBitOf}
 use Rattle.party.specs.Private.{Fit}
@@ -14,7 +16,7 @@ use Rattle.party.specs.declared.Party.{Party}
 use Rattle.party.specs.declared.Stage.the-variants.{First}
 use Rattle.party.specs.declared.Reply.{Reply}
 use Rattle.party.proofs.Causes.{state-fit, bit-state, bit-wrong, bit-fine}
-use Rattle.party.proofs.Outcomes.{bit-refused, bit-end, bit-first}
+use Rattle.party.proofs.Outcomes.{bit-refused, bit-end, bit-first, writes-given}
 use Rattle.party.proofs.Kept.{length-message, waiting-kept, ended-kept}
 use Rattle.party.proofs.Silence.{outbox-silent, outbox-mail}
 use Rattle.party.proofs.Party.agree_bit.Statement.{statement}
@@ -87,22 +89,35 @@ returns-3 c =
 one : (c : tie.Else3) → Entry (c .before .before) .args .bit ≡ 1
 one c = omega arith
 
+send-requires : tie.Need-send-requires
+send-requires c κs = fit (c .before .before .before .before)
+
+-- sending, and the buffer after it
+abbrev Sends : tie.After-waiting → tie.After-send
+Sends v = v .before .before .before
+
+abbrev Left : tie.After-waiting → List ℕ
+Left v = Sends v .send .last .1 .1 .0
+
+abbrev One : tie.After-waiting → tie.Else3
+One v = Sends v .before .before .before
+
 waiting-requires : tie.Need-waiting-requires
-waiting-requires c κs = fit (c .before .before .before) .short
+waiting-requires c κs = fit (c .before .before .before .before .before .before .before) .short
 
 -- the state that waits for the first inbox
-next : (v : tie.After-waiting) → let x = Entry (v .before .before .before .before) .args .self in
+next : (v : tie.After-waiting) → let x = Entry (One v .before .before) .args .self in
     v .waiting .result ≡ atFirst (x .seat) (messageIn x) (x .root)
 unfolding atFirst
 next v =
-    let e = v .before .before .before .before in
+    let e = One v .before .before in
     let x = Entry e .args .self in
     v .waiting .ensures
     ∙ waiting-kept (x .seat) First _ (messageIn x) _ (x .root) _ [] (x .len) 0 refl
     (sym (length-message x (omega (arith, fit e .short, long (Entry e))))) refl refl refl
 
-send-requires : tie.Need-send-requires
-send-requires c κs = fit (c .before .before .before .before .before)
+after-requires : tie.Need-after-requires
+after-requires c κs = search needs
 
 same-length-2 : tie.Need-same-length-2
 same-length-2 c = search needs
@@ -119,18 +134,20 @@ first o =
 
 returns-4 : tie.Need-returns-4
 returns-4 c =
-    let s = c .before .before .before .before in
-    let v = s .before .before in
-    let o = v .before .before in
-    let a = Entry (o .before .before) .args in
+    let t = c .before in
+    let v = t .before in
+    let s = Sends v in
+    let a = Entry (One v .before .before) .args in
     let x = a .self in
-    s .send .ensures .1 (c .if4 .taken)
+    let bs = mailWith sha256 false (x .seat .n) (x .seat .t) (x .seat .own) (messageIn x) in
+    ap (λ (r : Reply). stepped r (Left v)) (c .after .ensures)
+    ∙ writes-given x (v .waiting .result) bs (a .out .now) (s .send .result .answer) (Left v) (s .send .ensures .1 (t .if4 .taken))
     ∙ ap₂ (λ (y : Party) (bs : List ℕ). writes x y bs (a .out .now)) (next v)
-    (sym (outbox-mail sha256 x (sym (s .send .ensures .0) ∙ c .if4 .taken)))
-    ∙ first o
+    (sym (outbox-mail sha256 x (sym (s .send .ensures .0) ∙ t .if4 .taken)))
+    ∙ first (One v)
 
 silent-requires-2 : tie.Need-silent-requires-2
-silent-requires-2 c κs = fit (c .before .before .before .before .before .before .before .before .before .before .before) .high
+silent-requires-2 c κs = fit (One (c .before .before) .before .before) .high
 
 same-length-3 : tie.Need-same-length-3
 same-length-3 c = search needs
@@ -139,16 +156,15 @@ returns-5 : tie.Need-returns-5
 returns-5 c =
     let w = c .before .before in
     let l = w .before .before in
-    let s = l .before .before .before .before in
-    let v = s .before .before in
-    let o = v .before .before in
-    let a = Entry (o .before .before) .args in
+    let v = l .before in
+    let s = Sends v in
+    let a = Entry (One v .before .before) .args in
     let x = a .self in
     w .silent2 .ensures
     ∙ ap (writes x (v .waiting .result) (replicate (2 * x .seat .n) 0)) (s .send .ensures .2 (l .if4 .left))
     ∙ ap₂ (λ (y : Party) (bs : List ℕ). writes x y bs (a .out .now)) (next v)
     (sym (outbox-silent sha256 x 1 (sym (s .send .ensures .0) ∙ l .if4 .left)))
-    ∙ first o
+    ∙ first (One v)
 
 pub agree-bit-spec : {M : Type 1} → statement M
 agree-bit-spec =
@@ -163,8 +179,9 @@ agree-bit-spec =
     silent-requires
     same-length
     returns-3
-    waiting-requires
     send-requires
+    waiting-requires
+    after-requires
     same-length-2
     returns-4
     silent-requires-2

@@ -1,5 +1,4 @@
--- `party::Party::send` meets its contract: what the message gives is written where it has the agreed root, and the answer says whether the state is
--- the next one. Assumes nothing.
+-- `party::Party::send` meets its contract: what the message gives is written where it has the agreed root. Assumes nothing.
 use mathlib.Core.Path.{_≡_, refl, sym, ap, _∙_}
 use mathlib.Core.Bool.{Bool, true, false, true≢false}
 use mathlib.Core.List.{List}
@@ -15,11 +14,8 @@ use Rattle.merkle.specs.Shares.{same}
 use Rattle.commitment.specs.Commitment.{messageRoot, mailWith, Sending, sending, sent}
 use Rattle.commitment.proofs.Outcomes.{send-other, send-own}
 use Rattle.party.specs.State.{messageIn, happy}
-use Rattle.party.specs.Steps.{stepped}
-use Rattle.party.specs.declared.Reply.{Reply}
 use Rattle.party.proofs.Causes.{fit-open}
 use Rattle.party.proofs.Kept.{length-message}
-use Rattle.party.proofs.Outcomes.{writes-given}
 use Rattle.party.proofs.Party.send.Statement.{statement}
 use Rattle.party.proofs.Party.send.Tie as tie
 
@@ -41,9 +37,6 @@ slice-aggregate-send c = sym (kept (c .before .before .before .before))
 
 send-requires : tie.Need-send-requires
 send-requires c κs = search needs
-
-after-requires : tie.Need-after-requires
-after-requires c κs = search needs
 
 same-length : tie.Need-same-length
 same-length c = search needs
@@ -68,7 +61,7 @@ told false r bs out own other =
 returns : tie.Need-returns
 unfolding happy
 returns c =
-    let q = c .before .before .before in
+    let q = c .before .before in
     let st = q .before .before .before .before .before .before .before in
     let a = st .args in
     let x = a .self in
@@ -76,15 +69,9 @@ returns c =
     let out = a .out .now in
     let bs = mailWith sha256 (a .relays) (x .seat .n) (x .seat .t) (x .seat .own) m in
     let fine = fit-open x (st .pre) (length m) (kept st) in
-    let o = q .send .last .1 .1 .1 .1 .1 .1 .0 in
-    let k = told (same (messageRoot sha256 (x .seat .n) (x .seat .t) m) (x .root)) (sent (q .send .result) o) bs out
+    told (same (messageRoot sha256 (x .seat .n) (x .seat .t) m) (x .root)) (sent (q .send .result) (q .send .last .1 .1 .1 .1 .1 .1 .0)) bs out
     (λ h. q .send .ensures ∙ send-own sha256 (x .seat .n) (x .seat .t) (x .seat .own) m (a .relays) (x .root) out fine h)
-    (λ h. q .send .ensures ∙ send-other sha256 (x .seat .n) (x .seat .t) (x .seat .own) m (a .relays) (x .root) out fine h) in (
-      k .0,
-      λ h. ap (λ (y : Reply). stepped y o) (c .after .ensures)
-          ∙ writes-given x (a .next) bs out (q .send .result .answer) o (k .1 h),
-      k .2,
-    )
+    (λ h. q .send .ensures ∙ send-other sha256 (x .seat .n) (x .seat .t) (x .seat .own) m (a .relays) (x .root) out fine h)
 
 pub send-spec : {M : Type 1} → statement M
 send-spec =
@@ -93,6 +80,5 @@ send-spec =
     array-share-prefix-message
     slice-aggregate-send
     send-requires
-    after-requires
     same-length
     returns)

@@ -1,6 +1,7 @@
 -- `party::Party::take_shares` meets its contract: each return is one outcome of step 4, by the cause, by whether the party is
 -- happy, by what was taken from the inbox and by the answer of the packet writer. Assumes nothing.
 use mathlib.Core.Path.{_≡_, refl, sym, ap, ap₂, subst, _∙_}
+use mathlib.Core.Bool.{true}
 use mathlib.Core.List.{List, []}
 use Prim.Native.Nat.{ℕ, _+_, _-_}
 use native.Mathlib.Omega.{arith}
@@ -14,6 +15,7 @@ use Rattle.merkle.specs.Shares.{blank}
 use Rattle.packet.specs.Format.{hashes, packetOf}
 use Rattle.packet.specs.Answer.{writeOf}
 use Rattle.packet.proofs.Path.{padded as path-padded, path-there, length-hashes}
+use Rattle.commitment.specs.Commitment.{mailWith}
 use Rattle.party.specs.State.{messageIn, atSecond}
 use Rattle.party.specs.Steps.{inboxCause, Taken, takenBy, shareTaken, packetTaken, Stepped, gives, stepped, refused}
 use Rattle.party.specs.Steps.{writes, takeSharesOf}
@@ -70,34 +72,40 @@ root-long st = search needs
 held : (e : tie.Else1) → length (messageIn (X (Entry e))) ≡ X (Entry e) .len
 held e = length-message (X (Entry e)) (omega (arith, message-long (Entry e), fit e .short))
 
+-- sending, and the buffer after it
+abbrev Sends : tie.After-waiting → tie.After-send
+Sends v = v .before .before .before
+
+abbrev Left : tie.After-waiting → List ℕ
+Left v = Sends v .send .last .1 .1 .0
+
+abbrev Fine : tie.After-waiting → tie.Else1
+Fine v = Sends v .before .before .before
+
 -- the state that waits for the second inbox without a share
-next : (v : tie.After-waiting) → v .waiting .result ≡ Next (Entry (v .before .before)) []
+next : (v : tie.After-waiting) → v .waiting .result ≡ Next (Entry (Fine v)) []
 unfolding atSecond
 next v =
-    let e = v .before .before in
+    let e = Fine v in
     let x = X (Entry e) in
     v .waiting .ensures
     ∙ waiting-kept (x .seat) Second _ (messageIn x) _ (x .root) _ [] (x .len) 0 refl (sym (held e)) refl refl refl
 
--- a party that is not happy: what is sent goes by what was taken
+-- a party that is not happy: the buffer is as it was, and what is sent goes by what was taken
+abbrev Waits : tie.After-first-valid → tie.After-waiting
+Waits d = d .before .before .before
+
 abbrev E : tie.After-first-valid → tie.Else1
-E d = d .before .before .before .before .before .before .before .before .before .before
+E d = Fine (Waits d)
 
--- sending, which left the buffer as it was
-abbrev Sends : tie.After-first-valid → tie.After-send
-Sends d = d .before .before .before .before .before .before
-
-abbrev Left : tie.After-first-valid → List ℕ
-Left d = Sends d .send .last .1 .1 .1 .0
-
-left : (d : tie.After-first-valid) → Left d ≡ Out (Entry (E d))
-left d = Sends d .send .ensures .2 (d .before .before .if2 .left)
+left : (d : tie.After-first-valid) → Left (Waits d) ≡ Out (Entry (E d))
+left d = Sends (Waits d) .send .ensures .2 (d .before .before .if2 .left)
 
 taking : (d : tie.After-first-valid) → let st = Entry (E d) in
     takeSharesOf sha256 (X st) (S st) (Out st) ≡ writes (X st) (Next st (shareTaken (T st))) (packetTaken (X st) (T st)) (Out st)
 taking d =
     let st = Entry (E d) in
-    shares-taken sha256 (X st) (S st) (Out st) (fine (E d)) (sym (Sends d .send .ensures .0) ∙ d .before .before .if2 .left)
+    shares-taken sha256 (X st) (S st) (Out st) (fine (E d)) (sym (Sends (Waits d) .send .ensures .0) ∙ d .before .before .if2 .left)
 
 took : (d : tie.After-first-valid) (r : Placed) → d .first-valid .result ≡ r → TakenIs r (T (Entry (E d))) (S (Entry (E d)))
 took d r q = let st = Entry (E d) in subst (λ (y : Placed). TakenIs y (T st) (S st)) q (d .first-valid .ensures)
@@ -219,29 +227,35 @@ returns c =
     ap (λ (r : Reply). stepped r (Out st)) (c .refused .ensures)
     ∙ sym (shares-refused sha256 (X st) (S st) (Out st) (λ q. b .if1 .taken (k ∙ q)) ∙ ap (λ (i : ℕ). refused (X st) i (Out st)) (sym k))
 
-waiting-requires : tie.Need-waiting-requires
-waiting-requires c κs = fit (c .before) .short
-
 send-requires : tie.Need-send-requires
-send-requires c κs = fit (c .before .before .before)
+send-requires c κs = fit (c .before .before)
+
+waiting-requires : tie.Need-waiting-requires
+waiting-requires c κs = fit (c .before .before .before .before .before) .short
+
+after-requires : tie.Need-after-requires
+after-requires c κs = search needs
 
 same-length : tie.Need-same-length
 same-length c = search needs
 
 returns-2 : tie.Need-returns-2
 returns-2 c =
-    let s = c .before .before .before .before in
-    let v = s .before .before in
-    let e = v .before .before in
+    let t = c .before in
+    let v = t .before in
+    let s = Sends v in
+    let e = Fine v in
     let st = Entry e in
     let x = X st in
-    s .send .ensures .1 (c .if2 .taken)
+    let bs = mailWith sha256 true (x .seat .n) (x .seat .t) (x .seat .own) (messageIn x) in
+    ap (λ (r : Reply). stepped r (Left v)) (c .after .ensures)
+    ∙ writes-given x (v .waiting .result) bs (Out st) (s .send .result .answer) (Left v) (s .send .ensures .1 (t .if2 .taken))
     ∙ ap₂ (λ (y : Party) (bs : List ℕ). writes x y bs (Out st)) (next v) (sym (relay-mail sha256 x))
-    ∙ sym (shares-happy sha256 x (S st) (Out st) (fine e) (sym (s .send .ensures .0) ∙ c .if2 .taken))
+    ∙ sym (shares-happy sha256 x (S st) (Out st) (fine e) (sym (s .send .ensures .0) ∙ t .if2 .taken))
 
 first-valid-requires : tie.Need-first-valid-requires
 first-valid-requires c κs =
-    let e = c .before .before .before .before .before .before .before .before .before in
+    let e = Fine (c .before .before) in
     let f = fit e in
     (f .low, f .high, f .first, f .last, inbox-sound 4 (X (Entry e)) (S (Entry e)) (fine e) .1, root-long (Entry e))
 
@@ -259,7 +273,7 @@ returns-3 c =
     let d = c .before .before in
     let st = Entry (E d) in
     let x = X st in
-    ap₂ {C = Stepped} (λ (y : Party) (o : List ℕ). gives y (answer.Sent 0) o) (next (Sends d .before .before)) (left d)
+    ap₂ {C = Stepped} (λ (y : Party) (o : List ℕ). gives y (answer.Sent 0) o) (next (Waits d)) (left d)
     ∙ sym (taking d
     ∙ ap (λ (t : Taken). writes x (Next st (shareTaken t)) (packetTaken x t) (Out st))
     (taken-none (T st) (S st) (took d Nowhere (c .enum-told .given .1)))
@@ -303,20 +317,20 @@ part-write-end c = omega (arith, got (K (P c)) .inside)
 write-requires : tie.Need-write-requires
 write-requires c κs = search needs
 
-after-requires : tie.Need-after-requires
-after-requires c κs = search needs
+after-requires-2 : tie.Need-after-requires-2
+after-requires-2 c κs = search needs
 
 same-length-3 : tie.Need-same-length-3
 same-length-3 c =
     let w = c .before .before .before in
-    w .write .kept .1 .1 .1 .1 .1 .0 ∙ Sends (D (K (P (W w)))) .send .kept .1 .1 .1 .0
+    w .write .kept .1 .1 .1 .1 .1 .0 ∙ Sends (Waits (D (K (P (W w))))) .send .kept .1 .1 .0
 
 returns-4 : tie.Need-returns-4
 returns-4 c =
     let w = c .before .before .before in
     let k = K (P (W w)) in
     let st = Entry (E (D k)) in
-    ap (λ (r : Reply). stepped r (O w)) (c .after .ensures)
+    ap (λ (r : Reply). stepped r (O w)) (c .after2 .ensures)
     ∙ writes-given (X st) (W w .waiting2 .result) (Packet k) (Out st) (w .write .result) (O w) (wrote w)
     ∙ ap (λ (y : Party). writes (X st) y (Packet k) (Out st)) (holds (W w))
     ∙ sym (goal k)
@@ -328,8 +342,9 @@ take-shares-spec =
     inbox-cause-requires
     refused-requires
     returns
-    waiting-requires
     send-requires
+    waiting-requires
+    after-requires
     same-length
     returns-2
     first-valid-requires
@@ -349,6 +364,6 @@ take-shares-spec =
     part-write-start
     part-write-end
     write-requires
-    after-requires
+    after-requires-2
     same-length-3
     returns-4)
