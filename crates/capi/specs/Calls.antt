@@ -30,7 +30,7 @@ abbrev pub versionOf : ℕ → ℕ → ℕ → ℕ
 versionOf major minor patch = major * 2 ^ 16 + minor * 2 ^ 8 + patch
 
 abbrev pub libraryVersion : ℕ
-libraryVersion = versionOf 1 1 0
+libraryVersion = versionOf 2 0 0
 
 -- a cause (0: accepted) in the upper 32 bits, a value in the lower
 unfoldable pub packed : ℕ → ℕ → ℕ

@@ -27,9 +27,9 @@ use party::Stage;
 use state_bytes::LENGTH;
 
 // The version of the library.
-const MAJOR: u32 = 1;
+const MAJOR: u32 = 2;
 
-const MINOR: u32 = 1;
+const MINOR: u32 = 0;
 
 const PATCH: u32 = 0;
 

@@ -1,10 +1,16 @@
 -- The definitions on the plan that document 01 works out, and on plans next to it: its parts, one book, one packet, and the order of the
--- causes. By computation. Assumes nothing.
-use mathlib.Core.Path.{_≡_, refl}
+-- causes. By computation, and for messages at the greatest length by laws on entries. Assumes nothing.
+use mathlib.Core.Path.{_≡_, refl, sym, ap, _∙_}
+use mathlib.Core.Bool.{Bool, true, false, cond, not, _&&_}
 use mathlib.Core.List.{List, [], _∷_, _++_}
-use Prim.Native.Nat.{ℕ, _+_, _/_, _%_}
-use lib.ListN.{take, drop, replicate}
-use Rattle.limits.specs.Limits.{maxMessage, parties, numbered, groupCause}
+use mathlib.Core.Option.{some}
+use Prim.Native.Nat.{ℕ, _+_, _/_, _%_, _≤_}
+use native.Mathlib.Omega.{arith}
+use borrow.Author.Tests.{le-ltb, le-leb, lt-leb}
+use lib.Dec.{leb, eqb}
+use lib.ListN.{length, take, drop, replicate, length-append}
+use lib.Seq.{take-append-seam, drop-append-seam, drop-drop}
+use Rattle.limits.specs.Limits.{maxMessage, maxPlan, parties, numbered, groupCause}
 use Rattle.buffer.specs.Entries.{size, body, rest}
 use Rattle.plan.specs.Layout.{every, walk, skipEntry, partyEntry, skipBlock, packetFrom, fieldBytes, rootIn, bitIn, goodIn, exchangeIn, endOf, laidOut}
 use Rattle.plan.specs.Plan.{planCause, planOf}
@@ -53,18 +59,51 @@ pub bad-receiver : planCause (take 13 worked ++ (0x00 ∷ 0x04 ∷ 0x00 ∷ 0x00
 unfolding parties groupCause size rest skipEntry skipBlock every walk fieldBytes endOf laidOut planCause
 bad-receiver = refl
 
-abbrev over : ℕ
-over = maxMessage + 1
+-- one party with the message m, and bytes behind it
+abbrev alone : List ℕ → List ℕ → List ℕ
+alone m r = 0x01 ∷ 0x00 ∷ 0x00 ∷ 0x00 ∷ 0x01 ∷ length m / 256 ∷ length m % 256 ∷ (m ++ r)
 
--- one party with a book of a byte more than may be is cause 4; with a byte left over it is cause 13, with t 1 cause 2
-pub long-book : planCause (0x01 ∷ 0x00 ∷ 0x00 ∷ 0x00 ∷ 0x01 ∷ over / 256 ∷ over % 256 ∷ replicate over 0) ≡ 4
-unfolding parties groupCause size rest skipEntry skipBlock every numbered body partyEntry walk fieldBytes endOf laidOut planCause
-long-book = refl
+module _ (m r : List ℕ) where
+  abbrev entry : List ℕ
+  entry = length m / 256 ∷ length m % 256 ∷ (m ++ r)
 
-pub long-left-over : planCause (0x01 ∷ 0x00 ∷ 0x00 ∷ 0x00 ∷ 0x01 ∷ over / 256 ∷ over % 256 ∷ replicate (over + 1) 0) ≡ 13
-unfolding parties groupCause size rest skipEntry skipBlock every numbered body partyEntry walk fieldBytes endOf laidOut planCause
-long-left-over = refl
+  stated : size entry ≡ length m
+  unfolding size
+  stated = omega arith
 
-pub long-faults : planCause (0x01 ∷ 0x01 ∷ 0x00 ∷ 0x00 ∷ 0x01 ∷ over / 256 ∷ over % 256 ∷ replicate over 0) ≡ 2
+  message : body entry ≡ m
+  unfolding body
+  message = ap (λ (k : ℕ). take k (m ++ r)) stated ∙ take-append-seam m r
+
+  behind : skipEntry entry ≡ some r
+  unfolding skipEntry rest
+  behind =
+      rw (le-ltb (length entry) (2 + size entry) (omega (arith, stated, length-append m r)))
+      (ap some (sym (drop-drop (size entry) 2 entry) ∙ ap (λ (k : ℕ). drop k (m ++ r)) stated ∙ drop-append-seam m r))
+
+  -- whatever the message, its layout is judged first and then its length
+  judged : length (alone m r) ≤ maxPlan
+      → planCause (alone m r) ≡ cond (not (eqb (length r) 0)) 13 (cond (leb (length m) maxMessage) 0 4)
+  unfolding parties groupCause size every numbered partyEntry walk fieldBytes endOf laidOut planCause
+  judged fits =
+      rw (le-ltb (length (alone m r)) 2 (omega arith), le-ltb maxPlan (length (alone m r)) fits, le-ltb (length (alone m r)) 5 (omega arith), behind, message)
+      (go (eqb (length r) 0) (leb (length m) maxMessage))
+    where
+      go : (a b : Bool) → _≡_ {A = ℕ} (cond (not a) 13 (cond (not (b && true)) 4 0)) (cond (not a) 13 (cond b 0 4))
+      go true true = refl
+      go true false = refl
+      go false b = refl
+
+-- one party with a message of the greatest length is taken; with a byte more it is cause 4; with a byte left over that is cause 13, with t 1 cause 2
+pub longest-message : (m : List ℕ) → length m ≡ maxMessage → planCause (alone m []) ≡ 0
+longest-message m e = judged m [] (omega (arith, length-append m [])) ∙ rw (le-leb (length m) maxMessage (omega arith))
+
+pub long-message : (m : List ℕ) → length m ≡ maxMessage + 1 → planCause (alone m []) ≡ 4
+long-message m e = judged m [] (omega (arith, length-append m [])) ∙ rw (lt-leb (length m) maxMessage (omega arith))
+
+pub long-left-over : (m : List ℕ) → length m ≡ maxMessage + 1 → planCause (alone m (0x00 ∷ [])) ≡ 13
+long-left-over m e = judged m (0x00 ∷ []) (omega (arith, length-append m (0x00 ∷ [])))
+
+pub long-faults : (m : List ℕ) → length m ≡ maxMessage + 1 → planCause (0x01 ∷ 0x01 ∷ drop 2 (alone m [])) ≡ 2
 unfolding parties groupCause planCause
-long-faults = refl
+long-faults m e = rw (le-ltb (length (alone m [])) 2 (omega arith))

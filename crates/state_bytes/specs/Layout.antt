@@ -15,7 +15,7 @@ use Rattle.party.specs.declared.Party.{Party}
 
 -- the version of this layout: every change of it raises the number
 abbrev pub layoutVersion : ℕ
-layoutVersion = 1
+layoutVersion = 2
 
 -- the version, n, t, the own number and the stage in a byte each, and two lengths of two bytes; then the agreed root, the message and the
 -- relayed share

@@ -17,7 +17,7 @@ use party::Seat;
 use party::Stage;
 
 // The version of the layout, with which a state's bytes begin.
-const VERSION: u8 = 1;
+const VERSION: u8 = 2;
 
 // Where the agreed root begins, behind the numbers.
 const ROOT: usize = 9;
