@@ -1,3 +1,4 @@
 pub mod Terms
 pub mod Claims
 pub mod ReadAgain
+pub mod LongestBook
