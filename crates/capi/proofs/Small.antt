@@ -110,7 +110,7 @@ module _ (H : List ℕ → List ℕ) (wide : (s : List ℕ) → length (H s) ≡
       one false = omega arith
 
   -- step 3
-  outbox-small : Fit x → (bit : ℕ) → length (outboxOf H x bit) ≤ maxOutbox
+  pub outbox-small : Fit x → (bit : ℕ) → length (outboxOf H x bit) ≤ maxOutbox
   outbox-small f bit =
       subst (λ (l : List ℕ). length l ≤ maxOutbox) (bit-same H x bit)
       (outbox-fits H wide (x .seat) (messageIn x) (x .root) (coded x f) bit)
@@ -126,7 +126,7 @@ module _ (H : List ℕ → List ℕ) (wide : (s : List ℕ) → length (H s) ≡
   ]
 
   -- step 4
-  relay-small : Fit x → (inbox : List ℕ) → length (relayOf H x inbox) ≤ maxPacket
+  pub relay-small : Fit x → (inbox : List ℕ) → length (relayOf H x inbox) ≤ maxPacket
   relay-small f inbox =
       subst (λ (l : List ℕ). length l ≤ maxPacket) (first-same H x inbox)
       (relay-fits H wide (x .seat) (messageIn x) (x .root) (coded x f) (f .first) (f .last) inbox)

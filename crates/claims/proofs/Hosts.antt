@@ -79,7 +79,7 @@ outcome n t own m s z = go (ℕ-discrete (openOf sha256 n t own m .cause) 0) (de
     go (yes e) (no a) (yes b) = short-root e (omega arith) b
     go (yes e) (no a) (no b) = taken e (omega arith) (omega arith)
 
-upper : (k v : ℕ) → v < 2 ^ 32 → packed k v / 2 ^ 32 ≡ k
+pub upper : (k v : ℕ) → v < 2 ^ 32 → packed k v / 2 ^ 32 ≡ k
 unfolding packed
 upper k v h = omega (arith, h)
 

@@ -5,3 +5,4 @@ pub mod Books
 pub mod Parties
 pub mod Hosts
 pub mod ReadAgain
+pub mod LongestBook

@@ -197,16 +197,16 @@ other : (k : ℕ) (b : Bool) → eqb k 9 ≡ false → eqb (when k b) 9 ≡ fals
 other k true e = e
 other k false e = refl
 
+pub wrong-not-nine : (x : Party) (c : Call) → eqb (wrong x c) 9 ≡ false
+wrong-not-nine x (agreeRoot z) = other 7 (not (eqb (length z) 32)) refl
+wrong-not-nine x (agreeBit bit out) = other 7 (ltb 1 bit) refl
+wrong-not-nine x (takeShares inbox out) = other 8 (not (fills (x .seat .n) inbox)) refl
+wrong-not-nine x (takeRelays inbox out) = other 8 (not (hasEnded (x .stage) || fills (x .seat .n) inbox)) refl
+
 not-nine : (x : Party) (c : Call) → eqb (judged (stepOf c) x c) 9 ≡ false
 unfolding stateCause
-not-nine x c = go (broken x) (not (eqb (turnOf (x .stage)) (stepOf c))) (wrong x c) (argument c)
+not-nine x c = go (broken x) (not (eqb (turnOf (x .stage)) (stepOf c))) (wrong x c) (wrong-not-nine x c)
   where
-    argument : (c : Call) → eqb (wrong x c) 9 ≡ false
-    argument (agreeRoot z) = other 7 (not (eqb (length z) 32)) refl
-    argument (agreeBit bit out) = other 7 (ltb 1 bit) refl
-    argument (takeShares inbox out) = other 8 (not (fills (x .seat .n) inbox)) refl
-    argument (takeRelays inbox out) = other 8 (not (hasEnded (x .stage) || fills (x .seat .n) inbox)) refl
-
     go : (a b : Bool) (k : ℕ) → eqb k 9 ≡ false → eqb (cond (not (eqb (cond a 5 (cond b 6 0)) 0)) (cond a 5 (cond b 6 0)) k) 9 ≡ false
     go true b k e = refl
     go false true k e = refl

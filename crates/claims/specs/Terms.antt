@@ -8,7 +8,7 @@ use mathlib.Core.Option.{Option, none, some}
 use Prim.Native.Nat.{ℕ, _+_, _-_, _*_, _/_, _^_}
 use lib.Dec.{leb, ltb, eqb}
 use lib.ListN.{length, take}
-use Rattle.limits.specs.Limits.{parties}
+use Rattle.limits.specs.Limits.{maxMessage, parties}
 use Rattle.buffer.specs.Splice.{tabulate}
 use Rattle.buffer.specs.Entries.{fills, bodies}
 use Rattle.buffer.specs.Given.{Given, gave, written}
@@ -18,8 +18,12 @@ use Rattle.erasure.specs.Rebuild.{Recovered, cause, message}
 use Rattle.sha256.specs.Sha256.{sha256}
 use Rattle.merkle.specs.Tree.{shape, sides, folded}
 use Rattle.packet.specs.Format.{Reading, silence, unreadable, shared}
+use Rattle.commitment.specs.Rooms.{maxPacket, maxOutbox}
 use Rattle.party.specs.State.{Result, nothing, settled, resultBytes, resultIn, hasEnded, messageIn, atBit, atFirst, atSecond, atEnd, happy}
 use Rattle.party.specs.Steps.{openOf, Stepped, outboxOf, relayOf, heldOf, resultOf}
+use Rattle.party.specs.declared.Outcome.the-variants.{Nothing, Message}
+use Rattle.party.specs.declared.Stage.{Stage}
+use Rattle.party.specs.declared.Stage.the-variants.{Root, Bit, First, Second, Ended}
 use Rattle.party.specs.declared.Party.{Party}
 use Rattle.agreement.specs.Calls.{Call, agreeRoot, agreeBit, takeShares, takeRelays, Event, did, hashed, lengths, resultAfter}
 use Rattle.agreement.specs.Agreement.{Good, sumOver}
@@ -59,6 +63,13 @@ due x (agreeBit bit out) = outboxOf sha256 x bit
 due x (takeShares inbox out) = relayOf sha256 x inbox
 due x (takeRelays inbox out) = resultBytes (resultOf sha256 x inbox)
 
+-- the room for what a step writes: nothing, an outbox, a relay, a message
+abbrev pub roomFor : Call → ℕ
+roomFor (agreeRoot z) = 0
+roomFor (agreeBit bit out) = maxOutbox
+roomFor (takeShares inbox out) = maxPacket
+roomFor (takeRelays inbox out) = maxMessage
+
 abbrev pub next : Party → Call → Party
 next x (agreeRoot z) = atBit (x .seat) (messageIn x) z
 next x (agreeBit bit out) = cond (eqb bit 0) (atEnd (x .seat) nothing) (atFirst (x .seat) (messageIn x) (x .root))
@@ -76,6 +87,15 @@ outcome x (agreeRoot z) = none
 outcome x (agreeBit bit out) = none
 outcome x (takeShares inbox out) = none
 outcome x (takeRelays inbox out) = some (resultOf sha256 x inbox)
+
+-- the length of a result that is a message; 0: there is none
+abbrev pub resultLength : Stage → ℕ
+resultLength Root = 0
+resultLength Bit = 0
+resultLength First = 0
+resultLength Second = 0
+resultLength (Ended Nothing) = 0
+resultLength (Ended (Message l)) = l
 
 -- a tool that writes: turned away for a cause, or these bytes in the buffer (cause 9 where it is shorter)
 abbrev pub unless : ℕ → List ℕ → List ℕ → Given
