@@ -182,7 +182,7 @@ abbrev pub idle : List Good
 idle = Q2 ∷ Q3 ∷ []
 
 -- what holds of both holds of all
-each : (A B : Good) (P : Good → Type 0) → P A → P B → (D : Good) → List·Memᴰ D (A ∷ B ∷ []) → P D
+pub each : (A B : Good) (P : Good → Type 0) → P A → P B → (D : Good) → List·Memᴰ D (A ∷ B ∷ []) → P D
 each A B P a b D h = go (List·Memᴰ·cases-cons h)
   where
     last : (D ≡ B) ⊎ List·Memᴰ D [] → P D

@@ -71,11 +71,11 @@ module _ (m r : List ℕ) where
   unfolding size
   stated = omega arith
 
-  message : body entry ≡ m
+  pub message : body entry ≡ m
   unfolding body
   message = ap (λ (k : ℕ). take k (m ++ r)) stated ∙ take-append-seam m r
 
-  behind : skipEntry entry ≡ some r
+  pub behind : skipEntry entry ≡ some r
   unfolding skipEntry rest
   behind =
       rw (le-ltb (length entry) (2 + size entry) (omega (arith, stated, length-append m r)))

@@ -89,7 +89,7 @@ module _ (s : List ℕ) where
           plan-long h =
               turned 4 (rw (le-ltb (length s) 2 two, group, le-ltb maxPlan (length s) fits, laid, h)) (λ e. omega arith)
 
-          fine : booksFit (nIn s) (goodIn s) (booksIn s) ≡ true → planCause s ≡ 0
+          pub fine : booksFit (nIn s) (goodIn s) (booksIn s) ≡ true → planCause s ≡ 0
           unfolding planCause
           fine h = rw (le-ltb (length s) 2 two, group, le-ltb maxPlan (length s) fits, laid, h)
 
