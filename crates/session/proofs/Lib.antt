@@ -7,3 +7,4 @@ pub mod States
 pub mod Sums
 pub mod Text
 pub mod Shown
+pub mod Longest
