@@ -250,9 +250,15 @@ module _ (H : List ℕ → List ℕ) where
         subst (λ (v : Event). Chain (v .reply .state) es fin) w (h .2),
       )
 
-  -- an accepted call on a party that holds a result: it gives that result, the state holds it again, and nothing is sent or checked
+  -- an accepted step 5 gives a result, and the state holds it
+  ends : (x : Party) (inbox out : List ℕ) → made H x (takeRelays inbox out) .cause ≡ 0 → let r = made H x (takeRelays inbox out) in
+      (r .result ≡ some (resultOf H x inbox)) × (resultIn (r .state) ≡ some (resultOf H x inbox))
+  ends x inbox out a =
+      let d = did5 x inbox out a .1 in
+      (ap (λ (s : Stepped). s .result) d, ap (λ (s : Stepped). resultIn (s .state)) d ∙ result-end (x .seat) (resultOf H x inbox))
+
+  -- an accepted call on a party that holds a result: the state holds it again, and nothing is sent or checked
   record Again (n : ℕ) (x : Party) (c : Call) (r : Result) : Type 0 where
-    given : made H x c .result ≡ some r
     holds : resultIn (made H x c .state) ≡ some r
     unsent : (bs : List ℕ) → sentIn n c bs ≡ 0
     unchecked : checkedIn H x c ≡ []
@@ -263,11 +269,9 @@ module _ (H : List ℕ → List ℕ) where
   again n x (agreeBit bit out) r h a = let e = in-turn x (agreeBit bit out) a in absurd (omega (arith, e, holds-ended x r h .1))
   again n x (takeShares inbox out) r h a = let e = in-turn x (takeShares inbox out) a in absurd (omega (arith, e, holds-ended x r h .1))
   again n x (takeRelays inbox out) r h a =
-      let d = did5 x inbox out a .1 in
       let same : resultOf H x inbox ≡ r = rw h in
       record {
-        given = ap (λ (s : Stepped). s .result) d ∙ ap {B = Option Result} some same;
-        holds = ap (λ (s : Stepped). resultIn (s .state)) d ∙ result-end (x .seat) (resultOf H x inbox) ∙ ap {B = Option Result} some same;
+        holds = ends x inbox out a .1 ∙ ap {B = Option Result} some same;
         unsent = λ bs. refl;
         unchecked = rw (holds-ended x r h .0);
       }
@@ -287,15 +291,12 @@ module _ (H : List ℕ → List ℕ) where
       (s .0, rw (g .unsent (writtenBy d), s .1), rw (none, s .2))
 
   -- so every accepted step 5 gave the result that is held at the end
-  ends : (x : Party) (c : Call) → made H x c .cause ≡ 0 → stepOf c ≡ 5
+  gave : (x : Party) (c : Call) → made H x c .cause ≡ 0 → stepOf c ≡ 5
       → (r : Result) × (made H x c .result ≡ some r) × (resultIn (made H x c .state) ≡ some r)
-  ends x (agreeRoot z) a e = absurd (omega arith)
-  ends x (agreeBit bit out) a e = absurd (omega arith)
-  ends x (takeShares inbox out) a e = absurd (omega arith)
-  ends x (takeRelays inbox out) a e =
-      let d = did5 x inbox out a .1 in
-      let r = resultOf H x inbox in
-      (r, ap (λ (s : Stepped). s .result) d, ap (λ (s : Stepped). resultIn (s .state)) d ∙ result-end (x .seat) r)
+  gave x (agreeRoot z) a e = absurd (omega arith)
+  gave x (agreeBit bit out) a e = absurd (omega arith)
+  gave x (takeShares inbox out) a e = absurd (omega arith)
+  gave x (takeRelays inbox out) a e = let g = ends x inbox out a in (resultOf H x inbox, g .0, g .1)
 
   pub gave-held : (x fin : Party) (es : List Event) (r : Result) → Chain x es fin → resultIn fin ≡ some r
       → (e : Event) → List·Memᴰ e es → stepOf (e .call) ≡ 5 → e .reply .result ≡ some r
@@ -306,6 +307,6 @@ module _ (H : List ℕ → List ℕ) where
       go (inr k) rest = rest k five
       go (inl q) rest =
           let c = d .call in
-          let k = ends x c (subst (λ (v : Event). v .reply .cause ≡ 0) (h .0) (h .1)) (sym (ap (λ (v : Event). stepOf (v .call)) q) ∙ five) in
+          let k = gave x c (subst (λ (v : Event). v .reply .cause ≡ 0) (h .0) (h .1)) (sym (ap (λ (v : Event). stepOf (v .call)) q) ∙ five) in
           let held : resultIn (d .reply .state) ≡ some (k .0) = ap (λ (v : Event). resultIn (v .reply .state)) (h .0) ∙ k .2 in
           ap (λ (v : Event). v .reply .result) (q ∙ h .0) ∙ k .1 ∙ sym (still 0 (d .reply .state) fin es (k .0) held (h .2) .0) ∙ f
