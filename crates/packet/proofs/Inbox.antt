@@ -6,37 +6,17 @@ use mathlib.Core.List.{List, [], _∷_, _++_, append-nil, append-assoc}
 use Prim.Native.Nat.{ℕ, zero, suc, _+_, _*_, _/_, _%_, _<_, _≤_}
 use native.Mathlib.Omega.{arith}
 use borrow.Author.Tests.{le-ltb, eqb-true}
-use lib.ListN.{length, take, drop, length-append, take-append-drop}
-use lib.Seq.{take-append-seam, drop-append-seam, drop-drop, length-take-le}
+use lib.ListN.{length, take, drop, take-append-drop}
+use lib.Seq.{drop-drop, length-take-le}
 use Rattle.buffer.specs.Entries.{size, body, rest, fills, bodies}
-use Rattle.buffer.proofs.Entries.{whole}
+use Rattle.buffer.proofs.Entries.{whole, entry-body, entry-rest, entry-whole}
 use Rattle.packet.specs.Format.{entryOf}
 use Rattle.buffer.specs.Bounds.{Bytes}
 use Rattle.buffer.proofs.Bounds.{rest-bytes}
 use Rattle.packet.specs.Inbox.{inboxOf}
 
--- an entry, and bytes behind it
-module _ (p r : List ℕ) where
-  stated : size (entryOf p ++ r) ≡ length p
-  unfolding size entryOf
-  stated = omega arith
-
-  entry-body : body (entryOf p ++ r) ≡ p
-  unfolding body entryOf
-  entry-body = ap (λ (k : ℕ). take k (p ++ r)) stated ∙ take-append-seam p r
-
-  entry-rest : rest (entryOf p ++ r) ≡ r
-  unfolding rest entryOf
-  entry-rest =
-      sym (drop-drop (size (entryOf p ++ r)) 2 (entryOf p ++ r))
-      ∙ ap (λ (k : ℕ). drop k (p ++ r)) stated ∙ drop-append-seam p r
-
-  entry-whole : 2 + size (entryOf p ++ r) ≤ length (entryOf p ++ r)
-  unfolding entryOf
-  entry-whole = omega (arith, stated, length-append p r)
-
 pub inbox-fills : (ps : List (List ℕ)) → fills (length ps) (inboxOf ps) ≡ true
-unfolding fills inboxOf
+unfolding fills inboxOf entryOf
 inbox-fills [] = refl
 inbox-fills (p ∷ ps) =
     let s : List ℕ = entryOf p ++ inboxOf ps in
@@ -44,7 +24,7 @@ inbox-fills (p ∷ ps) =
     (ap (fills (length ps)) (entry-rest p (inboxOf ps)) ∙ inbox-fills ps)
 
 pub inbox-bodies : (ps : List (List ℕ)) → bodies (length ps) (inboxOf ps) ≡ ps
-unfolding bodies inboxOf
+unfolding bodies inboxOf entryOf
 inbox-bodies [] = refl
 inbox-bodies (p ∷ ps) =
     ap₂ {C = List (List ℕ)} (λ x xs. x ∷ xs) (entry-body p (inboxOf ps))

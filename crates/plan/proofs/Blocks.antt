@@ -1,5 +1,5 @@
 -- Laws of an entry and of a bad party's block at an offset: one for each case. Assumes nothing.
-use mathlib.Core.Path.{_≡_}
+use mathlib.Core.Path.{_≡_, ap}
 use mathlib.Core.Bool.{true, false}
 use mathlib.Core.List.{List, []}
 use mathlib.Core.Option.{none, some}
@@ -10,7 +10,8 @@ use lib.ListN.{length, drop, length-drop}
 use lib.Seq.{drop-drop}
 use Rattle.limits.specs.Limits.{numbered}
 use Rattle.buffer.specs.Entries.{size, body}
-use Rattle.buffer.proofs.Entries.{rest-drop}
+use Rattle.buffer.proofs.Entries.{rest-drop, entry, entry-rest}
+use Rattle.buffer.proofs.Entries as entries
 use Rattle.plan.specs.Layout.{mapWidth, names, member, within, orEmpty, skipEntry, skipEntries, partyEntry, skipBlock, blockEntry, skipBlocks, packetFrom}
 
 module _ (at : ℕ) (s : List ℕ) where
@@ -25,6 +26,11 @@ module _ (at : ℕ) (s : List ℕ) where
   entry-whole h =
       let g : 2 + size (drop at s) ≤ length (drop at s) = simp length-drop h in
       rw (le-ltb (length (drop at s)) (2 + size (drop at s)) g, rest-drop)
+
+-- an entry as it is written
+pub entry-skipped : (m r : List ℕ) → skipEntry (entry m r) ≡ some r
+unfolding skipEntry
+entry-skipped m r = rw (le-ltb (length (entry m r)) (2 + size (entry m r)) (entries.entry-whole m r)) (ap some (entry-rest m r))
 
 -- a party's entry
 module _ (n map q : ℕ) (s : List ℕ) where

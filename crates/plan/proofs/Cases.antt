@@ -1,19 +1,19 @@
 -- The definitions on the plan that document 01 works out, and on plans next to it: its parts, one book, one packet, and the order of the
 -- causes. By computation, and for messages at the greatest length by laws on entries. Assumes nothing.
-use mathlib.Core.Path.{_≡_, refl, sym, ap, _∙_}
+use mathlib.Core.Path.{_≡_, refl, _∙_}
 use mathlib.Core.Bool.{Bool, true, false, cond, not, _&&_}
 use mathlib.Core.List.{List, [], _∷_, _++_}
-use mathlib.Core.Option.{some}
-use Prim.Native.Nat.{ℕ, _+_, _/_, _%_, _≤_}
+use Prim.Native.Nat.{ℕ, _+_, _≤_}
 use native.Mathlib.Omega.{arith}
 use borrow.Author.Tests.{le-ltb, le-leb, lt-leb}
 use lib.Dec.{leb, eqb}
 use lib.ListN.{length, take, drop, replicate, length-append}
-use lib.Seq.{take-append-seam, drop-append-seam, drop-drop}
 use Rattle.limits.specs.Limits.{maxMessage, maxPlan, parties, numbered, groupCause}
 use Rattle.buffer.specs.Entries.{size, body, rest}
+use Rattle.buffer.proofs.Entries.{entry, entry-body}
 use Rattle.plan.specs.Layout.{every, walk, skipEntry, partyEntry, skipBlock, packetFrom, fieldBytes, rootIn, bitIn, goodIn, exchangeIn, endOf, laidOut}
 use Rattle.plan.specs.Plan.{planCause, planOf}
+use Rattle.plan.proofs.Blocks.{entry-skipped}
 
 -- n 3, t 1, parties 1 and 2 good with the same book, party 3 silent in both exchanges
 abbrev worked : List ℕ
@@ -61,38 +61,20 @@ bad-receiver = refl
 
 -- one party with the message m, and bytes behind it
 abbrev alone : List ℕ → List ℕ → List ℕ
-alone m r = 0x01 ∷ 0x00 ∷ 0x00 ∷ 0x00 ∷ 0x01 ∷ length m / 256 ∷ length m % 256 ∷ (m ++ r)
+alone m r = 0x01 ∷ 0x00 ∷ 0x00 ∷ 0x00 ∷ 0x01 ∷ entry m r
 
-module _ (m r : List ℕ) where
-  abbrev entry : List ℕ
-  entry = length m / 256 ∷ length m % 256 ∷ (m ++ r)
-
-  stated : size entry ≡ length m
-  unfolding size
-  stated = omega arith
-
-  pub message : body entry ≡ m
-  unfolding body
-  message = ap (λ (k : ℕ). take k (m ++ r)) stated ∙ take-append-seam m r
-
-  pub behind : skipEntry entry ≡ some r
-  unfolding skipEntry rest
-  behind =
-      rw (le-ltb (length entry) (2 + size entry) (omega (arith, stated, length-append m r)))
-      (ap some (sym (drop-drop (size entry) 2 entry) ∙ ap (λ (k : ℕ). drop k (m ++ r)) stated ∙ drop-append-seam m r))
-
-  -- whatever the message, its layout is judged first and then its length
-  judged : length (alone m r) ≤ maxPlan
-      → planCause (alone m r) ≡ cond (not (eqb (length r) 0)) 13 (cond (leb (length m) maxMessage) 0 4)
-  unfolding parties groupCause size every numbered partyEntry walk fieldBytes endOf laidOut planCause
-  judged fits =
-      rw (le-ltb (length (alone m r)) 2 (omega arith), le-ltb maxPlan (length (alone m r)) fits, le-ltb (length (alone m r)) 5 (omega arith), behind, message)
-      (go (eqb (length r) 0) (leb (length m) maxMessage))
-    where
-      go : (a b : Bool) → _≡_ {A = ℕ} (cond (not a) 13 (cond (not (b && true)) 4 0)) (cond (not a) 13 (cond b 0 4))
-      go true true = refl
-      go true false = refl
-      go false b = refl
+-- whatever the message, its layout is judged first and then its length
+judged : (m r : List ℕ) → length (alone m r) ≤ maxPlan
+    → planCause (alone m r) ≡ cond (not (eqb (length r) 0)) 13 (cond (leb (length m) maxMessage) 0 4)
+unfolding parties groupCause size every numbered partyEntry walk fieldBytes endOf laidOut planCause
+judged m r fits =
+    rw (le-ltb (length (alone m r)) 2 (omega arith), le-ltb maxPlan (length (alone m r)) fits, le-ltb (length (alone m r)) 5 (omega arith), entry-skipped m r, entry-body m r)
+    (go (eqb (length r) 0) (leb (length m) maxMessage))
+  where
+    go : (a b : Bool) → _≡_ {A = ℕ} (cond (not a) 13 (cond (not (b && true)) 4 0)) (cond (not a) 13 (cond b 0 4))
+    go true true = refl
+    go true false = refl
+    go false b = refl
 
 -- one party with a message of the greatest length is taken; with a byte more it is cause 4; with a byte left over that is cause 13, with t 1 cause 2
 pub longest-message : (m : List ℕ) → length m ≡ maxMessage → planCause (alone m []) ≡ 0

@@ -12,13 +12,14 @@ use lib.ListN.{length, getD, replicate}
 use Rattle.limits.specs.Limits.{maxMessage, maxPlan, parties, numbered, groupCause}
 use Rattle.buffer.specs.Bounds.{Bytes}
 use Rattle.buffer.specs.Entries.{size}
+use Rattle.buffer.proofs.Entries.{entry-body}
 use Rattle.merkle.proofs.Judged.{same-refl}
 use Rattle.packet.specs.Format.{entryOf}
 use Rattle.party.specs.State.{settled}
 use Rattle.agreement.specs.Agreement.{Clean}
 use Rattle.agreement.proofs.Instances.{each}
 use Rattle.plan.specs.Layout.{unnamed, every, walk, skipEntries, partyEntry, booksFit, skipBlock, fieldBytes, booksIn, laidOut}
-use Rattle.plan.proofs.Cases.{message, behind}
+use Rattle.plan.proofs.Blocks.{entry-skipped}
 use Rattle.plan.proofs.Reading.{end-at, fine}
 use Rattle.session.specs.Session.{messageOf, agreedBit, sameRoots, sameBits, unlawful, sessionCause, endsWith, goodParty, goodFrom, goodParties}
 use Rattle.session.proofs.Played.{one-result}
@@ -47,7 +48,7 @@ plain s = code s ∷ replicate 31 0
 -- what stands behind two entries, and behind a block
 skip-two : (p q r : List ℕ) → skipEntries 3 3 (entryOf p ++ (entryOf q ++ r)) ≡ some r
 unfolding walk entryOf
-skip-two p q r = rw (behind p (entryOf q ++ r)) (behind q r)
+skip-two p q r = rw (entry-skipped p (entryOf q ++ r)) (entry-skipped q r)
 
 skip-block : (a b r : List ℕ) → skipBlock 3 3 (block a b ++ r) ≡ some r
 unfolding skipBlock size every
@@ -68,7 +69,7 @@ module _ (m a b c d : List ℕ) where
 
   messages : (messageOf s 1 ≡ m) × (messageOf s 2 ≡ m)
   unfolding messageOf partyEntry numbered size fieldBytes walk entryOf
-  messages = (message m (entryOf m ++ blocks), rw (behind m (entryOf m ++ blocks)) (message m blocks))
+  messages = (entry-body m (entryOf m ++ blocks), rw (entry-skipped m (entryOf m ++ blocks)) (entry-body m blocks))
 
   books-fit : length m ≤ maxMessage → booksFit 3 3 (booksIn s) ≡ true
   unfolding every messageOf partyEntry numbered size fieldBytes walk
