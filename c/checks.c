@@ -125,8 +125,11 @@ static void check_party(void) {
     CHECK(cipangohu_result(state, sizeof state).len == 2 && memcmp(cipangohu_result(state, sizeof state).at, "AB", 2) == 0);
     check_second_reader();
     check_stale_state();
-    state[0] = CIPANGOHU_LAYOUT + 1;
-    CHECK(cipangohu_result(state, sizeof state).at == NULL && cipangohu_own(state, sizeof state).cause == CIPANGOHU_CAUSE_STATE);
+    for (unsigned version = 0; version < 256; version++) {
+        state[0] = (uint8_t)version;
+        CHECK((cipangohu_result(state, sizeof state).at != NULL) == (version == CIPANGOHU_LAYOUT));
+        CHECK(cipangohu_own(state, sizeof state).cause == (version == CIPANGOHU_LAYOUT ? CIPANGOHU_ACCEPTED : CIPANGOHU_CAUSE_STATE));
+    }
 }
 
 int main(void) {

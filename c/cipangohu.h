@@ -42,8 +42,8 @@ extern "C" {
 #endif
 
 /* The version of this header, and as one number, which cipangohu_version gives of the library. */
-#define CIPANGOHU_VERSION_MAJOR 1
-#define CIPANGOHU_VERSION_MINOR 1
+#define CIPANGOHU_VERSION_MAJOR 2
+#define CIPANGOHU_VERSION_MINOR 0
 #define CIPANGOHU_VERSION_PATCH 0
 #define CIPANGOHU_VERSION ((CIPANGOHU_VERSION_MAJOR << 16) | (CIPANGOHU_VERSION_MINOR << 8) | CIPANGOHU_VERSION_PATCH)
 
@@ -51,11 +51,11 @@ extern "C" {
  * bytes of a hash, and so of a root, and the version of a state's layout. */
 #define CIPANGOHU_PARTIES 16
 #define CIPANGOHU_PATH 4
-#define CIPANGOHU_MESSAGE 1024
+#define CIPANGOHU_MESSAGE 3072
 #define CIPANGOHU_HASHED 65535
 #define CIPANGOHU_ENTRY 65535
 #define CIPANGOHU_ROOT 32
-#define CIPANGOHU_LAYOUT 1
+#define CIPANGOHU_LAYOUT 2
 
 /* Rooms that follow from them, in bytes: for the longest share, which is the whole frame of one party alone; for a state; for any packet that a
  * party writes: four bytes, the share, the longest path; for all shares of a message together, which are less than twice the

@@ -93,16 +93,28 @@ pub fn number(text: &str) -> Option<usize> {
 }
 
 /// The bytes of hexadecimal digits, in pairs with any space between them; none for the word `none`.
-/// As many zeros as a limit says may stand behind them, as in `07 SHARE + 1 zeros`.
+/// A limit in brackets is that number in two bytes, and as many zeros as one says may stand behind
+/// all else, as in `07 (SHARE + 1) SHARE + 1 zeros`.
 pub fn bytes(digits: &str) -> Option<Vec<u8>> {
     if let Some(front) = digits.strip_suffix(" zeros") {
-        let (front, count) = front.split_at(front.find(|c: char| c.is_ascii_uppercase())?);
+        let named = front.rfind(')').map_or(0, |end| end + 1);
+        let name = front[named..].find(|c: char| c.is_ascii_uppercase())?;
+        let (front, count) = front.split_at(named + name);
         let mut whole = match front {
             "" => Vec::new(),
             _ => bytes(front)?,
         };
         whole.resize(whole.len() + number(count)?, 0);
         return Some(whole);
+    }
+    if let Some((front, rest)) = digits.split_once('(') {
+        let (named, rest) = rest.split_once(')')?;
+        let length = u16::try_from(number(named)?).ok()?.to_be_bytes();
+        let [front, rest] = [front, rest].map(|part| match part.trim() {
+            "" => Some(Vec::new()),
+            part => bytes(part),
+        });
+        return Some([&front?[..], &length, &rest?].concat());
     }
     let digits = spaceless(digits);
     if digits == "none" {
@@ -121,8 +133,9 @@ pub fn spaceless(text: &str) -> String {
     text.split_whitespace().collect()
 }
 
-/// A state with some of its bytes replaced, as lines with the word `byte`, an offset and the bytes that
-/// stand from there on tell; or with another length, as in `STATE + 1 bytes`.
+/// A state with some of its bytes replaced, as lines with the word `byte`, an offset, which stands in
+/// brackets if it is told by a limit, and the bytes that stand from there on tell; or with another
+/// length, as in `STATE + 1 bytes`.
 pub fn written_over(state: &[u8], lines: &str) -> Option<Vec<u8>> {
     let mut state = state.to_vec();
     for line in lines.lines() {
@@ -130,8 +143,12 @@ pub fn written_over(state: &[u8], lines: &str) -> Option<Vec<u8>> {
             state.resize(number(length)?, 0);
             continue;
         }
-        let (offset, digits) = line.strip_prefix("byte ")?.split_once(' ')?;
-        let (offset, run) = (offset.parse::<usize>().ok()?, bytes(digits)?);
+        let line = line.strip_prefix("byte ")?;
+        let (offset, digits) = match line.strip_prefix('(') {
+            Some(named) => named.split_once(") ")?,
+            None => line.split_once(' ')?,
+        };
+        let (offset, run) = (number(offset)?, bytes(digits)?);
         let place = state.get_mut(offset..offset + run.len())?;
         place.copy_from_slice(&run);
     }
@@ -244,6 +261,12 @@ mod tests {
         let zeros = bytes("0a ROOT - 30 zeros");
         assert_eq!(zeros, Some(vec![10, 0, 0]));
         assert_eq!(bytes("ROOT zeros"), Some(vec![0; 32]));
+        assert_eq!(bytes("07 (ROOT + 1) 0a"), Some(vec![7, 0, 33, 10]));
+        let counted = bytes("(ROOT) ROOT - 31 zeros");
+        assert_eq!(counted, Some(vec![0, 32, 0]));
+        for none in ["(ROOT", "(ROOT + )", "(INBOX)", "0 (ROOT)", "(none)"] {
+            assert_eq!(bytes(none), None, "{none}");
+        }
     }
 
     #[test]
@@ -268,6 +291,8 @@ mod tests {
         let runs = "byte 0 01 03\nbyte 4   ff";
         assert_eq!(written_over(&[9; 5], runs), Some(vec![1, 3, 9, 9, 0xFF]));
         assert_eq!(written_over(&[9; 4], runs), None);
+        let placed = written_over(&[9; 4], "byte (ROOT - 30) (ROOT)");
+        assert_eq!(placed, Some(vec![9, 9, 0, 32]));
         let longer = written_over(&[9; 32], "ROOT + 1 bytes");
         assert_eq!(longer, Some([&[9; 32][..], &[0]].concat()));
     }

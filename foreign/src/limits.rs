@@ -8,7 +8,7 @@ use crate::sha256::Hash;
 pub const MOST_PARTIES: usize = 16;
 
 /// The greatest length of a message.
-pub const LONGEST_MESSAGE: usize = 1_024;
+pub const LONGEST_MESSAGE: usize = 3_072;
 
 /// The greatest number of hashes in an audit path.
 pub const MOST_HASHES: usize = 4;

@@ -157,16 +157,33 @@ fn grouped(number: usize) -> String {
     }
 }
 
-/// Elsewhere it says their names. Numbers under a thousand have other meanings too.
+/// No line tells the number of a limit. Numbers under a thousand have other meanings too.
+fn tell_none(lines: &[&str], table: &[(String, usize)]) {
+    for (name, number) in table.iter().filter(|limit| limit.1 >= 1_000) {
+        let told = |line: &&&str| {
+            let [plain, grouped] = [number.to_string(), grouped(*number)];
+            line.contains(&plain) || line.contains(&grouped)
+        };
+        assert_eq!(lines.iter().find(told), None, "{name}");
+    }
+}
+
+/// Beside the table it says their names.
 #[test]
 fn the_reference_tells_a_limit_once() {
     let text = reference();
     let table = limits(&text);
     let row = |line: &str, name: &str| line.starts_with(&format!("| `{name}` | "));
     let others = |line: &&str| !table.iter().any(|limit| row(line, &limit.0));
-    let others: Vec<&str> = text.lines().filter(others).collect();
-    for (name, number) in table.iter().filter(|limit| limit.1 >= 1_000) {
-        let again = others.iter().find(|line| line.contains(&grouped(*number)));
-        assert_eq!(again, None, "{name}");
+    tell_none(&text.lines().filter(others).collect::<Vec<_>>(), &table);
+}
+
+/// And so do these.
+#[test]
+fn other_documents_tell_no_limit() {
+    let table = limits(&reference());
+    for name in ["README.md", "docs/HOSTING.md", "docs/FUZZING.md"] {
+        let text = fs::read_to_string(folder(name)).expect("a document");
+        tell_none(&text.lines().collect::<Vec<_>>(), &table);
     }
 }

@@ -5,7 +5,7 @@
 pub const MAX_PARTIES: usize = 16;
 
 /// The greatest length of a message.
-pub const MAX_MESSAGE: usize = 1_024;
+pub const MAX_MESSAGE: usize = 3_072;
 
 /// The greatest number of hashes in a path.
 pub const MAX_PATH: usize = 4;
@@ -37,7 +37,7 @@ pub const MAX_OUTBOX: usize = MAX_SHARES + MAX_PARTIES * (6 + MAX_PATH * HASH);
 pub const MAX_INBOX: usize = MAX_PARTIES * (2 + MAX_ENTRY);
 
 /// The version of a state's layout, its first byte.
-pub const LAYOUT: u8 = 1;
+pub const LAYOUT: u8 = 2;
 
 /// Where the message stands in a state, the result of a party that ended with one: behind the
 /// version, the numbers and the lengths, and the root.

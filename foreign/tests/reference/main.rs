@@ -132,7 +132,7 @@ fn every_cause_has_an_example() {
 }
 
 /// Parts of the text, and wrong ones in their place: one for each kind and more.
-const SPOILT: [(&str, &str); 33] = [
+const SPOILT: [(&str, &str); 36] = [
     ("product 57 83: c1", "product 57 83: c2"),
     ("share 3: c3 c4", "share 3: c3 c5"),
     ("share 3: c3 c4\n", ""),
@@ -162,16 +162,22 @@ const SPOILT: [(&str, &str); 33] = [
         "room 1\nresult: book 41\ntake_relays",
     ),
     (
-        "result: book 41\nstate: byte 0 01 01 00 01 05 00 01 00 00",
-        "result: book 41\nstate: byte 0 01 01 00 01 05 00 01 00 02",
+        "result: book 41\nstate: byte 0 02 01 00 01 05 00 01 00 00",
+        "result: book 41\nstate: byte 0 02 01 00 01 05 00 01 00 02",
     ),
     ("written over: byte 7 00 02", "written over: byte 7 00 03"),
     (
-        "state: byte 0 01 02 00 02 03",
-        "state: byte 0 01 02 00 02 02",
+        "state: byte 0 02 02 00 02 03",
+        "state: byte 0 02 02 00 02 02",
     ),
-    ("byte 1065 82", "byte 1066 82"),
+    ("byte (MESSAGE + 41) 82", "byte (MESSAGE + 42) 82"),
     ("byte 4 06: cause 5", "byte 4 06: taken"),
+    ("byte 5 (MESSAGE + 1)", "byte 5 (MESSAGE)"),
+    ("byte 7 (SHARE + 1)", "byte 7 (SHARE)"),
+    (
+        "entries: (SHARE + 1) SHARE + 1",
+        "entries: (SHARE) SHARE + 1",
+    ),
     ("SHARE zeros: share 1", "SHARE zeros: cause 10"),
     ("SHARE + 1 zeros: cause 10", "SHARE + 1 zeros: share 1"),
     ("value: 5", "value: 4"),

@@ -7,7 +7,7 @@ use foreign::party::{Given, Outcome, Refusal, Stage, State};
 use crate::{digits, length, Told};
 
 /// The version of the layout of a state's bytes.
-const VERSION: u8 = 1;
+const VERSION: u8 = 2;
 
 /// Where the stage stands in them.
 const AT_STAGE: usize = 4;
