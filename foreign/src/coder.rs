@@ -165,10 +165,10 @@ fn message_in(b: usize, frame: &[u8]) -> Option<Vec<u8>> {
 #[cfg(test)]
 mod tests {
     use super::*;
-    use crate::limits::MOST_FAULTS;
+    use crate::limits::{LONGEST_SHARES, MOST_FAULTS};
 
     fn encoded(n: usize, t: usize, message: &[u8]) -> Vec<u8> {
-        let mut out = vec![0u8; 4000];
+        let mut out = vec![0u8; LONGEST_SHARES];
         let Answer::Done(length) = encode(n, t, message, &mut out) else {
             panic!("refused");
         };
@@ -200,7 +200,7 @@ mod tests {
 
     #[test]
     fn worked_limits() {
-        let mut out = vec![0u8; 4000];
+        let mut out = vec![0u8; LONGEST_SHARES];
         let (n, t) = (MOST_PARTIES, MOST_FAULTS);
         let message = vec![7u8; LONGEST_MESSAGE + 1];
         assert_eq!(

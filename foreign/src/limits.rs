@@ -35,8 +35,15 @@ pub const LONGEST_SHARE: usize = LONGEST_MESSAGE + 2;
 /// The greatest length of a packet.
 pub const LONGEST_PACKET: usize = HEADER + LONGEST_SHARE + MOST_HASHES * size_of::<Hash>();
 
-/// Room for any outbox: all shares of a message, which are fewer than 2·b and have together less
-/// than twice the bytes of the longest frame with its zeros, and beside each its entry's length and
-/// the rest of its packet.
-pub const LONGEST_OUTBOX: usize = 2 * (LONGEST_SHARE + MOST_PARTIES)
-    + MOST_PARTIES * (2 + HEADER + MOST_HASHES * size_of::<Hash>());
+/// Room for all shares of a message, which are fewer than 2·b and have together less than twice the
+/// bytes of the longest frame with its zeros.
+pub const LONGEST_SHARES: usize = 2 * (LONGEST_SHARE + MOST_PARTIES);
+
+/// Room for any outbox: all shares of a message, and beside each its entry's length and the rest of
+/// its packet.
+pub const LONGEST_OUTBOX: usize =
+    LONGEST_SHARES + MOST_PARTIES * (2 + HEADER + MOST_HASHES * size_of::<Hash>());
+
+/// Lengths of messages on both sides of a power of two well inside the range, where a program with a
+/// smaller limit would stop.
+pub const INSIDE: [usize; 2] = [1 << 10, (1 << 10) + 1];

@@ -412,7 +412,7 @@ fn result(state: &State) -> Option<Vec<u8>> {
 mod tests {
     use super::*;
     use crate::liars::Sharing;
-    use crate::limits::MOST_FAULTS;
+    use crate::limits::{INSIDE, MOST_FAULTS};
 
     const MOST: u8 = MOST_PARTIES as u8;
 
@@ -447,7 +447,7 @@ mod tests {
 
     #[test]
     fn worked_plans() {
-        let worked: [(&[u8], &[u8]); 4] = [
+        let worked: [(&[u8], &[u8]); 5] = [
             (
                 include_bytes!("../../plans/worked-1.plan"),
                 include_bytes!("../../plans/worked-1.out"),
@@ -463,6 +463,10 @@ mod tests {
             (
                 include_bytes!("../../plans/alone.plan"),
                 include_bytes!("../../plans/alone.out"),
+            ),
+            (
+                include_bytes!("../../plans/longest.plan"),
+                include_bytes!("../../plans/longest.out"),
             ),
         ];
         for (plan, output) in worked {
@@ -634,8 +638,11 @@ mod tests {
     fn long_messages() {
         let longest = vec![7; LONGEST_MESSAGE];
         let long = vec![7; LONGEST_MESSAGE + 1];
-        let longer = vec![7; 25_000];
+        let longer = vec![7; LONGEST_PLAN / 3];
         assert_eq!(cause(&of_three(&[0], [b"A", &longest])), 0);
+        for length in INSIDE {
+            assert_eq!(cause(&of_three(&[0], [b"A", &longest[..length]])), 0);
+        }
         for long in [&long, &longer] {
             let refused = of_three(&[0], [b"A", long]);
             assert_eq!(cause(&refused), 4);

@@ -20,7 +20,7 @@ const PROVED: [&str; 2] = ["limits", "commitment"];
 
 /// A constant of the proved crates, that of the header without the name that it begins with, and the
 /// numbers in Rust.
-const LIMITS: [(&str, &str, &[usize]); 8] = [
+const LIMITS: [(&str, &str, &[usize]); 9] = [
     ("MAX_PARTIES", "PARTIES", &[MOST_PARTIES, host::MAX_PARTIES]),
     (
         "MAX_MESSAGE",
@@ -31,6 +31,7 @@ const LIMITS: [(&str, &str, &[usize]); 8] = [
     ("MAX_PATH", "PATH", &[MOST_HASHES, host::MAX_PATH]),
     ("MAX_HASHED", "HASHED", &[LONGEST_STRING, host::MAX_HASHED]),
     ("MAX_ENTRY", "ENTRY", &[LONGEST_ENTRY, host::MAX_ENTRY]),
+    ("MAX_SHARES", "SHARES", &[LONGEST_SHARES, host::MAX_SHARES]),
     ("MAX_PACKET", "PACKET", &[LONGEST_PACKET, host::MAX_PACKET]),
     ("MAX_OUTBOX", "OUTBOX", &[LONGEST_OUTBOX, host::MAX_OUTBOX]),
 ];
@@ -69,7 +70,6 @@ fn program() -> String {
     let hosts = [
         ("ROOT", host::HASH),
         ("STATE", host::STATE),
-        ("SHARES", host::MAX_SHARES),
         ("INBOX", host::MAX_INBOX),
         ("LAYOUT", host::LAYOUT.into()),
     ];

@@ -332,19 +332,25 @@ fn name(word: &str) -> Option<String> {
     (letters && begins && !KEYWORDS.contains(&word)).then(|| word.to_string())
 }
 
-/// A book written in this place, in quotes or in hexadecimal; none if neither stands here.
+/// A book written in this place, in quotes or in hexadecimal, once or several times; none if it does
+/// not stand here.
 fn written(line: &mut Line) -> Result<Option<Vec<u8>>, Error> {
-    let message = match line.accept_text() {
+    let begins = |word: &str| word.starts_with(|c: char| c.is_ascii_digit());
+    let mut times = 1;
+    if line.word().is_some_and(begins) {
+        times = line.number("how often", 1..=LONGEST_ENTRY)?;
+        line.expect("times")?;
+    }
+    let part = match line.accept_text() {
         Some(text) => text,
         None if line.accept("hex") => line.hex()?,
         None => return Ok(None),
     };
-    match message.len() > LONGEST_ENTRY {
-        true => Err(line.error(format!(
-            "the book has {} bytes, over {LONGEST_ENTRY}",
-            message.len()
-        ))),
-        false => Ok(Some(message)),
+    match times * part.len() {
+        length if length > LONGEST_ENTRY => {
+            Err(line.error(format!("the book has {length} bytes, over {LONGEST_ENTRY}")))
+        }
+        _ => Ok(Some(part.repeat(times))),
     }
 }
 

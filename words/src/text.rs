@@ -135,8 +135,28 @@ fn by_packet(row: &[Option<Vec<u8>>]) -> Vec<(String, &[u8])> {
     packets
 }
 
-/// A book in quotes, if that can be read well, or else in hexadecimal.
+/// A book as it can be read well; of a long one that repeats a part, that part and how often.
 pub fn written(message: &[u8]) -> String {
+    match repeated(message) {
+        Some((times, part)) => format!("{times} times {}", spelled(part)),
+        None => spelled(message),
+    }
+}
+
+/// How often a long book has which part, if it is nothing else; the shortest such part.
+fn repeated(message: &[u8]) -> Option<(usize, &[u8])> {
+    let whole = message.len();
+    if whole <= WIDTH {
+        return None;
+    }
+    let repeats = |size: &usize| message[*size..] == message[..whole - size];
+    let mut sizes = (1..=whole / 2).filter(|size| whole.is_multiple_of(*size));
+    let size = sizes.find(repeats)?;
+    Some((whole / size, &message[..size]))
+}
+
+/// Bytes in quotes, if that can be read well, or else in hexadecimal.
+fn spelled(message: &[u8]) -> String {
     let plain = |c: char| c == ' ' || c.is_ascii_graphic() || c.is_alphanumeric();
     match std::str::from_utf8(message) {
         Ok(text) if text.chars().all(plain) => {

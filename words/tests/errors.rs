@@ -1,5 +1,6 @@
 //! Wrong words: the line and what was expected there.
 
+use foreign::limits::{LONGEST_ENTRY, LONGEST_MESSAGE, MOST_PARTIES};
 use words::input::draft;
 use words::parse::parse;
 
@@ -158,6 +159,10 @@ const MEMBERS: &Cases = &[
         ("book B hex", "expected pairs of hexadecimal digits, found the end of the line"),
         ("book B hex 4", "expected pairs of hexadecimal digits, found '4'"),
         ("book B hex 41 0x42", "expected pairs of hexadecimal digits, found '0x42'"),
+        ("book B 0 times \"B\"", "expected how often from 1 to 65535, found '0'"),
+        ("book B 2 \"B\"", "expected 'times', found a text in quotes"),
+        ("book B 2 times", "expected a text in quotes, or 'hex' and digits, found the end of the line"),
+        ("book B 2 times 2 times \"B\"", "expected a text in quotes, or 'hex' and digits, found '2'"),
         ("box 2", "expected 'has' and a book, or 'is bad', found the end of the line"),
         ("box 2 is good", "expected 'bad', found 'good'"),
         ("box 2 has", "expected a book: its name, a text in quotes, or 'hex' and digits, found the end of the line"),
@@ -307,7 +312,10 @@ fn whole_plans() {
     assert_eq!(error(&format!("boxes 17\nlimit 1\n{bad}")), unnamed);
     let cut = format!("{SOUND}box 2 has A\ncut by 18\n");
     assert_eq!(error(&cut), "line 7: the plan has 17 bytes to cut");
-    let no_shares = "there are no shares: n is 1 to 16, 2·t < n, and a book has at most 1024 bytes";
+    let no_shares = format!(
+        "there are no shares: n is 1 to {MOST_PARTIES}, 2·t < n, and a book has at most \
+         {LONGEST_MESSAGE} bytes"
+    );
     for head in ["boxes 2\nlimit 1", "boxes 17\nlimit 1"] {
         let words = format!("{head}\nbox 1 has \"\"\nbox 2 is bad\nfirst exchange\n");
         let words = words + "2 to 1: share 1 of box 1\n";
@@ -315,14 +323,14 @@ fn whole_plans() {
         let rooted = format!("{head}\nbook A \"\"\nroot of A");
         assert_eq!(error(&rooted), "line 4: 'A' has no root under n and t");
     }
-    let long = " 41".repeat(65_536);
-    let book = format!("boxes 1\nlimit 0\nbox 1 has hex{long}");
-    assert_eq!(error(&book), "line 3: the book has 65536 bytes, over 65535");
+    let over = format!("has {} bytes, over {LONGEST_ENTRY}", LONGEST_ENTRY + 1);
+    let long = " 41".repeat(LONGEST_ENTRY + 1);
+    for book in [format!("hex{long}"), "32768 times \"AB\"".to_string()] {
+        let words = format!("boxes 1\nlimit 0\nbox 1 has {book}");
+        assert_eq!(error(&words), format!("line 3: the book {over}"));
+    }
     let packet = format!("{SOUND}first exchange\n3 to 1: hex{long}");
-    assert_eq!(
-        error(&packet),
-        "line 7: the packet has 65536 bytes, over 65535"
-    );
+    assert_eq!(error(&packet), format!("line 7: the packet {over}"));
 }
 
 /// A line that goes on is called by its first line.

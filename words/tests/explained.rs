@@ -1,10 +1,12 @@
 //! Explanations and pictures of random plans, held against what the rehearsal prints and what
 //! the boxes did.
 
+use foreign::limits::LONGEST_MESSAGE;
 use foreign::plans::plan;
 use foreign::rehearsal::rehearse;
 use words::explain::explain;
 use words::input::given;
+use words::phrases::grouped;
 use words::picture::picture;
 use words::view::{Parcel, View, Worth};
 
@@ -96,9 +98,12 @@ fn refused_plans() {
     assert_eq!(refusal("boxes 0\nlimit 0"), expected);
     let expected = "Refused with cause 2: 2·t is n or more.\nThe plan has n 2 and t 1.";
     assert_eq!(refusal(&sound.replace("limit 0", "limit 1")), expected);
-    let long = format!("boxes 1\nlimit 0\nbox 1 has \"{}\"", "x".repeat(1_025));
-    let expected = "Refused with cause 4: a book is longer than 1,024 bytes.\n\
-        Box 1's book is too long.";
+    let over = LONGEST_MESSAGE + 1;
+    let long = format!("boxes 1\nlimit 0\nbox 1 has {over} times \"x\"");
+    let longest = grouped(LONGEST_MESSAGE);
+    let expected = format!(
+        "Refused with cause 4: a book is longer than {longest} bytes.\nBox 1's book is too long."
+    );
     assert_eq!(refusal(&long), expected);
     let bad = refusal("boxes 2\nlimit 0\nbox 1 has \"\"\nbox 2 is bad");
     assert_eq!(

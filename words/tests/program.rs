@@ -5,7 +5,8 @@ use std::path::PathBuf;
 use std::process::{Command, Output, Stdio};
 use std::thread;
 
-use foreign::rehearsal::rehearse;
+use foreign::limits::LONGEST_MESSAGE;
+use foreign::rehearsal::{read, rehearse};
 
 fn root() -> PathBuf {
     PathBuf::from(env!("CARGO_MANIFEST_DIR")).join("..")
@@ -49,15 +50,31 @@ fn said(arguments: &[&str], input: &[u8]) -> (Option<i32>, String) {
     (output.status.code(), text)
 }
 
+/// The plan that is kept in words and in bytes, and comes back from each.
+fn both(name: &str) -> Vec<u8> {
+    let [words, plan, out] = ["words", "plan", "out"].map(|kind| format!("plans/{name}.{kind}"));
+    let bytes = kept(&plan);
+    assert_eq!(printed(&["to-bytes", &words], b""), bytes);
+    assert_eq!(printed(&["to-bytes"], &kept(&words)), bytes);
+    assert_eq!(rehearse(&bytes), kept(&out));
+    let words = printed(&["from-bytes"], &bytes);
+    assert_eq!(printed(&["from-bytes", &plan], b""), words);
+    assert_eq!(printed(&["to-bytes"], &words), bytes);
+    bytes
+}
+
+/// Its books are as long as books may be, and its words are few.
+#[test]
+fn the_longest_plan() {
+    let plan = read(&both("longest")).expect("a good layout");
+    let longest = |book: &Vec<u8>| book.len() == LONGEST_MESSAGE;
+    assert!(plan.messages.iter().all(longest));
+    assert!(kept("plans/longest.words").len() < 1_000);
+}
+
 #[test]
 fn the_liars_plan() {
-    let plan = kept("plans/liar.plan");
-    assert_eq!(printed(&["to-bytes", "plans/liar.words"], b""), plan);
-    assert_eq!(printed(&["to-bytes"], &kept("plans/liar.words")), plan);
-    assert_eq!(rehearse(&plan), kept("plans/liar.out"));
-    let words = printed(&["from-bytes"], &plan);
-    assert_eq!(printed(&["from-bytes", "plans/liar.plan"], b""), words);
-    assert_eq!(printed(&["to-bytes"], &words), plan);
+    let plan = both("liar");
     let svg = kept("docs/liar.svg");
     assert_eq!(printed(&["picture", "plans/liar.words"], b""), svg);
     assert_eq!(printed(&["picture"], &plan), svg);

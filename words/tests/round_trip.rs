@@ -1,6 +1,7 @@
 //! Every plan that is well laid out comes back from its words unchanged.
 
 use foreign::liars::{Lie, Scene, Sharing, Way};
+use foreign::limits::LONGEST_MESSAGE;
 use foreign::plans::plan;
 use foreign::random::Random;
 use foreign::rehearsal::read;
@@ -101,15 +102,41 @@ fn unusual_words() {
 /// Long books and packets go on in further lines.
 #[test]
 fn long_lines() {
+    let book: String = (0..LONGEST_MESSAGE)
+        .map(|place| format!(" {:02x}", place % 251))
+        .collect();
     let words = format!(
-        "boxes 3\nlimit 1\nbox 1 has hex{}\nbox 2 has \"B\"\nbox 3 is bad\n\
+        "boxes 3\nlimit 1\nbox 1 has hex{book}\nbox 2 has \"B\"\nbox 3 is bad\n\
          first exchange\n3 to 1 2: hex{}\n",
-        " 0f".repeat(1_024),
         " f0".repeat(5_000)
     );
     let bytes = parse(&words).expect("good words").bytes();
     let words = comes_back(&bytes);
+    assert!(words.lines().count() > LONGEST_MESSAGE / 50);
     assert!(words.lines().all(|line| line.len() <= 104));
+}
+
+/// A long book that repeats a part is told by it.
+#[test]
+fn repeated_parts() {
+    let laid_out = |book: &str| {
+        let words = format!("boxes 1\nlimit 0\nbox 1 has {book}");
+        parse(&words).expect("good words").bytes()
+    };
+    let digits = "0".repeat(200);
+    let cases = [
+        (format!("\"{}\"", "ab ".repeat(50)), "50 times \"ab \""),
+        (format!("hex {digits}"), "hex 00 00 00"),
+        (format!("hex {digits} 00"), "101 times hex 00"),
+        (format!("hex {digits} 01"), "hex 00 00 00"),
+        ("40 times hex ff 00 ff".to_string(), "40 times hex ff 00 ff"),
+        ("6 times \"é\"".to_string(), "\"éééééé\"\n"),
+    ];
+    for (book, expected) in cases {
+        let words = comes_back(&laid_out(&book));
+        assert!(words.contains(&format!("\nbook A {expected}")), "{words}");
+    }
+    assert_eq!(laid_out("2 times \"\""), laid_out("\"\""));
 }
 
 /// Plans that no words of from-bytes give: causes 1, 2 and 13.
