@@ -2,7 +2,7 @@
 //! something close to it, or something else altogether.
 
 use crate::coder::{frame_of, shares_of};
-use crate::limits::{LONGEST_SHARE, MOST_PARTIES};
+use crate::limits::{LONGEST_PACKET, LONGEST_SHARE, MOST_PARTIES};
 use crate::packet::write;
 use crate::random::Random;
 use crate::sha256::Hash;
@@ -50,7 +50,7 @@ pub enum Lie {
     FieldMap,
     /// A number that is not a party's.
     NumberOutside,
-    /// Thousands of bytes.
+    /// More bytes than any packet has.
     Huge,
 }
 
@@ -83,6 +83,9 @@ impl Lie {
         Lie::NumberOutside,
     ];
 }
+
+/// No lie has more bytes: a huge one may stand behind a good packet.
+pub const LONGEST_LIE: usize = 3 * LONGEST_PACKET;
 
 /// The shares of a message, or of any frame, and the root over them.
 pub struct Sharing {
@@ -231,9 +234,9 @@ fn noise(length: usize, random: &mut Random) -> Vec<u8> {
     bytes
 }
 
-/// Thousands of bytes, from nowhere or behind a good packet.
+/// More bytes than any packet has, from nowhere or behind a good packet.
 fn huge(good: &[u8], random: &mut Random) -> Vec<u8> {
-    let length = 2_000 + random.below(4_000);
+    let length = LONGEST_PACKET + 1 + random.below(LONGEST_PACKET);
     match random.below(3) {
         0 => noise(length, random),
         1 => [good, &vec![0; length]].concat(),
@@ -280,10 +283,9 @@ mod tests {
     use super::*;
     use crate::packet::{classify, Standing};
 
-    /// Whether the lie is taken as a valid share.
-    fn taken(scene: &Scene, lie: Lie, way: Way, random: &mut Random) -> bool {
-        let packet = scene.told(lie, way, random).unwrap_or_default();
-        let standing = classify(scene.n(), way.demanded, scene.agreed.root, &packet);
+    /// Whether what came this way is taken as a valid share.
+    fn taken(scene: &Scene, way: Way, packet: &[u8]) -> bool {
+        let standing = classify(scene.n(), way.demanded, scene.agreed.root, packet);
         matches!(standing, Ok(Standing::Valid(_)))
     }
 
@@ -299,8 +301,14 @@ mod tests {
                 for (sender, receiver) in [(1, 2), (2, 1), (n, 1), (1, n)] {
                     for exchange in [0, 1] {
                         let way = Way::new(exchange, sender, receiver);
-                        let taken = taken(&scene, lie, way, &mut random);
-                        assert_eq!(taken, lie == Lie::Honest, "{lie:?}, n {n}");
+                        let packet = scene.told(lie, way, &mut random).unwrap_or_default();
+                        assert_eq!(
+                            taken(&scene, way, &packet),
+                            lie == Lie::Honest,
+                            "{lie:?}, n {n}"
+                        );
+                        assert!(packet.len() <= LONGEST_LIE);
+                        assert_eq!(packet.len() > LONGEST_PACKET, lie == Lie::Huge);
                     }
                 }
             }

@@ -9,8 +9,9 @@ pub mod stored;
 
 use std::collections::{BTreeMap, BTreeSet};
 
-use crate::liars::{flip, Lie, Scene, Sharing, Way};
-use crate::limits::{LONGEST_ENTRY, LONGEST_MESSAGE, LONGEST_PLAN, MOST_NAMED, MOST_PARTIES};
+use crate::liars::{flip, Lie, Scene, Sharing, Way, LONGEST_LIE};
+use crate::limits::{INSIDE, LONGEST_ENTRY, LONGEST_MESSAGE, LONGEST_PLAN};
+use crate::limits::{MOST_NAMED, MOST_PARTIES};
 use crate::random::Random;
 use crate::rehearsal::{BIT_GIVEN, ROOT_GIVEN};
 use crate::sha256::Hash;
@@ -256,12 +257,28 @@ impl Draft {
         (0..count).map(message).collect()
     }
 
-    /// A message of any length up to `most`; often one that fills its frame, or just does not.
+    /// A message of any length up to `most`; often one that fills its frame, or just does not, or
+    /// one at an edge.
     fn some_message(&self, most: usize, random: &mut Random) -> Vec<u8> {
         let b = self.n - self.t;
         let full = (b * (1 + random.below(4))).max(2) - 2;
         let any = random.below(most + 1);
-        let lengths = [0, 1, 2, full, full + 1, any, any, any, most, most];
+        let below = most.saturating_sub(1);
+        let inside = random.pick(&INSIDE);
+        let lengths = [
+            0,
+            1,
+            2,
+            full,
+            full + 1,
+            any,
+            any,
+            any,
+            most,
+            most,
+            below,
+            inside,
+        ];
         let length = random.pick(&lengths).min(most);
         match random.once_in(8) {
             true => vec![0; length],
@@ -416,11 +433,12 @@ impl Draft {
         }
     }
 
-    /// Everybody gets something if that fits; else so many that about all is spent.
+    /// Everybody gets something if that fits; else so many that about all is spent. Then a huge packet
+    /// has room yet.
     fn purse(&self, scene: &Scene, size: Size) -> Purse {
         let most: usize = match size {
             Size::Small => 1_950,
-            _ => 50_000,
+            _ => LONGEST_PLAN - 2 - LONGEST_LIE,
         };
         let maps = 4 * self.bad.len();
         let left = most.saturating_sub(self.bytes().len() + maps);
@@ -568,7 +586,7 @@ impl Draft {
         let over = LONGEST_MESSAGE + 1;
         let far = over + random.below(300);
         let length = match random.once_in(10) {
-            true => 20_000 + random.below(45_000),
+            true => over + random.below(LONGEST_ENTRY - LONGEST_MESSAGE),
             false => random.pick(&[over, over, over, over + 1, 2 * LONGEST_MESSAGE, far]),
         };
         if let Some(message) = self.messages.get_mut(place) {

@@ -5,15 +5,16 @@ use std::collections::BTreeSet;
 
 use super::{plan, Block, Damage, Draft, Made, Size};
 use crate::liars::{flip, Lie, Scene, Sharing, Way};
-use crate::limits::{LONGEST_MESSAGE, LONGEST_PLAN, MOST_PARTIES};
+use crate::limits::{INSIDE, LONGEST_MESSAGE, LONGEST_PLAN, MOST_PARTIES};
 use crate::random::Random;
 
 /// The plans that a person can run.
-const KEPT: [&[u8]; 5] = [
+const KEPT: [&[u8]; 6] = [
     include_bytes!("../../../plans/worked-1.plan"),
     include_bytes!("../../../plans/worked-2.plan"),
     include_bytes!("../../../plans/worked-3.plan"),
     include_bytes!("../../../plans/liar.plan"),
+    include_bytes!("../../../plans/longest.plan"),
     include_bytes!("../../../plans/alone.plan"),
 ];
 
@@ -32,15 +33,16 @@ pub fn stored() -> impl Iterator<Item = Made> {
         .chain(groups().map(move |group| liars(group, &mut lies)))
         .chain(KEPT.map(|bytes| laid_out(bytes.to_vec(), vec![])))
         .chain(longest())
+        .chain(lengths())
         .chain(small().map(|bytes| laid_out(bytes, vec![])))
         .chain(small().into_iter().flat_map(damaged))
 }
 
-/// Long plans would make the file large, so most of them are left out.
+/// Plans much longer than one long message would make the file large, so most of them are left out.
 fn random() -> impl Iterator<Item = Made> {
     (1..)
         .map(|k| (k, plan(k)))
-        .filter(|(k, made)| k % 20 == 0 || made.bytes.len() <= 3_000)
+        .filter(|(k, made)| k % 20 == 0 || made.bytes.len() <= LONGEST_MESSAGE + 2_000)
         .map(|(_, made)| made)
         .take(2_000)
 }
@@ -179,6 +181,23 @@ fn longest() -> [Made; 5] {
     ]
 }
 
+/// Messages of lengths at the edges, which the lowest party has, or the other one alone.
+fn lengths() -> impl Iterator<Item = Made> {
+    let most = LONGEST_MESSAGE;
+    let lengths = INSIDE.into_iter().chain([most - 1, most, most + 1]);
+    lengths.flat_map(move |length| {
+        let damages = match length > most {
+            true => vec![Damage::LongMessage],
+            false => vec![],
+        };
+        [0, 1].map(|place| {
+            let mut draft = of_three(1 + 2 * place);
+            draft.messages[place] = Random::new(length as u64).bytes(length);
+            draft.made(Size::Small, damages.clone())
+        })
+    })
+}
+
 /// The sound plans that are damaged in every way: the first worked one, one with root and bit,
 /// and one whose bad party sends the packets that a good one would send.
 fn small() -> [Vec<u8>; 3] {
@@ -276,7 +295,8 @@ mod tests {
             equal[usize::from(alike)] += 1;
         }
         assert_eq!(given.len(), 6);
-        assert!(lengths.contains(&0) && lengths.contains(&LONGEST_MESSAGE));
+        let edges = [0, LONGEST_MESSAGE - 1, LONGEST_MESSAGE];
+        assert!(edges.iter().chain(&INSIDE).all(|it| lengths.contains(it)));
         assert!(equal.iter().all(|count| *count >= 100));
     }
 
@@ -294,10 +314,20 @@ mod tests {
         }
     }
 
+    /// A byte more than the longest message has cause 4, and no shorter one.
+    #[test]
+    fn lengths_at_the_edges_are_stored() {
+        let refused = |made: &Made| rehearse(&made.bytes) == b"refused 4\n";
+        let (over, within): (Vec<Made>, Vec<Made>) = lengths().partition(refused);
+        assert_eq!((over.len(), within.len()), (2, 8));
+        assert!(over.iter().all(|it| it.damages == [Damage::LongMessage]));
+        assert!(within.iter().all(|it| play(&it.bytes).is_ok()));
+    }
+
     #[test]
     fn a_byte_more_than_the_longest_is_refused() {
         let [plan, over] = edge();
-        assert_eq!((plan.len(), over.len()), (60_000, 60_001));
+        assert_eq!((plan.len(), over.len()), (LONGEST_PLAN, LONGEST_PLAN + 1));
         assert_eq!(over[..plan.len()], plan);
         assert!(play(&plan).is_ok());
         assert_eq!(rehearse(&over), b"refused 13\n");

@@ -6,16 +6,18 @@
 //! - Encode, and rebuild: n (2), t (2), the length of the buffer lent (4), the message or the
 //!   entries. The answer, and the buffer, in which every byte past those written is untouched.
 //!
-//! Messages and entries have at most 70,000 bytes, buffers 20,000.
+//! Messages and entries are at most twice as long as an entry may be, buffers twice as long as all
+//! shares of a message.
 
 use super::{Case, Kind, Part, FAR, GREATEST, UNTOUCHED};
 use crate::coder::{self, frame_of, share_length, shares_of, Answer, Answer::*};
 use crate::field;
-use crate::limits::{LONGEST_ENTRY, LONGEST_MESSAGE, LONGEST_SHARE, MOST_FAULTS, MOST_PARTIES};
+use crate::limits::{INSIDE, LONGEST_ENTRY, LONGEST_MESSAGE, LONGEST_SHARE, LONGEST_SHARES};
+use crate::limits::{MOST_FAULTS, MOST_PARTIES};
 use crate::random::Random;
 
-const MOST_INPUT: usize = 70_000;
-const MOST_ROOM: usize = 20_000;
+const MOST_INPUT: usize = 2 * LONGEST_ENTRY;
+const MOST_ROOM: usize = 2 * LONGEST_SHARES;
 
 /// Pairs n, t on which wrongly made frames are tried.
 const CHOSEN: [(usize, usize); 10] = [
@@ -254,6 +256,21 @@ fn encode_cases(file: &mut File) {
     }
 }
 
+/// Messages of lengths at the edges, and rebuilt from the shares with the highest numbers.
+fn edge_lengths(file: &mut File) {
+    for (n, t) in [(1, 0), (3, 1), (4, 1), GREATEST] {
+        for length in INSIDE.into_iter().chain([LONGEST_MESSAGE - 1]) {
+            let needed = n * share_length(n - t, length);
+            let message = file.random.bytes(length);
+            file.encode((n, t), &message, needed, Done(needed));
+            file.encode((n, t), &message, needed - 1, Short(needed));
+            let shares = keep(&coded((n, t), &message), ((1 << n) - 1) << t);
+            file.found((n, t), &shares, length, &message);
+            file.rebuild((n, t), &join(&shares), length - 1, Short(length));
+        }
+    }
+}
+
 /// Causes 1, 2 and 4 of encode.
 fn encode_refusals(file: &mut File) {
     let long = file.random.bytes(LONGEST_MESSAGE + 1);
@@ -279,7 +296,7 @@ fn encode_refusals(file: &mut File) {
         file.encode((MOST_PARTIES, t), b"AB", 100, Refused(2));
     }
     let huge = file.random.bytes(LONGEST_ENTRY + 1);
-    file.encode((3, 1), &huge, 4000, Refused(4));
+    file.encode((3, 1), &huge, LONGEST_SHARES, Refused(4));
 }
 
 /// Several causes of encode at once; the lowest is given.
@@ -301,7 +318,7 @@ fn encode_several(file: &mut File) {
         file.encode(parties, b"AB", 0, Refused(1));
     }
     for parties in [(1, 0), (2, 0), (3, 1), (MOST_PARTIES, 0), GREATEST] {
-        file.encode(parties, &long, 4000, Refused(4));
+        file.encode(parties, &long, LONGEST_SHARES, Refused(4));
         file.encode(parties, &long, 0, Refused(4));
         let needed = parties.0 * share_length(parties.0 - parties.1, 0);
         file.encode(parties, b"", 0, Short(needed));
@@ -538,20 +555,20 @@ fn rebuild_over(file: &mut File) {
         let (longest, over) = (LONGEST_MESSAGE, LONGEST_MESSAGE + 1);
         let body = file.random.bytes(over);
         let right = framed(over, &body, b * share_length(b, over));
-        file.wrong_frame((n, t), &right, 2000);
+        file.wrong_frame((n, t), &right, over);
         file.wrong_frame((n, t), &right, 0);
         let tight = framed(over, &body[..longest], b * share_length(b, longest));
-        file.wrong_frame((n, t), &tight, 2000);
+        file.wrong_frame((n, t), &tight, over);
         let large = framed(
             longest,
             &body[..longest],
             b * (share_length(b, longest) + 1),
         );
-        file.wrong_frame((n, t), &large, 2000);
+        file.wrong_frame((n, t), &large, longest);
         let size = b * (share_length(b, longest) - 1);
-        file.wrong_frame((n, t), &framed(longest, &body[..size - 2], size), 2000);
+        file.wrong_frame((n, t), &framed(longest, &body[..size - 2], size), longest);
         for length in [over, over + 1, 256 * 40, 32_768, FAR - 1, FAR] {
-            file.wrong_frame((n, t), &framed(length, &body[..b * 2], b * 4), 2000);
+            file.wrong_frame((n, t), &framed(length, &body[..b * 2], b * 4), over);
             file.wrong_frame((n, t), &framed(length, &body[..b * 2], b * 4), 0);
         }
     }
@@ -587,14 +604,15 @@ fn rebuild_long_shares(file: &mut File) {
     for (n, t) in [(1, 0), (2, 0), (3, 1), GREATEST] {
         let size = (share + 1) * (n - t);
         let body = file.random.bytes(longest);
-        file.wrong_frame((n, t), &framed(longest, &body, size), 2000);
-        file.wrong_frame((n, t), &vec![0; size], 2000);
+        file.wrong_frame((n, t), &framed(longest, &body, size), longest);
+        file.wrong_frame((n, t), &vec![0; size], longest);
         file.wrong_frame((n, t), &framed(longest + 1, &body, size), 0);
     }
-    let body = file.random.bytes(2000);
+    let filled = 2 * share - 2;
+    let body = file.random.bytes(filled);
     let frame = framed(longest, &body[..longest], share + 2);
-    file.wrong_frame((1, 0), &frame, 2000);
-    file.wrong_frame((2, 0), &framed(2000, &body, 2 * share), MOST_ROOM);
+    file.wrong_frame((1, 0), &frame, longest);
+    file.wrong_frame((2, 0), &framed(filled, &body, 2 * share), MOST_ROOM);
     let body = file.random.bytes(LONGEST_ENTRY);
     let filled = LONGEST_ENTRY - 2;
     let frame = framed(filled, &body[..filled], LONGEST_ENTRY);
@@ -629,10 +647,11 @@ fn rebuild_random(file: &mut File) {
 }
 
 /// The parts, in order.
-const PARTS: [fn(&mut File); 17] = [
+const PARTS: [fn(&mut File); 18] = [
     field_cases,
     worked_cases,
     encode_cases,
+    edge_lengths,
     encode_refusals,
     encode_several,
     rebuild_choices,

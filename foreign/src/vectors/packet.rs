@@ -13,14 +13,14 @@
 //!   and the buffer, in which what is not written over is untouched; then the same of the packet's
 //!   entry, for which the buffer has two bytes more.
 //!
-//! Bytes handed in are at most 2,400; packets and shares have at most a byte more than may be,
-//! paths a hash more, buffers for a packet 1,300.
+//! Bytes handed in are at most three of the longest packets; packets and shares have at most a byte
+//! more than may be, paths a hash more, buffers for a packet [`MOST_ROOM`] bytes.
 
 use std::cmp::Ordering;
 
 use super::{Answer, Case, Kind, Part, FAR, UNTOUCHED};
 use crate::inbox::{laid_out, lay_out};
-use crate::limits::{LONGEST_PACKET, LONGEST_SHARE, MOST_HASHES, MOST_PARTIES};
+use crate::limits::{INSIDE, LONGEST_PACKET, LONGEST_SHARE, MOST_HASHES, MOST_PARTIES};
 use crate::packet::{self, classify, classify_at, read_entry, write_into};
 use crate::packet::{Place, Reading, Standing, HEADER};
 use crate::random::Random;
@@ -35,8 +35,8 @@ const FAULTY: Answer = Answer::Done(2);
 const SHORT: Answer = Answer::Refused(8);
 const UNREADABLE: Answer = Answer::Refused(10);
 const UNSTORED: Hash = [0xEE; 32];
-const LARGEST_INBOX: usize = 2_400;
-const MOST_ROOM: usize = 1_300;
+const LARGEST_INBOX: usize = 3 * LONGEST_PACKET;
+const MOST_ROOM: usize = LONGEST_PACKET + 100;
 
 /// The party counts tried.
 const CHOSEN: [usize; 5] = [1, 2, 3, 5, MOST_PARTIES];
@@ -330,9 +330,15 @@ fn good_packets(file: &mut File) {
         let good = file.good(1, 1, length);
         file.instead(&good, &good.bytes, SHARE, VALID);
     }
-    for length in [255, 256, 257, 512] {
+    let edges = INSIDE.map(|length| length + 2).into_iter();
+    for length in edges.chain([255, 256, 257, 512, LONGEST_SHARE - 1]) {
         let good = file.good(1, 1, length);
         file.read(1, &good.bytes, SHARE);
+    }
+    for length in INSIDE {
+        let good = file.good(3, 2, length + 2);
+        file.instead(&good, &good.bytes, SHARE, VALID);
+        file.unreadable(&good, &good.bytes[..good.bytes.len() - 1]);
     }
 }
 

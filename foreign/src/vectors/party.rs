@@ -20,23 +20,23 @@
 //! which is empty where none is lent. The state's bytes: n, t, own (8 each), stage as above (9),
 //! len, held (8 each), root, message, share.
 //!
-//! Messages handed in have at most two bytes more than may be, inboxes 8,000 and the buffer 6,000
-//! bytes.
+//! Messages handed in have at most two bytes more than may be, inboxes and the buffer twice as many
+//! as an outbox.
 
 use std::collections::BTreeMap;
 
 use super::{Answer, Answer::*, Case, Kind, Part, GREATEST, UNTOUCHED};
 use crate::coder::{frame_of, share_length, shares_of};
 use crate::inbox::lay_out;
-use crate::limits::{LONGEST_MESSAGE, LONGEST_SHARE, MOST_PARTIES};
+use crate::limits::{INSIDE, LONGEST_MESSAGE, LONGEST_OUTBOX, LONGEST_SHARE, MOST_PARTIES};
 use crate::packet;
 use crate::party::{Given, Outcome, Refusal, Stage, State};
 use crate::random::Random;
 use crate::sha256::{hash, Hash};
 use crate::tree;
 
-const LARGEST_INBOX: usize = 8_000;
-const MOST_ROOM: usize = 6_000;
+const LARGEST_INBOX: usize = 2 * LONGEST_OUTBOX;
+const MOST_ROOM: usize = 2 * LONGEST_OUTBOX;
 
 /// One more than the greatest n, the longest message and the longest share.
 const ABOVE: u64 = MOST_PARTIES as u64 + 1;
@@ -857,20 +857,15 @@ fn groups() -> impl Iterator<Item = (usize, usize)> {
     (1..=MOST_PARTIES).flat_map(|n| (0..n.div_ceil(2)).map(move |t| (n, t)))
 }
 
-/// A message's length: mostly short, now and then the greatest, or one that just fills the frame.
+/// A message's length: mostly short, now and then any or one at an edge, or one that just fills the
+/// frame.
 fn some_length(file: &mut File, b: usize) -> usize {
     let filled = (b * (1 + file.random.below(4))).saturating_sub(2);
     let short = file.random.below(40);
-    file.pick(&[
-        0,
-        1,
-        short,
-        short,
-        filled,
-        filled,
-        filled + 1,
-        LONGEST_MESSAGE,
-    ])
+    let any = file.random.below(LONGEST_MESSAGE);
+    let inside = file.pick(&INSIDE);
+    let long = file.pick(&[any, inside, LONGEST_MESSAGE, LONGEST_MESSAGE]);
+    file.pick(&[0, 1, short, short, filled, filled, filled + 1, long])
 }
 
 /// A happy party in each group; the inboxes tell it nothing.
@@ -1021,12 +1016,13 @@ fn forged(file: &mut File) {
 
 /// A party alone that was given a stage, a root and a share: the share is the frame itself.
 fn alone(file: &mut File) {
+    let over = (LONG as u16).to_be_bytes();
     for share in [
         &[0, 2, 0x41, 0x42][..],
         &[0, 0],
         &[0],
         &[0, 1, 7, 0],
-        &[4, 1],
+        &over,
         &[],
     ] {
         file.open(1, 0, 1, b"AB");
@@ -1085,6 +1081,9 @@ fn openings(file: &mut File) {
         opened(file, n, t, n, over);
         opened(file, n, t, n, &long);
         opened(file, n, t, n, longest);
+        for length in INSIDE.into_iter().chain([LONGEST_MESSAGE - 1]) {
+            opened(file, n, t, n, &long[..length]);
+        }
     }
     opened(file, ABOVE, ABOVE / 2, 1, over);
     opened(file, 0, 0, 0, over);
@@ -1094,6 +1093,37 @@ fn openings(file: &mut File) {
 fn opened(file: &mut File, n: u64, t: u64, own: u64, message: &[u8]) {
     file.open(n, t, own, message);
     file.two_calls();
+}
+
+/// Lengths in a state at their limits, which are taken at every stage, and a byte over them, which
+/// are not.
+fn lengths(file: &mut File) {
+    let longest = LONGEST_MESSAGE as u64;
+    let wide = LONGEST_SHARE as u64;
+    let inside = INSIDE.map(|length| length as u64);
+    let ends = [Outcome::Nothing, Outcome::Message(longest)].map(Stage::Ended);
+    let stages = [Stage::Root, Stage::Bit, Stage::First, Stage::Second];
+    for stage in stages.into_iter().chain(ends) {
+        for (number, values) in [
+            (Number::Len, [inside[1], longest, LONG]),
+            (Number::Held, [inside[1] + 2, wide, WIDE]),
+        ] {
+            for value in values {
+                file.open(3, 1, 2, b"AB");
+                file.put(Place::Root, 0, &[7; 32]);
+                file.set_stage(stage);
+                file.set(number, value);
+                let kind = turn(stage);
+                let call = file.some_call(kind, true);
+                file.short_then_enough(&call);
+            }
+        }
+    }
+    for length in [inside[1], longest, LONG] {
+        file.open(3, 1, 2, b"AB");
+        file.set_stage(Stage::Ended(Outcome::Message(length)));
+        file.short_then_enough(&Call::Relays(Vec::new()));
+    }
 }
 
 /// How many lists of calls in no order, so that the calls of steps are at least so many.
@@ -1229,6 +1259,7 @@ pub fn cases() -> Vec<Case> {
     let mut file = File::new();
     worked(&mut file);
     openings(&mut file);
+    lengths(&mut file);
     alone(&mut file);
     near_roots(&mut file);
     happy(&mut file);
