@@ -10,10 +10,12 @@ use crate::answer::ANSWER;
 use crate::answer::MALFORMED;
 use crate::answer::number_at;
 use buffer::Written;
+use limits::MAX_PARTIES;
+use limits::MAX_SHARE;
 use stream::Tally;
 
-// The greatest length of a buffer lent.
-const MAX_ROOM: usize = 20_000;
+// The greatest length of a buffer lent: about twice what all shares of the longest message need.
+const MAX_ROOM: usize = 4 * (MAX_SHARE + MAX_PARTIES);
 
 // The bytes in front of what is encoded or rebuilt.
 const FRONT: usize = 8;

@@ -16,13 +16,14 @@ mod tree;
 
 use crate::steps::Moved;
 use crate::steps::World;
+use limits::MAX_PLAN;
 use session::MAX_TEXT;
 use stream::MAX_CASES;
 use stream::Next;
 use stream::Tally;
 
 // The greatest length of what is handed in: several times the plan that is taken.
-const MAX_INPUT: usize = 400_000;
+const MAX_INPUT: usize = 6 * MAX_PLAN;
 
 // The greatest length of what comes of a case: the text of a rehearsal is written behind its length and its hash.
 const MAX_OUTPUT: usize = plans::FRONT + MAX_TEXT;

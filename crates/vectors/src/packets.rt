@@ -15,6 +15,7 @@ use crate::answer::Answer;
 use crate::answer::MALFORMED;
 use crate::answer::number_at;
 use crate::answer::spelled;
+use commitment::MAX_PACKET;
 use limits::MAX_PATH;
 use packet::Entry;
 use packet::Judged;
@@ -37,8 +38,8 @@ const AT_PATH: usize = 7;
 
 const AT_SHARE: usize = AT_PATH + MAX_PATH * 32;
 
-// The greatest length of a buffer lent.
-const MAX_ROOM: usize = 2_000;
+// The greatest length of a buffer lent: more than any packet needs.
+const MAX_ROOM: usize = 2 * MAX_PACKET;
 
 pub(crate) fn run(kind: usize, input: &[u8], out: &mut [u8]) -> usize {
     if kind == 1 {

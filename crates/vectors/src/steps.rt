@@ -12,7 +12,7 @@
 // 8, bytes changed: where (1: 0 message, 1 root, 2 share, 3 the inbox), from which place (2), the bytes. Nothing.
 // The verdict: the answer, and SHA-256 (32) of the state given back with SHA-256 of the buffer behind it, which is empty where none is
 // lent. The state for it: n, t, own (8 each), the stage as in 7 (1) with its message's length or 0 (8), len, held (8 each), the root,
-// the message's 1,024 bytes and the share's 1,026.
+// the message's MAX_MESSAGE bytes and the share's MAX_SHARE.
 use crate::KINDS;
 use crate::answer;
 use crate::answer::ANSWER;
@@ -20,6 +20,7 @@ use crate::answer::Answer;
 use crate::answer::MALFORMED;
 use crate::answer::number_at;
 use crate::answer::spelled;
+use commitment::MAX_OUTBOX;
 use limits::MAX_MESSAGE;
 use limits::MAX_SHARE;
 use party::Opened;
@@ -29,10 +30,11 @@ use party::Seat;
 use party::Stage;
 use stream::Tally;
 
-const MAX_INBOX: usize = 8_000;
+// The greatest length of an inbox: packets of the longest message, or a few of the longest packets, with bytes over.
+const MAX_INBOX: usize = 2 * MAX_OUTBOX;
 
-// The greatest length of a buffer lent.
-const MAX_ROOM: usize = 6_000;
+// The greatest length of a buffer lent: more than any outbox needs.
+const MAX_ROOM: usize = 2 * MAX_OUTBOX;
 
 // The length of a verdict.
 const VERDICT: usize = ANSWER + 32;
