@@ -1,7 +1,7 @@
 //! The fuzzer's bytes, read from the front. Where they have run out zeros are read, and a zero
 //! always stands for what a lawful host would do.
 
-use cipangohu::MAX_PARTIES;
+use cipangohu::{MAX_OUTBOX, MAX_PARTIES};
 
 /// Numbers that no group has.
 const ODD: [usize; 8] = [
@@ -78,7 +78,7 @@ impl<'a> Input<'a> {
             0 => needed,
             byte @ 1..=63 => needed + usize::from(byte),
             byte @ 64..=127 => needed.saturating_sub(usize::from(byte) - 63),
-            _ => self.wide(20_000),
+            _ => self.wide(2 * MAX_OUTBOX),
         }
     }
 

@@ -5,7 +5,7 @@ use std::io::{self, Read};
 use std::net::Shutdown;
 use std::str::FromStr;
 
-use cipangohu::{hash, lay_out, Cause, Hash, Party, MAX_OUTBOX};
+use cipangohu::{hash, lay_out, Cause, Hash, Party, HASH, MAX_OUTBOX, MAX_PACKET};
 
 use crate::agreement::Agreement;
 use crate::clock::Clock;
@@ -196,15 +196,16 @@ fn say_nothing(port: u16, sender: usize) -> io::Result<()> {
     stream.read(&mut [0]).map(drop)
 }
 
-/// Up to 1,275 bytes, every other time starting as a packet does.
+/// Fewer bytes than two of the longest packets, every other time starting as a packet does.
 fn noise(chance: &Hash) -> Vec<u8> {
-    let mut bytes = chance.repeat(40);
+    let length = usize::from(u16::from_be_bytes([chance[0], chance[3]])) % (2 * MAX_PACKET);
+    let mut bytes = chance.repeat(1 + length / HASH);
     bytes[0] = if chance[1].is_multiple_of(2) {
         7
     } else {
         chance[2]
     };
-    bytes.truncate(usize::from(chance[0]) * 5);
+    bytes.truncate(length);
     bytes
 }
 
@@ -264,6 +265,7 @@ mod tests {
             .map(|seed| liar(Lie::Noise, seed).packet(0, 0, &[]))
             .collect();
         assert!(noises.iter().any(|noise| noise.first() == Some(&7)));
-        assert!(noises.iter().all(|noise| noise.len() <= 1_275));
+        assert!(noises.iter().any(|noise| noise.len() > MAX_PACKET));
+        assert!(noises.iter().all(|noise| noise.len() < 2 * MAX_PACKET));
     }
 }

@@ -64,6 +64,7 @@ pub fn read_frame(stream: &mut impl Read) -> Result<Frame> {
 #[cfg(test)]
 mod tests {
     use super::*;
+    use cipangohu::MAX_ENTRY;
 
     #[test]
     fn what_was_written_is_read_back() {
@@ -71,7 +72,7 @@ mod tests {
         let mut bytes = Vec::new();
         write_hello(&mut bytes, &Hello { sender: 16, token }).unwrap();
         write_frame(&mut bytes, 0, b"").unwrap();
-        write_frame(&mut bytes, 1, &[9; 65_535]).unwrap();
+        write_frame(&mut bytes, 1, &[9; MAX_ENTRY]).unwrap();
         let mut rest = &bytes[..];
         assert_eq!(read_hello(&mut rest).unwrap(), Hello { sender: 16, token });
         let (first, second) = (
@@ -79,7 +80,7 @@ mod tests {
             read_frame(&mut rest).unwrap(),
         );
         assert_eq!((first.round, first.body.len()), (0, 0));
-        assert_eq!((second.round, second.body), (1, vec![9; 65_535]));
+        assert_eq!((second.round, second.body), (1, vec![9; MAX_ENTRY]));
         assert!(rest.is_empty());
     }
 
@@ -90,6 +91,6 @@ mod tests {
             assert!(read_frame(&mut bytes).is_err());
         }
         assert!(read_hello(&mut &[1; 16][..]).is_err());
-        assert!(write_frame(&mut Vec::new(), 0, &[0; 65_536]).is_err());
+        assert!(write_frame(&mut Vec::new(), 0, &[0; MAX_ENTRY + 1]).is_err());
     }
 }

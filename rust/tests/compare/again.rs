@@ -18,7 +18,8 @@ struct End {
 
 impl End {
     fn new(play: &Play, random: &mut Random) -> End {
-        let length = random.pick(&[0, 1, 2, 100, MAX_MESSAGE - 1, MAX_MESSAGE]);
+        let any = random.below(MAX_MESSAGE);
+        let length = random.pick(&[0, 1, 2, any, MAX_MESSAGE - 1, MAX_MESSAGE]);
         let result = (!random.once_in(4)).then(|| dirt(length, random));
         let (n, t, own) = play.group;
         let stage = if result.is_some() { 5 } else { 4 };

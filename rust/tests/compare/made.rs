@@ -3,6 +3,7 @@
 
 use cipangohu::{lay_out, LAYOUT, MAX_MESSAGE, MAX_PARTIES, MAX_SHARE, STATE};
 use foreign::liars::{Lie, Scene, Sharing, Way};
+use foreign::limits::INSIDE;
 use foreign::random::Random;
 
 use crate::reference::{AT_GROUP, AT_HELD, AT_LENGTH, AT_ROOT, AT_SHARE, AT_STAGE};
@@ -35,24 +36,30 @@ pub fn odd_group(random: &mut Random) -> (usize, usize) {
     }
 }
 
-/// A message; mostly a short one.
+/// A message; mostly a short one, else of any length or of one at an edge.
 pub fn message(random: &mut Random) -> Vec<u8> {
-    let length = match random.below(8) {
-        0 => 0,
-        1 => random.below(MAX_MESSAGE + 1),
-        2 => MAX_MESSAGE - random.below(3),
+    let length = match random.below(16) {
+        0 | 1 => 0,
+        2 | 3 => random.below(MAX_MESSAGE + 1),
+        4 => MAX_MESSAGE - random.below(3),
+        5 => random.pick(&INSIDE),
         _ => random.below(24),
     };
     random.bytes(length)
 }
 
-/// Shares under one root: of a message, or of a frame that holds none.
+/// Shares under one root: of a message, or of a frame that holds none, which may give shares as long
+/// as a packet may have.
 fn sharing(n: usize, t: usize, random: &mut Random) -> Sharing {
     if random.below(6) > 0 {
         return Sharing::of(n, t, &message(random));
     }
-    let length = (n - t) * (1 + random.below(4));
-    Sharing::of_frame(n, t, &random.bytes(length))
+    let size = match random.below(8) {
+        0 => 1 + random.below(MAX_SHARE),
+        1 => MAX_SHARE,
+        _ => 1 + random.below(4),
+    };
+    Sharing::of_frame(n, t, &random.bytes((n - t) * size))
 }
 
 /// What the packets of a list of calls are about.
