@@ -6,16 +6,19 @@ use cipangohu::{
 };
 
 use crate::party::{Party, Proved};
-use crate::session::{moments, most_faults, Moments, Setting, GREATEST};
+use crate::session::{moments, most_faults, Moments, Setting, GREATEST, SHORTER};
 
 /// What is done with a call: its name is given, then the call itself.
 pub type Visit<'a> = &'a mut dyn FnMut(&'static str, &mut dyn FnMut());
+
+/// The lengths of the messages.
+pub const LENGTHS: [usize; 5] = [0, 1, 100, SHORTER, MAX_MESSAGE];
 
 /// All calls, with the least and the greatest numbers of parties, faults and bytes and those between.
 pub fn every_call(visit: Visit) {
     for n in (1..=GREATEST.n).rev() {
         for t in [0, most_faults(n)] {
-            for length in [0, 1, 100, MAX_MESSAGE] {
+            for length in LENGTHS {
                 let unhappy = usize::from(n > 1);
                 let setting = Setting {
                     n,

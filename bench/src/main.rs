@@ -10,13 +10,12 @@ use std::{env, fs};
 
 use cipangohu::MAX_HASHED;
 use figures::contest::{Others, Tables, B, S};
-use figures::every_call::every_call;
+use figures::every_call;
 use figures::growth::Sweeps;
 use figures::library::{Isal, Openssl, Zfec};
 use figures::session::GREATEST;
-use figures::stack::{taken, ROOM};
 use figures::traffic::{traffic, Traffic, LENGTHS};
-use figures::{markdown, passes, report, verdict};
+use figures::{markdown, passes, report, stack, verdict};
 
 const ROUNDS: u32 = 400;
 
@@ -52,19 +51,6 @@ fn tell_absent(others: &Others) {
     }
 }
 
-/// The greatest stack of each call over all numbers and lengths.
-fn stacks() -> Vec<(&'static str, usize)> {
-    let mut greatest: Vec<(&'static str, usize)> = Vec::new();
-    every_call(&mut |name, call| {
-        let bytes = taken(call);
-        match greatest.iter_mut().find(|(known, _)| *known == name) {
-            Some((_, most)) => *most = bytes.max(*most),
-            None => greatest.push((name, bytes)),
-        }
-    });
-    greatest
-}
-
 fn measure(others: &Others, rounds: u32) -> Result<Measured, Box<dyn Error>> {
     let timed = passes::all(others, rounds)?;
     Ok(Measured {
@@ -74,7 +60,7 @@ fn measure(others: &Others, rounds: u32) -> Result<Measured, Box<dyn Error>> {
             .iter()
             .map(|&length| (length, traffic(length)))
             .collect(),
-        stack: stacks(),
+        stack: stack::greatest(),
     })
 }
 
@@ -176,8 +162,10 @@ fn write(docs: &Path, measured: &Measured) -> Result<(), Box<dyn Error>> {
         ("{most}", markdown::grouped(most)),
         (
             "{part}",
-            format!("{:.0} %", 100.0 * most as f64 / ROOM as f64),
+            format!("{:.0} %", 100.0 * most as f64 / stack::ROOM as f64),
         ),
+        ("{room}", format!("{} KiB", stack::ROOM / 1024)),
+        ("{lengths}", markdown::listed(&every_call::LENGTHS)),
     ]
     .iter()
     .chain(&sizes())

@@ -13,6 +13,17 @@ pub fn grouped(number: usize) -> String {
     text
 }
 
+/// Numbers as a sentence lists them.
+pub fn listed(numbers: &[usize]) -> String {
+    let words: Vec<String> = numbers.iter().copied().map(grouped).collect();
+    match &words[..] {
+        [before @ .., beyond, last] if !before.is_empty() => {
+            format!("{}, {beyond} and {last}", before.join(", "))
+        }
+        few => few.join(" and "),
+    }
+}
+
 /// A ratio, or a time, with as many digits as say something.
 pub fn figure(measured: f64) -> String {
     match measured {
@@ -64,8 +75,15 @@ mod tests {
     fn numbers_are_written_in_groups() {
         assert_eq!(grouped(0), "0");
         assert_eq!(grouped(999), "999");
-        assert_eq!(grouped(1_024), "1,024");
+        assert_eq!(grouped(1_000), "1,000");
         assert_eq!(grouped(1_234_567), "1,234,567");
+    }
+
+    #[test]
+    fn the_last_of_a_list_is_joined_by_a_word() {
+        assert_eq!(listed(&[7]), "7");
+        assert_eq!(listed(&[7, 1_000]), "7 and 1,000");
+        assert_eq!(listed(&[0, 7, 1_000]), "0, 7 and 1,000");
     }
 
     #[test]

@@ -2,6 +2,7 @@
 //! are measured.
 
 use cipangohu::{entries, lay_out, Hash, MAX_MESSAGE, MAX_OUTBOX, MAX_PACKET, MAX_PARTIES};
+use foreign::limits::INSIDE;
 use foreign::random::Random;
 
 use crate::party::Party;
@@ -23,6 +24,9 @@ pub const GREATEST: Setting = Setting {
     length: MAX_MESSAGE,
     unhappy: 1,
 };
+
+/// A length well inside the range, beside which the greatest is measured.
+pub const SHORTER: usize = INSIDE[0];
 
 /// The greatest fault limit among n parties.
 pub const fn most_faults(n: usize) -> usize {

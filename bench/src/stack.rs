@@ -4,11 +4,13 @@
 use std::ffi::{c_int, c_ulong, c_void};
 use std::ptr;
 
+use crate::every_call::every_call;
+
 /// What every call has to fit in.
-pub const ROOM: usize = 256 * 1024;
+pub const ROOM: usize = 96 * 1024;
 
 /// More than any call takes, so that nothing is written outside it.
-const SIZE: usize = 2 * ROOM;
+const SIZE: usize = 4 * ROOM;
 const PAINT: u8 = 0xA5;
 
 /// More than the 56 bytes of a pthread_attr_t.
@@ -48,6 +50,19 @@ extern "C" fn measure(argument: *mut c_void) -> *mut c_void {
     }
     measured.taken = here as usize - place as usize;
     ptr::null_mut()
+}
+
+/// The greatest stack of each call over all numbers and lengths.
+pub fn greatest() -> Vec<(&'static str, usize)> {
+    let mut greatest: Vec<(&'static str, usize)> = Vec::new();
+    every_call(&mut |name, call| {
+        let bytes = taken(call);
+        match greatest.iter_mut().find(|(known, _)| *known == name) {
+            Some((_, most)) => *most = bytes.max(*most),
+            None => greatest.push((name, bytes)),
+        }
+    });
+    greatest
 }
 
 /// The bytes of stack that a call takes, from its caller's frame down.

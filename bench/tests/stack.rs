@@ -21,13 +21,15 @@ fn every_call_fits() {
     on_small_stack(|| every_call(&mut |_, call| call()));
 }
 
+const FRAME: usize = ROOM / 2;
+
 /// The measure sees a frame of known size.
 #[test]
 fn a_known_frame_is_seen() {
     let frame = || {
-        let mut bytes = [0u8; 50_000];
+        let mut bytes = [0u8; FRAME];
         std::hint::black_box(&mut bytes);
     };
     let bytes = taken(&mut || frame());
-    assert!((50_000..52_000).contains(&bytes), "{bytes}");
+    assert!((FRAME..FRAME + 2_000).contains(&bytes), "{bytes}");
 }
