@@ -1,6 +1,7 @@
 //! The erasure coder of ISA-L. Its field has the polynomial 0x11D, not 0x11B, so its shares are other
 //! bytes; the matrix, powers of the party numbers, and so the work are the same.
 
+use std::arch::x86_64::_mm256_zeroupper;
 use std::ffi::c_int;
 
 use super::{starts, Library};
@@ -109,5 +110,16 @@ impl Isal {
                 to.as_mut_ptr(),
             )
         }
+        if is_x86_feature_detected!("avx") {
+            // SAFETY: the processor has AVX.
+            unsafe { clear_upper_halves() }
+        }
     }
+}
+
+/// ISA-L leaves bytes in the upper halves of the vector registers, which would slow down whatever
+/// uses the lower halves alone afterwards, and so the proved code.
+#[target_feature(enable = "avx")]
+fn clear_upper_halves() {
+    _mm256_zeroupper();
 }
