@@ -3,10 +3,13 @@
 
 use crate::clock::Race;
 use crate::party::Proved;
-use crate::session::{moments, most_faults, Setting, GREATEST};
+use crate::session::{moments, most_faults, Setting, GREATEST, SHORTER};
 use crate::steps::{work, Step};
 
 pub const STEPS: [Step; 4] = [Step::Open, Step::Bit, Step::ShareSent, Step::Rebuild];
+
+/// How far apart the lengths are; the one that the contests have is among them.
+const APART: usize = SHORTER / 4;
 
 /// What grows.
 #[derive(Clone, Copy, PartialEq, Eq)]
@@ -51,8 +54,9 @@ impl Sweep {
 
     fn settings(self) -> Vec<(usize, Setting)> {
         match self {
-            Sweep::Length => (0..=8)
-                .map(|eighths| GREATEST.length * eighths / 8)
+            Sweep::Length => (0..GREATEST.length)
+                .step_by(APART)
+                .chain([GREATEST.length])
                 .map(|length| (length, Setting { length, ..GREATEST }))
                 .collect(),
             Sweep::Parties => (2..=GREATEST.n)

@@ -1,6 +1,6 @@
 //! Measures the proved library: its time against other implementations and as sizes grow, the bytes
-//! that a session sends, and the stack that each call takes. Times are given as ratios; one column
-//! has the microseconds of the machine at hand.
+//! that a session sends, and the stack that each call takes. Times are given as ratios;
+//! columns marked so have the microseconds of the machine at hand.
 
 pub mod contest;
 pub mod every_call;

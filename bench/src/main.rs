@@ -9,12 +9,12 @@ use std::path::Path;
 use std::{env, fs};
 
 use cipangohu::MAX_HASHED;
-use figures::contest::{Others, Tables, B, S};
+use figures::contest::{share, Others, Tables, B, LENGTHS};
 use figures::every_call;
 use figures::growth::Sweeps;
 use figures::library::{Isal, Openssl, Zfec};
 use figures::session::GREATEST;
-use figures::traffic::{traffic, Traffic, LENGTHS};
+use figures::traffic::{self, traffic, Traffic};
 use figures::{markdown, passes, report, stack, verdict};
 
 const ROUNDS: u32 = 400;
@@ -56,7 +56,7 @@ fn measure(others: &Others, rounds: u32) -> Result<Measured, Box<dyn Error>> {
     Ok(Measured {
         growth: timed.growth.relative(),
         contests: timed.contests,
-        traffic: LENGTHS
+        traffic: traffic::LENGTHS
             .iter()
             .map(|&length| (length, traffic(length)))
             .collect(),
@@ -65,18 +65,28 @@ fn measure(others: &Others, rounds: u32) -> Result<Measured, Box<dyn Error>> {
 }
 
 /// The sizes that the page speaks of, by their names there.
-fn sizes() -> [(&'static str, String); 8] {
-    [
+fn sizes() -> Vec<(&'static str, String)> {
+    let [short, long] = LENGTHS;
+    let counts = [
         ("{n}", GREATEST.n),
         ("{others}", GREATEST.n - 1),
         ("{t}", GREATEST.t),
         ("{b}", B),
-        ("{length}", GREATEST.length),
-        ("{share}", S),
-        ("{leaf}", 2 + S),
+        ("{shorter}", short),
+        ("{length}", long),
+        ("{shares}", share(long)),
+        ("{shorter shares}", share(short)),
+        ("{leaves}", 2 + share(long)),
+        ("{shorter leaves}", 2 + share(short)),
         ("{hashed}", MAX_HASHED),
-    ]
-    .map(|(name, size)| (name, markdown::grouped(size)))
+    ];
+    let counts = counts.map(|(name, size)| (name, markdown::grouped(size)));
+    let others = [
+        ("{times}", markdown::figure(verdict::times_the_bytes())),
+        ("{lengths}", markdown::listed(&every_call::LENGTHS)),
+        ("{room}", format!("{} KiB", stack::ROOM / 1024)),
+    ];
+    counts.into_iter().chain(others).collect()
 }
 
 /// This machine's processor, as the system names it.
@@ -133,48 +143,70 @@ fn traffic_section(docs: &Path, measured: &Measured) -> Result<String, Box<dyn E
     Ok(parts.join("\n"))
 }
 
+/// What the contests came to, by the names on the page.
+fn contest_texts(contests: &Tables) -> [(&'static str, String); 7] {
+    [
+        ("{steps}", report::played(&contests.played)),
+        ("{coder}", report::ratios(&contests.coder)),
+        ("{hash}", report::ratios(&contests.hash)),
+        ("{targets}", verdict::targets(contests)),
+        ("{reasons}", verdict::reasons(contests)),
+        ("{grown}", report::grown(&contests.played)),
+        ("{verdict}", verdict::growth(&contests.played)),
+    ]
+}
+
+fn stack_texts(measured: &Measured) -> [(&'static str, String); 3] {
+    let calls = measured.stack.iter();
+    let most = calls.map(|(_, bytes)| *bytes).max().unwrap_or(0);
+    let part = 100.0 * most as f64 / stack::ROOM as f64;
+    [
+        ("{stack}", report::stack_table(&measured.stack)),
+        ("{most}", markdown::grouped(most)),
+        ("{part}", format!("{part:.0} %")),
+    ]
+}
+
+/// Makes the folder of plots, or leaves none in it: those of other sizes have other names.
+fn clear(plots: &Path) -> Result<(), Box<dyn Error>> {
+    fs::create_dir_all(plots)?;
+    for entry in fs::read_dir(plots)? {
+        let file = entry?.path();
+        if file.extension().is_some_and(|kind| kind == "svg") {
+            fs::remove_file(file)?;
+        }
+    }
+    Ok(())
+}
+
 fn write(docs: &Path, measured: &Measured) -> Result<(), Box<dyn Error>> {
-    fs::create_dir_all(docs.join("figures"))?;
-    let [steps, coder, hash] = &measured.contests;
-    let most = measured
-        .stack
-        .iter()
-        .map(|(_, bytes)| *bytes)
-        .max()
-        .unwrap_or(0);
-    let fewer = measured
-        .traffic
-        .iter()
-        .map(|(length, of)| report::fewer_from(*length, of));
-    let page = [
-        ("{steps}", report::ratios(steps)),
-        ("{coder}", report::ratios(coder)),
-        ("{hash}", report::ratios(hash)),
+    clear(&docs.join("figures"))?;
+    let fewer = measured.traffic.iter();
+    let fewer = fewer.map(|(length, of)| report::fewer_from(*length, of));
+    let texts = [
         ("{machine}", machine()),
         ("{isal}", isal_uses().into()),
         ("{openssl}", openssl_uses().into()),
-        ("{targets}", verdict::targets(&measured.contests)),
-        ("{reasons}", verdict::reasons(&measured.contests)),
         ("{growth}", growth_section(docs, measured)?),
         ("{fewer}", fewer.collect::<Vec<_>>().join(" ")),
         ("{traffic}", traffic_section(docs, measured)?),
-        ("{stack}", report::stack_table(&measured.stack)),
-        ("{most}", markdown::grouped(most)),
-        (
-            "{part}",
-            format!("{:.0} %", 100.0 * most as f64 / stack::ROOM as f64),
-        ),
-        ("{room}", format!("{} KiB", stack::ROOM / 1024)),
-        ("{lengths}", markdown::listed(&every_call::LENGTHS)),
-    ]
-    .iter()
-    .chain(&sizes())
-    .fold(
-        include_str!("figures.md").to_string(),
-        |page, (name, text)| page.replace(name, text),
-    );
+    ];
+    let page = include_str!("figures.md").to_string();
+    let page = (texts.iter())
+        .chain(&contest_texts(&measured.contests))
+        .chain(&stack_texts(measured))
+        .chain(&sizes())
+        .fold(page, |page, (name, text)| page.replace(name, text));
     fs::write(docs.join("FIGURES.md"), page)?;
     Ok(())
+}
+
+/// Prints the ratios, and the stacks.
+fn print(measured: &Measured) {
+    for (_, text) in contest_texts(&measured.contests) {
+        println!("{text}");
+    }
+    println!("{}", report::stack_table(&measured.stack));
 }
 
 fn main() -> Result<(), Box<dyn Error>> {
@@ -188,9 +220,6 @@ fn main() -> Result<(), Box<dyn Error>> {
     }
     tell_absent(&others);
     let measured = measure(&others, rounds)?;
-    for rows in &measured.contests {
-        println!("{}", report::ratios(rows));
-    }
-    println!("{}", report::stack_table(&measured.stack));
+    print(&measured);
     write(Path::new(&first), &measured)
 }

@@ -28,8 +28,7 @@ impl Timed {
 
     /// All times, in an order that is the same in all processes.
     fn each(&mut self) -> impl Iterator<Item = &mut f64> {
-        let rows = self.contests.iter_mut().flatten();
-        rows.flat_map(|row| row.each()).chain(self.growth.each())
+        self.contests.each().chain(self.growth.each())
     }
 
     /// Keeps the less of each time and its line.

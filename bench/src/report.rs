@@ -1,6 +1,6 @@
 //! The text of docs/FIGURES.md and its plots, from what was measured.
 
-use crate::contest::Times;
+use crate::contest::{Grown, Times, FOREIGN, LENGTHS};
 use crate::growth::{Point, Sweep, STEPS};
 use crate::markdown::{figure, grouped, table};
 use crate::plot::{Line, Plot};
@@ -25,7 +25,7 @@ pub fn ratios(rows: &[Times]) -> String {
     };
     let line = |row: &Times| {
         let cells = columns.iter().map(|column| cell(row, column));
-        let named = std::iter::once(row.work.to_string()).chain(cells);
+        let named = std::iter::once(row.name()).chain(cells);
         named.chain([figure(row.microseconds())]).collect()
     };
     let head = std::iter::once("proved to")
@@ -33,6 +33,40 @@ pub fn ratios(rows: &[Times]) -> String {
         .chain([HERE]);
     let rows: Vec<Vec<String>> = rows.iter().map(line).collect();
     table(&head.map(str::to_string).collect::<Vec<_>>(), &rows)
+}
+
+/// The ratios of what was measured at both lengths, then the proved code's own times.
+pub fn played(rows: &[Grown]) -> String {
+    let lengths = LENGTHS.map(grouped);
+    let at_each = |name: &str| lengths.clone().map(|length| format!("{name}, L {length}"));
+    let head = ["proved to".to_string()].into_iter();
+    let head = head.chain(at_each(FOREIGN)).chain(at_each(HERE));
+    let line = |row: &Grown| {
+        let ratios = row.at.iter().flat_map(Times::ratios);
+        let times = row.at.iter().map(Times::microseconds);
+        let cells = ratios.map(|(_, ratio)| ratio).chain(times);
+        named(row.work, cells)
+    };
+    let rows: Vec<_> = rows.iter().map(line).collect();
+    table(&head.collect::<Vec<_>>(), &rows)
+}
+
+/// How many times as long each work takes with the longer message.
+pub fn grown(rows: &[Grown]) -> String {
+    let [short, long] = LENGTHS.map(grouped);
+    let head = [
+        format!("L {long} to L {short}"),
+        "proved".into(),
+        FOREIGN.into(),
+    ];
+    let line = |row: &Grown| named(row.work, row.factors());
+    table(&head, &rows.iter().map(line).collect::<Vec<_>>())
+}
+
+/// A row of figures.
+fn named(name: &str, cells: impl IntoIterator<Item = f64>) -> Vec<String> {
+    let cells = cells.into_iter().map(figure);
+    std::iter::once(name.to_string()).chain(cells).collect()
 }
 
 impl Sweep {
@@ -68,10 +102,7 @@ pub fn growth_table(sweep: Sweep, points: &[Point]) -> String {
         .chain(steps)
         .map(str::to_string)
         .collect();
-    let row = |point: &Point| {
-        let times = point.times.iter().map(|&time| figure(time));
-        std::iter::once(grouped(point.x)).chain(times).collect()
-    };
+    let row = |point: &Point| named(&grouped(point.x), point.times);
     table(&head, &points.iter().map(row).collect::<Vec<_>>())
 }
 
