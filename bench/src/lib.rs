@@ -1,6 +1,6 @@
 //! Measures the proved library: its time against other implementations and as sizes grow, the bytes
-//! that a session sends, and the stack that each call takes. Times are given as ratios;
-//! columns marked so have the microseconds of the machine at hand.
+//! that a session sends, and the stack that each call and the program `rehearsal` take. Times are
+//! given as ratios; columns marked so have the microseconds of the machine at hand.
 
 pub mod contest;
 pub mod every_call;
@@ -9,6 +9,7 @@ pub mod markdown;
 pub mod party;
 pub mod passes;
 pub mod plot;
+pub mod program;
 pub mod report;
 pub mod session;
 pub mod steps;

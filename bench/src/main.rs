@@ -15,7 +15,7 @@ use figures::growth::Sweeps;
 use figures::library::{Isal, Openssl, Zfec};
 use figures::session::GREATEST;
 use figures::traffic::{self, traffic, Traffic};
-use figures::{markdown, passes, report, stack, verdict};
+use figures::{markdown, passes, program, report, stack, verdict};
 
 const ROUNDS: u32 = 400;
 
@@ -24,6 +24,7 @@ struct Measured {
     growth: Sweeps,
     traffic: Vec<(usize, Vec<Traffic>)>,
     stack: Vec<(&'static str, usize)>,
+    program: Option<usize>,
 }
 
 /// Loads the libraries.
@@ -61,6 +62,7 @@ fn measure(others: &Others, rounds: u32) -> Result<Measured, Box<dyn Error>> {
             .map(|&length| (length, traffic(length)))
             .collect(),
         stack: stack::greatest(),
+        program: program::least_stack(Path::new(&env::var("REHEARSAL").unwrap_or_default()))?,
     })
 }
 
@@ -156,7 +158,7 @@ fn contest_texts(contests: &Tables) -> [(&'static str, String); 7] {
     ]
 }
 
-fn stack_texts(measured: &Measured) -> [(&'static str, String); 3] {
+fn stack_texts(measured: &Measured) -> [(&'static str, String); 4] {
     let calls = measured.stack.iter();
     let most = calls.map(|(_, bytes)| *bytes).max().unwrap_or(0);
     let part = 100.0 * most as f64 / stack::ROOM as f64;
@@ -164,6 +166,7 @@ fn stack_texts(measured: &Measured) -> [(&'static str, String); 3] {
         ("{stack}", report::stack_table(&measured.stack)),
         ("{most}", markdown::grouped(most)),
         ("{part}", format!("{part:.0} %")),
+        ("{program}", report::program_stack(measured.program)),
     ]
 }
 
@@ -207,6 +210,7 @@ fn print(measured: &Measured) {
         println!("{text}");
     }
     println!("{}", report::stack_table(&measured.stack));
+    println!("{}", report::program_stack(measured.program));
 }
 
 fn main() -> Result<(), Box<dyn Error>> {

@@ -4,6 +4,7 @@ use crate::contest::{Grown, Times, FOREIGN, LENGTHS};
 use crate::growth::{Point, Sweep, STEPS};
 use crate::markdown::{figure, grouped, table};
 use crate::plot::{Line, Plot};
+use crate::program;
 use crate::session::GREATEST;
 use crate::traffic::Traffic;
 
@@ -193,4 +194,18 @@ pub fn stack_table(calls: &[(&'static str, usize)]) -> String {
     let head = ["call", "bytes of stack"].map(str::to_string);
     let row = |(name, bytes): &(&str, usize)| vec![name.to_string(), grouped(*bytes)];
     table(&head, &calls.iter().map(row).collect::<Vec<_>>())
+}
+
+/// What the program takes.
+pub fn program_stack(least: Option<usize>) -> String {
+    let room = program::ROOM / 1024;
+    let (n, t) = (GREATEST.n, GREATEST.t);
+    let measured = match least.map(grouped) {
+        Some(least) => format!(
+            "prints a plan of {n} boxes with the longest books, of which {t} rebuild, under a limit of \
+             {least} KiB of stack"
+        ),
+        None => "was absent, and is left out".into(),
+    };
+    format!("The program `rehearsal` {measured}; `scripts/check-plans` runs it on all plans with {room} MiB.")
 }
