@@ -1,13 +1,15 @@
 -- `session::play` meets its contract: the lines stand at the start of the text, and the last line behind them. Assumes nothing.
-use mathlib.Core.Path.{_≡_, refl, ap, _∙_}
+use mathlib.Core.Path.{_≡_, refl, sym, ap, _∙_}
 use mathlib.Core.List.{List, _++_}
-use Prim.Native.Nat.{ℕ, _-_, _≤_}
+use Prim.Native.Nat.{ℕ, _-_, _*_, _≤_}
 use native.Mathlib.Omega.{arith}
-use lib.ListN.{length, take, drop}
+use lib.ListN.{length, take, drop, replicate, length-replicate}
+use Rattle.limits.specs.Limits.{maxParties}
 use Rattle.buffer.specs.Splice.{spliced}
 use Rattle.buffer.proofs.Splice.{length-spliced}
 use Rattle.report.specs.Output.{sentLine}
 use Rattle.sha256.specs.Sha256.{sha256}
+use Rattle.session.specs.Session.{maxOutbox}
 use Rattle.session.specs.Private.{maxLine, maxText, stepFor, stateFor, Dealt}
 use Rattle.session.proofs.Text.{sent-short, sent-written, given-at, take-behind, output-is}
 use borrow.Author.Needs.{needs}
@@ -29,6 +31,10 @@ Votes k = k .before .before .before .before .before
 
 abbrev Entry : tie.After-voted-all → tie.Start
 Entry k = k .before .before .before
+
+-- room for what all parties write, before anything is
+blank : length (replicate {A = ℕ} (maxParties * maxOutbox) 0) ≡ maxParties * maxOutbox
+blank = length-replicate {A = ℕ} (maxParties * maxOutbox) 0
 
 -- the outboxes, and the text with the lines
 outboxes : (d : tie.After-round) → Dealt (Entry (Votes d) .args .bytes .now) (d .round .last .1 .1 .1 .1 .1 .0) (d .round .last .1 .1 .1 .1 .1 .1 .0)
@@ -70,7 +76,7 @@ slice-aggregate-round-2 : tie.Need-slice-aggregate-round-2
 slice-aggregate-round-2 c = search needs
 
 slice-aggregate-round-3 : tie.Need-slice-aggregate-round-3
-slice-aggregate-round-3 c = search needs
+slice-aggregate-round-3 c = sym blank
 
 slice-aggregate-round-4 : tie.Need-slice-aggregate-round-4
 slice-aggregate-round-4 c = search needs
@@ -83,18 +89,18 @@ round-requires c κs =
       omega arith,
       λ h. absurd (omega arith),
       v .voted-all .ensures,
-      search needs,
-      search needs,
+      blank,
+      refl,
     )
 
 slice-aggregate-relay-on-one : tie.Need-slice-aggregate-relay-on-one
-slice-aggregate-relay-on-one c = search needs
+slice-aggregate-relay-on-one c = sym (outboxes (c .before .before .before) .boxes-long)
 
 slice-aggregate-relay-on-one-2 : tie.Need-slice-aggregate-relay-on-one-2
-slice-aggregate-relay-on-one-2 c = search needs
+slice-aggregate-relay-on-one-2 c = sym (outboxes (c .before .before .before .before) .lens-long)
 
 slice-aggregate-relay-on-one-3 : tie.Need-slice-aggregate-relay-on-one-3
-slice-aggregate-relay-on-one-3 c = search needs
+slice-aggregate-relay-on-one-3 c = sym blank
 
 slice-aggregate-relay-on-one-4 : tie.Need-slice-aggregate-relay-on-one-4
 slice-aggregate-relay-on-one-4 c = search needs
@@ -104,25 +110,25 @@ unfolding stepFor stateFor
 relay-on-one-requires c κs =
     let d = c .before .before .before .before .before .before in
     let st = Entry (Votes d) in
-    (record { ready = st .pre .0; bit-is = st .pre .2 }, refl, d .round .ensures .0, outboxes d, search needs, search needs)
+    (record { ready = st .pre .0; bit-is = st .pre .2 }, refl, d .round .ensures .0, outboxes d, blank, refl)
 
 slice-aggregate-put-lines : tie.Need-slice-aggregate-put-lines
-slice-aggregate-put-lines c = search needs
+slice-aggregate-put-lines c = sym (c .before .before .before .relay-on-one .kept .1 .1 .1 .1 .1 .0 ∙ blank)
 
 slice-aggregate-put-lines-2 : tie.Need-slice-aggregate-put-lines-2
-slice-aggregate-put-lines-2 c = search needs
+slice-aggregate-put-lines-2 c = sym (c .before .before .before .before .relay-on-one .kept .1 .1 .1 .1 .1 .1 .0)
 
 put-lines-requires : tie.Need-put-lines-requires
 put-lines-requires c κs = search needs
 
 slice-aggregate-sent-all : tie.Need-slice-aggregate-sent-all
-slice-aggregate-sent-all c = search needs
+slice-aggregate-sent-all c = sym (outboxes (Deals (Relays (c .before .before .before))) .boxes-long)
 
 slice-aggregate-sent-all-2 : tie.Need-slice-aggregate-sent-all-2
-slice-aggregate-sent-all-2 c = search needs
+slice-aggregate-sent-all-2 c = sym (outboxes (Deals (Relays (c .before .before .before .before))) .lens-long)
 
 slice-aggregate-sent-all-3 : tie.Need-slice-aggregate-sent-all-3
-slice-aggregate-sent-all-3 c = search needs
+slice-aggregate-sent-all-3 c = sym (Relays (c .before .before .before .before .before) .relay-on-one .kept .1 .1 .1 .1 .1 .1 .0)
 
 sent-all-requires : tie.Need-sent-all-requires
 sent-all-requires c κs =

@@ -78,7 +78,7 @@ returns-2 c =
     sym (away-unlawful sha256 (S st) (st .args .out .now) (ready t .taken) (sym (u .unlawful .ensures) ∙ c .if2 .taken))
 
 slice-aggregate-play : tie.Need-slice-aggregate-play
-slice-aggregate-play c = search needs
+slice-aggregate-play c = sym (length-replicate {A = ℕ} maxText 0)
 
 play-requires : tie.Need-play-requires
 play-requires c κs =
@@ -86,7 +86,7 @@ play-requires c κs =
     (ready (Took u), Root u .agreed-root .ensures, Bit u .agreed-bit .ensures, length-replicate maxText zero)
 
 array-share-prefix-text : tie.Need-array-share-prefix-text
-array-share-prefix-text c = search needs
+array-share-prefix-text c = c .before .play .ensures .0
 
 slice-aggregate-give : tie.Need-slice-aggregate-give
 slice-aggregate-give c =
@@ -97,7 +97,7 @@ give-requires : tie.Need-give-requires
 give-requires c κs = search needs
 
 same-length : tie.Need-same-length
-same-length c = search needs
+same-length c = c .before .before .give .kept .1 .0
 
 returns-3 : tie.Need-returns-3
 returns-3 c =
