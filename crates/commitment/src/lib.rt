@@ -53,7 +53,7 @@ pub fn root(n: usize, t: usize, own: usize, message: &[u8]) -> Rooted
             root: [0; 32],
         };
     }
-    let mut bytes = [0u8; MAX_SHARES];
+    let mut bytes = blank();
     let Lengths { size, .. } = code(n, t, message, &mut bytes);
     let leaves = merkle::leaves(n, &bytes[..size]);
     merkle::root(n, &leaves)
@@ -80,7 +80,7 @@ pub fn send(
             answer: Written::Refused(cause),
         };
     }
-    let mut bytes = [0u8; MAX_SHARES];
+    let mut bytes = blank();
     let Lengths { size, len } = code(n, t, message, &mut bytes);
     let leaves = merkle::leaves(n, &bytes[..size]);
     let nodes = merkle::nodes(n, &leaves);
@@ -118,6 +118,13 @@ pub fn open_cause(n: usize, t: usize, own: usize, len: usize) -> u8
         return 4;
     }
     0
+}
+
+// Room for all shares of a message, in a function of its own: its callers' proofs then meet its length and not its bytes.
+fn blank() -> [u8; MAX_SHARES]
+    ensures { λ r. ⌜ length r ≡ maxShares ⌝ }
+{
+    [0; MAX_SHARES]
 }
 
 // Writes the shares of a message, one behind the other, where there is room for all shares of any.

@@ -16,6 +16,11 @@ const MAX_DIGITS: usize = 20;
 // The longest line: a number, a space, the sign, a space, two digits for each byte, and a newline.
 const MAX_LINE: usize = MAX_DIGITS + 4 + 2 * MAX_MESSAGE;
 
+// The longest word in front of a number, and the line of both.
+const MAX_WORD: usize = 8;
+
+const MAX_WORDED: usize = MAX_WORD + MAX_DIGITS + 1;
+
 // A number's digits, at the end of the array.
 struct Digits {
     bytes: [u8; MAX_DIGITS],
@@ -29,10 +34,17 @@ pub fn line(number: usize, some: bool, message: &[u8], out: &mut [u8]) -> Writte
     if MAX_MESSAGE < message.len() {
         return Written::Refused(4);
     }
-    let mut text = [0u8; MAX_LINE];
+    let mut text = blank_line();
     let at = put_decimal(number, &mut text, 0);
     let end = put_result(some, message, &mut text, at);
     buffer::give(&text[..end], out)
+}
+
+// Room for a line, in a function of its own: its caller's proof then meets its length and not its bytes.
+fn blank_line() -> [u8; MAX_LINE]
+    ensures { λ r. ⌜ length r ≡ 24 + 2 * maxMessage ⌝ }
+{
+    [0; MAX_LINE]
 }
 
 // The last line in a lent buffer: the bytes sent.
@@ -54,7 +66,7 @@ fn worded(word: &[u8], x: usize, out: &mut [u8]) -> Written
     requires { ⌜ length (now word) ≤ 8 ⌝ }
     ensures { λ r. ⌜ gave r (now (out .exit)) ≡ written ((now (word .entry) ++ decimal x) ++ (newline ∷ [])) (now (out .entry)) ⌝ }
 {
-    let mut text = [0u8; MAX_LINE];
+    let mut text = [0u8; MAX_WORDED];
     buffer::put(&mut text, 0, word);
     let from = word.len();
     let at = put_decimal(x, &mut text, from);

@@ -4,7 +4,7 @@ use mathlib.Core.List.{List}
 use Prim.Native.Nat.{ℕ}
 use native.Mathlib.Omega.{arith}
 use borrow.Author.Needs.{needs}
-use lib.ListN.{length, length-replicate}
+use lib.ListN.{length}
 use lib.Seq.{length-take-le}
 use Rattle.sha256.specs.Sha256.{sha256}
 use Rattle.merkle.specs.Shares.{blank, leavesOf, rootedOf}
@@ -26,7 +26,7 @@ abbrev Shares : tie.After-code → List ℕ
 Shares q = q .code .last .1 .1 .1 .0
 
 long : (q : tie.After-code) → length (Shares q) ≡ maxShares
-long q = omega (arith, q .code .kept .1 .1 .1 .0, length-replicate {A = ℕ} maxShares 0)
+long q = q .code .kept .1 .1 .1 .0 ∙ q .before .before .blank .ensures
 
 open-cause-requires : tie.Need-open-cause-requires
 open-cause-requires c κs = search needs
@@ -38,14 +38,17 @@ returns c =
     ap {B = Rooted} (λ (i : ℕ). record { cause = i; root = blank }) k
     ∙ sym (rooted-refused sha256 (a .n) (a .t) (a .own) (a .message .now) (λ q. c .if1 .taken (k ∙ q)))
 
+blank-requires : tie.Need-blank-requires
+blank-requires c κs = search needs
+
 slice-aggregate-code : tie.Need-slice-aggregate-code
 slice-aggregate-code c = search needs
 
 code-requires : tie.Need-code-requires
 code-requires c κs =
-    let e = c .before in
-    let a = e .before .before .before .args in
-    (open-coded (a .n) (a .t) (a .own) (a .message .now) (fine e), length-replicate {A = ℕ} maxShares 0)
+    let b = c .before in
+    let a = b .before .before .before .before .args in
+    (open-coded (a .n) (a .t) (a .own) (a .message .now) (fine (b .before)), b .blank .ensures)
 
 array-share-prefix-bytes : tie.Need-array-share-prefix-bytes
 array-share-prefix-bytes c = search needs
@@ -66,7 +69,7 @@ unfolding messageRoot
 returns-2 c =
     let l = c .before .before in
     let q = l .before .before .before in
-    let e = q .before .before in
+    let e = q .before .before .before in
     let a = e .before .before .before .args in
     let w = open-coded (a .n) (a .t) (a .own) (a .message .now) (fine e) in
     c .root .ensures
@@ -80,6 +83,7 @@ root-spec =
     (tie.spec
     open-cause-requires
     returns
+    blank-requires
     slice-aggregate-code
     code-requires
     array-share-prefix-bytes

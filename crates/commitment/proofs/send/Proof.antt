@@ -7,7 +7,7 @@ use Prim.Native.Nat.{ℕ, _-_, _*_, _≤_}
 use native.Mathlib.Omega.{arith}
 use borrow.Author.Needs.{needs}
 use borrow.Author.Tests.{not-true, not-false}
-use lib.ListN.{length, take, length-replicate}
+use lib.ListN.{length, take}
 use lib.Seq.{length-take-le}
 use Rattle.sha256.specs.Sha256.{sha256}
 use Rattle.limits.specs.Limits.{maxShare}
@@ -55,7 +55,7 @@ abbrev Array : tie.After-code → List ℕ
 Array q = q .code .last .1 .1 .1 .0
 
 long : (q : tie.After-code) → length (Array q) ≡ maxShares
-long q = omega (arith, q .code .kept .1 .1 .1 .0, length-replicate {A = ℕ} maxShares 0)
+long q = q .code .kept .1 .1 .1 .0 ∙ q .before .before .blank .ensures
 
 abbrev Shares : tie.After-code → List ℕ
 Shares q = take (q .code .result .size) (Array q)
@@ -64,21 +64,21 @@ all : (q : tie.After-code) → length (Shares q) ≡ q .code .result .size
 all q = length-take-le (q .code .result .size) (Array q) (omega (arith, long q, q .code .ensures .0))
 
 -- the leaves, and the root over leaves and nodes, are those of the definition
-leaves-are : (l : tie.After-leaves) → let q = l .before .before .before in let a = Entry (q .before .before .before) .args in
+leaves-are : (l : tie.After-leaves) → let q = l .before .before .before in let a = Entry (q .before .before .before .before) .args in
     l .leaves .result ≡ leavesFor sha256 (a .n) (a .t) (a .message .now)
 leaves-are l =
     let q = l .before .before .before in
-    l .leaves .ensures ∙ ap (leavesOf sha256 (Entry (q .before .before .before) .args .n)) (q .code .ensures .1)
+    l .leaves .ensures ∙ ap (leavesOf sha256 (Entry (q .before .before .before .before) .args .n)) (q .code .ensures .1)
 
 abbrev Leaves : tie.After-root-in → tie.After-leaves
 Leaves r = r .before .before .before .before .before
 
-root-is : (r : tie.After-root-in) → let a = Entry (Leaves r .before .before .before .before .before .before) .args in
+root-is : (r : tie.After-root-in) → let a = Entry (Leaves r .before .before .before .before .before .before .before) .args in
     r .root-in .result .root ≡ messageRoot sha256 (a .n) (a .t) (a .message .now)
 unfolding messageRoot
 root-is r =
     let l = Leaves r in
-    let e = l .before .before .before .before .before in
+    let e = l .before .before .before .before .before .before in
     let n = Entry (e .before) .args .n in
     let d = r .before .before .before in
     ap (λ (x : Rooted). x .root) (r .root-in .ensures
@@ -92,7 +92,7 @@ abbrev Root : tie.After-same → tie.After-root-in
 Root s = s .before .before .before .before
 
 abbrev Cause : tie.After-same → tie.Else1
-Cause s = Leaves (Root s) .before .before .before .before .before
+Cause s = Leaves (Root s) .before .before .before .before .before .before
 
 happy-is : (s : tie.After-same) → let st = Entry (Cause s .before) in
     s .same .result ≡ same (messageRoot sha256 (st .args .n) (st .args .t) (M st)) (st .args .root .now)
@@ -112,11 +112,14 @@ returns c =
     ap (λ (i : ℕ). sending false (gave (Refused i) (Out st))) k
     ∙ sym (send-refused sha256 (a .n) (a .t) (a .own) (M st) (a .relays) (a .root .now) (Out st) (λ q. c .if1 .taken (k ∙ q)))
 
+blank-requires : tie.Need-blank-requires
+blank-requires c κs = search needs
+
 slice-aggregate-code : tie.Need-slice-aggregate-code
 slice-aggregate-code c = search needs
 
 code-requires : tie.Need-code-requires
-code-requires c κs = (within (c .before), length-replicate {A = ℕ} maxShares 0)
+code-requires c κs = let b = c .before in (within (b .before), b .blank .ensures)
 
 array-share-prefix-bytes : tie.Need-array-share-prefix-bytes
 array-share-prefix-bytes c = search needs
@@ -163,11 +166,11 @@ given s b =
 abbrev Coding : tie.Else2 → tie.After-code
 Coding s = Leaves (Root (s .before)) .before .before .before
 
-sized : (s : tie.Else2) → let q = Coding s in let n = Entry (q .before .before .before) .args .n in
+sized : (s : tie.Else2) → let q = Coding s in let n = Entry (q .before .before .before .before) .args .n in
     (1 ≤ q .code .result .len) × (q .code .result .len ≤ maxShare) × (length (Shares q) ≡ n * q .code .result .len)
 sized s =
     let q = Coding s in
-    let e = q .before .before in
+    let e = q .before .before .before in
     let a = Entry (e .before) .args in
     let c = within e in (
       omega (arith, q .code .ensures .2, share-some (a .n) (a .t) (a .message .now) c),
@@ -176,16 +179,16 @@ sized s =
     )
 
 nodes-are : (s : tie.Else2) → let r = Root (s .before) in let l = Leaves r in
-    r .before .before .before .nodes .result ≡ nodesOf sha256 (Entry (Coding s .before .before .before) .args .n) (l .leaves .result)
+    r .before .before .before .nodes .result ≡ nodesOf sha256 (Entry (Coding s .before .before .before .before) .args .n) (l .leaves .result)
 nodes-are s = Root (s .before) .before .before .before .nodes .ensures
 
 -- the relay and the outbox over these are those of the message
-relayed : (s : tie.Else2) → let q = Coding s in let st = Entry (q .before .before .before) in
+relayed : (s : tie.Else2) → let q = Coding s in let st = Entry (q .before .before .before .before) in
     relayFor sha256 (st .args .n) (st .args .own) (q .code .result .len) (Shares q) (Leaves (Root (s .before)) .leaves .result)
     ≡ Bytes true st
 relayed s =
     let q = Coding s in
-    let e = q .before .before in
+    let e = q .before .before .before in
     let st = Entry (e .before) in
     let a = st .args in
     let l = Leaves (Root (s .before)) in
@@ -194,13 +197,13 @@ relayed s =
     ∙ ap (relayFor sha256 (a .n) (a .own) (shareLength (a .n - a .t) (length (M st))) (shares (a .n) (a .n - a .t) (M st))) (leaves-are l)
     ∙ relay-sent sha256 (a .n) (a .t) (a .own) (M st) (within e) (b .1) (b .2)
 
-sent-out : (s : tie.Else2) → let q = Coding s in let st = Entry (q .before .before .before) in
+sent-out : (s : tie.Else2) → let q = Coding s in let st = Entry (q .before .before .before .before) in
     outboxUpTo sha256 (st .args .n) (st .args .n) (st .args .own) (q .code .result .len) (Shares q)
     (Leaves (Root (s .before)) .leaves .result)
     ≡ Bytes false st
 sent-out s =
     let q = Coding s in
-    let e = q .before .before in
+    let e = q .before .before .before in
     let st = Entry (e .before) in
     let a = st .args in
     let l = Leaves (Root (s .before)) in
@@ -219,7 +222,7 @@ slice-aggregate-put-relay c = sym (all (Coding (c .before .before)))
 put-relay-requires : tie.Need-put-relay-requires
 put-relay-requires c κs =
     let s = c .before .before .before .before .before in
-    let e = Coding s .before .before in
+    let e = Coding s .before .before .before in
     let a = Entry (e .before) .args in
     let w = within e in
     let b = open-bounds (a .n) (a .t) (a .own) (length (a .message .now)) (fine e) in
@@ -234,7 +237,7 @@ returns-3 c =
     let p = c .before .before in
     let t = p .before .before .before .before .before in
     let s = t .before in
-    let st = Entry (Coding s .before .before .before) in
+    let st = Entry (Coding s .before .before .before .before) in
     let a = st .args in
     ap (sending true) (p .put-relay .ensures ∙ ap (λ (bs : List ℕ). written bs (Out st)) (relayed s))
     ∙ given s true
@@ -249,7 +252,7 @@ slice-aggregate-put-outbox c = sym (all (Coding (c .before .before)))
 put-outbox-requires : tie.Need-put-outbox-requires
 put-outbox-requires c κs =
     let s = c .before .before .before .before .before in
-    let e = Coding s .before .before in
+    let e = Coding s .before .before .before in
     let w = within e in
     let z = sized s in
     (w .low, w .high, z .0, z .1, z .2, Leaves (Root (s .before)) .leaves .ensures, nodes-are s)
@@ -262,7 +265,7 @@ returns-4 c =
     let p = c .before .before in
     let t = p .before .before .before .before .before in
     let s = t .before in
-    let st = Entry (Coding s .before .before .before) in
+    let st = Entry (Coding s .before .before .before .before) in
     let a = st .args in
     ap (sending true) (p .put-outbox .ensures ∙ ap (λ (bs : List ℕ). written bs (Out st)) (sent-out s))
     ∙ given s false
@@ -274,6 +277,7 @@ send-spec =
     (tie.spec
     open-cause-requires
     returns
+    blank-requires
     slice-aggregate-code
     code-requires
     array-share-prefix-bytes

@@ -1,12 +1,11 @@
 -- `report::line` meets its contract: the number, and behind it what follows it, are the line. Assumes nothing.
 use mathlib.Core.Path.{_≡_, sym, ap, _∙_}
 use mathlib.Core.List.{List, _++_}
-use Prim.Native.Nat.{ℕ, _+_, _*_}
+use Prim.Native.Nat.{ℕ, _+_}
 use native.Mathlib.Omega.{arith}
 use borrow.Author.Needs.{needs}
-use lib.ListN.{length, take, replicate, length-replicate, length-append}
+use lib.ListN.{length, take, length-append}
 use lib.Seq.{length-take-le}
-use Rattle.limits.specs.Limits.{maxMessage}
 use Rattle.buffer.specs.Given.{written}
 use Rattle.report.specs.Output.{decimal, ending}
 use Rattle.report.proofs.Lines.{splice-behind, start-of, line-refused, line-given}
@@ -15,7 +14,7 @@ use Rattle.report.proofs.line.Tie as tie
 
 -- where the function was entered
 abbrev Entry : tie.After-put-result → tie.Start
-Entry w = w .before .before .before .before .before .before .before .before
+Entry w = w .before .before .before .before .before .before .before .before .before
 
 abbrev Text : tie.After-put-result → List ℕ
 Text w = let a = Entry w .args in decimal (a .number) ++ ending (a .some) (a .message .now)
@@ -25,7 +24,8 @@ begins : (w : tie.After-put-result) → take (w .put-result .result) (w .put-res
 begins w =
     let p = w .before .before .before in
     let a = Entry w .args in
-    let d : List ℕ = replicate (24 + 2 * maxMessage) 0 in
+    let b = p .before .before in
+    let d : List ℕ = b .blank-line .result in
     let first : List ℕ = decimal (a .number) in
     let second : List ℕ = ending (a .some) (a .message .now) in
     let (there, few, wrote) = p .put-decimal .ensures in
@@ -33,13 +33,16 @@ begins w =
     omega (arith, w .put-result .ensures .1, there, length-append first second) in
     start-of d (Text w) (w .put-result .result)
     (w .put-result .ensures .2
-    ∙ splice-behind d first second 0 (p .put-decimal .result) wrote there (omega (arith, length-replicate {A = ℕ} (24 + 2 * maxMessage) 0)))
+    ∙ splice-behind d first second 0 (p .put-decimal .result) wrote there (omega (arith, b .blank-line .ensures)))
     end
 
 returns : tie.Need-returns
 returns c =
     let a = c .before .before .before .args in
     sym (line-refused (a .number) (a .some) (a .message .now) (a .out .now) (omega arith))
+
+blank-line-requires : tie.Need-blank-line-requires
+blank-line-requires c κs = search needs
 
 slice-aggregate-put-decimal : tie.Need-slice-aggregate-put-decimal
 slice-aggregate-put-decimal c = search needs
@@ -80,6 +83,7 @@ line-spec =
     tie.close
     (tie.spec
     returns
+    blank-line-requires
     slice-aggregate-put-decimal
     put-decimal-requires
     slice-aggregate-put-result

@@ -1,12 +1,11 @@
 -- `report::worded` meets its contract: the word, the number and the newline are the line. Assumes nothing.
 use mathlib.Core.Path.{_≡_, sym, ap, _∙_}
 use mathlib.Core.List.{List, [], _∷_, _++_}
-use Prim.Native.Nat.{ℕ, _+_, _*_}
+use Prim.Native.Nat.{ℕ, _+_}
 use native.Mathlib.Omega.{arith}
 use borrow.Author.Needs.{needs}
 use lib.ListN.{length, take, replicate, length-replicate, length-append}
 use lib.Seq.{length-take-le}
-use Rattle.limits.specs.Limits.{maxMessage}
 use Rattle.buffer.specs.Given.{written}
 use Rattle.buffer.proofs.Splice.{put-fits}
 use Rattle.report.specs.Output.{newline, decimal}
@@ -32,8 +31,8 @@ begins q =
     let p = w .before .before .before in
     let word = Word q in
     let x = Entry q .args .x in
-    let d : List ℕ = replicate (24 + 2 * maxMessage) 0 in
-    let long : length d ≡ 24 + 2 * maxMessage = length-replicate {A = ℕ} (24 + 2 * maxMessage) 0 in
+    let d : List ℕ = replicate 29 0 in
+    let long : length d ≡ 29 = length-replicate {A = ℕ} 29 0 in
     let end : w .put-decimal .result ≡ 0 + length (word ++ decimal x) =
     omega (arith, w .put-decimal .ensures .0, length-append word (decimal x)) in
     let first = p .put .ensures .1 ∙ put-fits d 0 word (omega arith) in
