@@ -28,7 +28,7 @@
  * the share and its path, hash by hash from the leaf upward. None that can be read is longer than CIPANGOHU_PACKET.
  *
  * A buffer that a call writes overlaps no other buffer of that call. Through a pointer with length 0 nothing is read or written. Nothing is
- * global: calls on different buffers may run at once, and so may calls that only read one state. In trials every call fits a stack of 256 KiB, the host's own buffers not counted;
+ * global: calls on different buffers may run at once, and so may calls that only read one state. In trials every call fits a stack of 96 KiB, the host's own buffers not counted;
  * CIPANGOHU_INBOX bytes are better kept elsewhere. */
 #ifndef CIPANGOHU_H
 #define CIPANGOHU_H
