@@ -78,23 +78,23 @@ fn read_share(n: usize, s: &[u8], at: usize) -> Packet
         return Packet::Refused(10);
     }
     let number = wide(s[at + 1]);
-    let len = buffer::size_at(s, at + 2);
-    if len < 1 {
+    let stated = buffer::size_at(s, at + 2);
+    if stated < 1 {
         return Packet::Refused(10);
     }
-    if MAX_SHARE < len {
+    if MAX_SHARE < stated {
         return Packet::Refused(10);
     }
     let Counted::Hashes(count) = merkle::path_length(n, number) else {
         return Packet::Refused(10);
     };
-    if size != 4 + len + 32 * count {
+    if size != 4 + stated + 32 * count {
         return Packet::Refused(10);
     }
     Packet::Share {
         number,
         from: at + 4,
-        len,
+        len: stated,
         count,
     }
 }
