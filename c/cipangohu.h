@@ -143,7 +143,7 @@ CIPANGOHU_MUST_USE cipangohu_answer cipangohu_take_shares(uint8_t *state, size_t
                                                           uint8_t *out, size_t out_len);
 
 /* Step 5, the second inbox: writes the message, if the result is one. Value: CIPANGOHU_SETTLED for a message of any length, which
- * cipangohu_result_length tells, or CIPANGOHU_NOTHING; it is no length itself. Since version 1.1 a party that has ended, at this step or on bit 0,
+ * cipangohu_result_length tells, or CIPANGOHU_NOTHING; it is no length itself. A party that has ended, at this step or on bit 0,
  * gives its result to every further reader in the same way, and writes its state anew. It does not look at the inbox. Readers hand in none (NULL and
  * 0): a party that has not ended yet refuses that, and would take entries for its second inbox. Causes 5, 6, 8, and 9 where there is a message (of a
  * party that has ended: 5, and 9 where its result is a message). */
