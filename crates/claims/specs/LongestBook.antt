@@ -1,6 +1,7 @@
--- What request No. 2 of document 02 asks for, at SHA-256: one greatest length of a message (document 01: a book) and one of a share, two bytes more, by which a
--- box judges every message and share that it opens with, codes, rebuilds, reads or holds; and rooms that follow from it and are enough. The numbers stand
--- in `limits`. In a rehearsal `plan` Layout.booksFit and `report` Output.lineOf judge by the same limit. Assumes nothing.
+-- What request No. 2 of document 02 asks for, at SHA-256: one greatest length of a message (document 01: a book), by which a box judges what it opens with, codes,
+-- rebuilds and holds, and one of a share, two bytes more, by which it judges what it reads and holds; and rooms that follow from them and are enough. The numbers
+-- stand in `limits`; that a broken state is cause 5 and an unreadable packet cause 10 stands in `Claims`. In a rehearsal `plan` Layout.booksFit and `report`
+-- Output.lineOf judge by the same limit. Assumes nothing.
 use mathlib.Core.Path.{_≡_}
 use mathlib.Core.Logic.{_≢_}
 use mathlib.Core.Bool.{true, cond, _&&_, _||_}
@@ -30,8 +31,8 @@ pub record BooksHaveOneGreatestLength : Type 0 where
   pub opening : (n t own : ℕ) (m : List ℕ) → groupCause n t ≡ 0 → numbered n own ≡ true
       → openOf sha256 n t own m .cause ≡ when 4 (ltb maxMessage (length m))
   pub coder : (n t : ℕ) (m out : List ℕ) → groupCause n t ≡ 0 → encodeOf n t m out ≡ unless (when 4 (ltb maxMessage (length m))) (shares n (n - t) m) out
-  -- cause 12, in rebuilding and in step 5, which join shares to a frame of b blocks of s bytes: the frame of a message gives it back, and one that states a
-  -- greater length gives none
+  -- cause 12: a frame of b blocks of s bytes that is a message's gives it back; shares that are joined to one, as rebuilding and step 5 do, give none where it
+  -- states a greater length
   pub frames : (b : ℕ) (m : List ℕ) → 1 ≤ b → length m ≤ maxMessage → unframed b (shareLength b (length m)) (frame b m) ≡ message m
   pub long-frames : (b s : ℕ) (us : List Point) → maxMessage < size (framed b s us) → joined b s us ≡ cause 12
   -- cause 10: a packet of map 7 with a number, a share and the bytes r of its path, as many hashes as n and the number give, is read exactly if the share has

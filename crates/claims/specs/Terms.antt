@@ -63,13 +63,6 @@ due x (agreeBit bit out) = outboxOf sha256 x bit
 due x (takeShares inbox out) = relayOf sha256 x inbox
 due x (takeRelays inbox out) = resultBytes (resultOf sha256 x inbox)
 
--- the room for what a step writes: nothing, an outbox, a relay, a message
-abbrev pub roomFor : Call → ℕ
-roomFor (agreeRoot z) = 0
-roomFor (agreeBit bit out) = maxOutbox
-roomFor (takeShares inbox out) = maxPacket
-roomFor (takeRelays inbox out) = maxMessage
-
 abbrev pub next : Party → Call → Party
 next x (agreeRoot z) = atBit (x .seat) (messageIn x) z
 next x (agreeBit bit out) = cond (eqb bit 0) (atEnd (x .seat) nothing) (atFirst (x .seat) (messageIn x) (x .root))
@@ -88,7 +81,14 @@ outcome x (agreeBit bit out) = none
 outcome x (takeShares inbox out) = none
 outcome x (takeRelays inbox out) = some (resultOf sha256 x inbox)
 
--- the length of a result that is a message; 0: there is none
+-- the room for what a step writes: nothing, an outbox, a relay, a message
+abbrev pub roomFor : Call → ℕ
+roomFor (agreeRoot z) = 0
+roomFor (agreeBit bit out) = maxOutbox
+roomFor (takeShares inbox out) = maxPacket
+roomFor (takeRelays inbox out) = maxMessage
+
+-- the length of a result that is a message, and 0 where there is none
 abbrev pub resultLength : Stage → ℕ
 resultLength Root = 0
 resultLength Bit = 0

@@ -76,7 +76,7 @@ judged m r fits =
     go true false = refl
     go false b = refl
 
--- one party with a message of the greatest length is taken; with a byte more it is cause 4; with a byte left over that is cause 13, with t 1 cause 2
+-- one party with a message of the greatest length is taken; one whose message has a byte more is cause 4, with a byte left over besides cause 13, and with t 1 cause 2
 pub longest-message : (m : List ℕ) → length m ≡ maxMessage → planCause (alone m []) ≡ 0
 longest-message m e = judged m [] (omega (arith, length-append m [])) ∙ rw (le-leb (length m) maxMessage (omega arith))
 
