@@ -25,11 +25,11 @@ from-at (suc n) (suc i) k h =
     from-at n i (suc k) (le-of-suc-le-suc h) ∙ ap (power 0x03) e
 
 unfoldable pub powers : List ℕ
-powers = from 255 1
+powers = from 510 1
 
-pub powers-at : (i : ℕ) → i < 255 → getD powers i 0 ≡ power 0x03 i
+pub powers-at : (i : ℕ) → i < 510 → getD powers i 0 ≡ power 0x03 i
 unfolding powers power
-powers-at i h = from-at 255 i 0 h ∙ ap (power 0x03) (zero-add i)
+powers-at i h = from-at 510 i 0 h ∙ ap (power 0x03) (zero-add i)
 
 abbrev past : Bool → ℕ → ℕ
 past true n = 0
@@ -74,7 +74,7 @@ exponent-at zero p h = absurd (omega arith)
 exponent-at (suc a) p h =
     let l : a < 255 = omega arith in
     let e : getD (places 255 1 powers) a 0 ≡ place (suc a) powers = places-at 255 1 a powers l ∙ ap (λ (m : ℕ). place m powers) (omega arith) in
-    rw e (place-lt a l, sym (powers-at (place (suc a) powers) (place-lt a l)) ∙ place-at a l)
+    rw e (place-lt a l, sym (powers-at (place (suc a) powers) (omega (arith, place-lt a l))) ∙ place-at a l)
 
 -- a byte is 0 or a power of 0x03
 pub data Element : ℕ → Type 0 where

@@ -3,30 +3,39 @@
 mod table;
 
 ghost use mathlib.Core.Path.{_≡_};
-ghost use Prim.Native.Nat.{_*_, _%_, _<_};
+ghost use mathlib.Core.List.{map};
+ghost use Prim.Native.Nat.{ℕ, _*_, _%_, _<_};
 ghost use lib.Bits.{bitXor};
+ghost use lib.ListN.{getD};
 ghost use Rattle.gf256.specs.Field.{timesX, product, power, inverse};
 use table::EXPONENTS;
 use table::POWERS;
 
-// 0x03 to the power i. The tables are read here and in `exponent_of` alone, so that no other proof meets them.
-fn power_at(i: usize) -> u8
-    requires { ⌜ i < 255 ⌝ }
-    ensures { λ r. ⌜ r ≡ power 3 i ⌝ }
+// The powers of 0x03. The tables are read here and in `exponent_table` alone, so that no other proof meets them. Whoever reads a constant array lays it
+// down on the stack anew, so these are handed on.
+fn power_table() -> [u8; 510]
+    ensures { λ r. ⌜ ((i : ℕ) → i < 510 → getD r i 0 ≡ power 3 i) ⌝ }
 {
-    POWERS[i]
+    POWERS
 }
 
-// The exponent at which the power of 0x03 is a.
-fn exponent_of(a: u8) -> usize
-    requires { ⌜ 0 < a ⌝ }
-    ensures { λ r. ⌜ (r < 255) × (power 3 r ≡ a) ⌝ }
+// The exponent of each byte but 0.
+fn exponent_table() -> [u8; 256]
+    ensures { λ r. ⌜ ((x : ℕ) → 0 < x → x < 256 → (getD r x 0 < 255) × (power 3 (getD r x 0) ≡ x)) ⌝ }
 {
-    EXPONENTS[a as usize] as usize
+    EXPONENTS
 }
 
-// The product of two bytes: exponents add, and count modulo 255. 0 has no exponent.
-pub fn mul(a: u8, b: u8) -> u8
+fn wide(x: u8) -> usize
+    ensures { λ r. ⌜ r ≡ x ⌝ }
+{
+    x as usize
+}
+
+// The product of two bytes by the tables: exponents add, and the power at their sum is looked up. 0 has no exponent.
+fn times(powers: &[u8; 510], exponents: &[u8; 256], a: u8, b: u8) -> u8
+    requires { ⌜ ((i : ℕ) → i < 510 → getD (now powers) i 0 ≡ power 3 i)
+        × ((x : ℕ) → 0 < x → x < 256 → (getD (now exponents) x 0 < 255) × (power 3 (getD (now exponents) x 0) ≡ x)) ⌝ }
     ensures { λ r. ⌜ r ≡ product a b ⌝ }
 {
     if a == 0 {
@@ -35,8 +44,30 @@ pub fn mul(a: u8, b: u8) -> u8
     if b == 0 {
         return 0;
     }
-    let sum = exponent_of(a) + exponent_of(b);
-    power_at(sum % 255)
+    let sum = wide(exponents[a as usize]) + wide(exponents[b as usize]);
+    powers[sum]
+}
+
+// The product of two bytes.
+pub fn mul(a: u8, b: u8) -> u8
+    ensures { λ r. ⌜ r ≡ product a b ⌝ }
+{
+    let powers = power_table();
+    let exponents = exponent_table();
+    times(&powers, &exponents, a, b)
+}
+
+// Multiplies each byte of a row by a: the tables are laid down once for the whole row.
+pub fn mul_row(a: u8, row: &mut [u8])
+    ensures { λ _. ⌜ now (row .exit) ≡ map (product a) (now (row .entry)) ⌝ }
+{
+    let powers = power_table();
+    let exponents = exponent_table();
+    let mut c: usize = 0;
+    while c < row.len() {
+        row[c] = times(&powers, &exponents, a, row[c]);
+        c += 1;
+    }
 }
 
 // x times a: `timesX` without its ninth bit, so that it stays a byte.
@@ -74,15 +105,17 @@ pub fn mul_bits(a: u8, b: u8) -> u8
     next_bit(seven, a, b)
 }
 
-// The inverse of a byte; 0 for 0. The two exponents add up to 255, or are both 0.
+// The inverse of a byte; 0 for 0. The two exponents add up to 255.
 pub fn inv(a: u8) -> u8
     ensures { λ r. ⌜ r ≡ inverse a ⌝ }
 {
     if a == 0 {
         return 0;
     }
-    let rest = 255 - exponent_of(a);
-    power_at(rest % 255)
+    let exponents = exponent_table();
+    let powers = power_table();
+    let rest = 255 - wide(exponents[a as usize]);
+    powers[rest]
 }
 
 // a to the power k. k is reduced before the product of exponents, which then fits for every k.
@@ -95,8 +128,10 @@ pub fn pow(a: u8, k: usize) -> u8
     if a == 0 {
         return 0;
     }
-    let e = exponent_of(a);
+    let exponents = exponent_table();
+    let powers = power_table();
+    let e = wide(exponents[a as usize]);
     let times = k % 255;
     let raised = e * times;
-    power_at(raised % 255)
+    powers[raised % 255]
 }
