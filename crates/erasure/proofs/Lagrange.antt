@@ -1,16 +1,18 @@
 -- Lagrange's polynomials worked out in arrays, a turn of each loop a law: entries are set one after the other, a column of the table
 -- after the other; a factor (X + r) looks at no coefficient past its own; and a product over the points skips a point or takes a
 -- factor more. Assumes nothing.
-use mathlib.Core.Path.{_≡_, ap, ap₂, _∙_}
-use mathlib.Core.List.{List}
+use mathlib.Core.Path.{_≡_, sym, ap, ap₂, _∙_}
+use mathlib.Core.List.{List, map, _++_}
 use mathlib.Core.Logic.{_≢_}
 use Prim.Native.Nat.{ℕ, zero, suc, _+_, _-_, _<_, _≤_}
 use native.Mathlib.Numerals.{add-one}
 use native.Mathlib.Omega.{arith}
 use borrow.Author.Count.{below-more}
-use lib.ListN.{length, getD, set, replicate, length-replicate, getD-replicate}
-use lib.Seq.{getD-set-same, getD-set-other}
+use lib.ListN.{length, getD, set, take, drop, replicate, length-replicate, getD-replicate, length-append, length-drop, length-map, List·getD-append, List·getD-map}
+use lib.Seq.{getD-set-same, getD-set-other, getD-take, length-take-le}
 use Rattle.limits.specs.Limits.{maxParties}
+use Rattle.gf256.specs.Field.{product}
+use Rattle.gf256.proofs.Laws.{product-zero}
 use Rattle.erasure.specs.Bytes.{bytes}
 use Rattle.erasure.specs.Arrays.{cell, Table}
 use Rattle.polynomial.specs.Polynomial.{Operations, factor, unit, numerator, denominator, basis}
@@ -36,6 +38,20 @@ table-more t u b xs m q h kept new j k l r =
     below-more (λ i. getD u (cell k i) 0 ≡ basis bytes b (λ n. getD xs n 0) i k) m
     (λ i a. kept k i (omega arith) (λ e. omega arith) ∙ h i k a r)
     (new k r) j l
+
+-- an array whose first b entries are multiplied by a
+module _ (a b : ℕ) (w x : List ℕ) (q : b ≤ length w) (e : x ≡ map (product a) (take b w)) where
+  scaled-part : length x ≡ b
+  scaled-part = rw e (length-map (take b w) (product a) ∙ length-take-le b w q)
+
+  pub scaled-length : length (x ++ drop b w) ≡ length w
+  scaled-length = simp (length-append, length-drop, scaled-part) (omega arith)
+
+  pub scaled-at : (k : ℕ) → k < b → getD (x ++ drop b w) k 0 ≡ product a (getD w k 0)
+  scaled-at k l =
+      List·getD-append x (drop b w) 0 k (rw scaled-part l) ∙ ap (λ (y : List ℕ). getD y k 0) e
+      ∙ ap (getD (map (product a) (take b w)) k) (sym (product-zero a)) ∙ List·getD-map (product a) (take b w) k 0
+      ∙ ap (product a) (getD-take b w k 0 l)
 
 -- the polynomial 1 in an array
 pub one-unit : (n k : ℕ) → k < n → getD (set (replicate n 0) 0 1) k 0 ≡ unit bytes k

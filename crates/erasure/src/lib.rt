@@ -301,11 +301,11 @@ fn times_factor(w: [u8; MAX_PARTIES], r: u8, b: usize) -> [u8; MAX_PARTIES]
     requires { ⌜ b ≤ maxParties ⌝ }
     ensures { λ v. ⌜ ((k : ℕ) → k < b → getD v k 0 ≡ factor bytes r (λ i. getD w i 0) k) ⌝ }
 {
-    let mut v = [0u8; MAX_PARTIES];
-    v[0] = gf256::mul(r, w[0]);
+    let mut v = w;
+    gf256::mul_row(r, &mut v[..b]);
     let mut k: usize = 1;
     while k < b {
-        v[k] = w[k - 1] ^ gf256::mul(r, w[k]);
+        v[k] = w[k - 1] ^ v[k];
         k += 1;
     }
     v
