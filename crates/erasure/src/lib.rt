@@ -353,10 +353,12 @@ fn write_column(table: [u8; TABLE], m: usize, w: [u8; MAX_PARTIES], d: u8, b: us
     ensures { λ r. ⌜ ((k i : ℕ) → i < maxParties → (i ≡ m → ⊥) → getD r (cell k i) 0 ≡ getD table (cell k i) 0)
         × ((k : ℕ) → k < b → getD r (cell k m) 0 ≡ product (getD w k 0) d) ⌝ }
 {
+    let mut column = w;
+    gf256::mul_row(d, &mut column[..b]);
     let mut next = table;
     let mut k: usize = 0;
     while k < b {
-        next[k * MAX_PARTIES + m] = gf256::mul(w[k], d);
+        next[k * MAX_PARTIES + m] = column[k];
         k += 1;
     }
     next
