@@ -1,18 +1,21 @@
 -- Lagrange's polynomials worked out in arrays, a turn of each loop a law: entries are set one after the other, a column of the table
--- after the other; a factor (X + r) looks at no coefficient past its own; and a product over the points skips a point or takes a
--- factor more. Assumes nothing.
-use mathlib.Core.Path.{_≡_, sym, ap, ap₂, _∙_}
-use mathlib.Core.List.{List, map, _++_}
+-- after the other; a row is multiplied whole; a factor (X + r) looks at no coefficient past its own; and a product over the points skips a
+-- point or takes a factor more. Assumes nothing.
+use mathlib.Core.Path.{_≡_, refl, sym, ap, ap₂, _∙_}
+use mathlib.Core.List.{List, [], _∷_, map, _++_, foldl, foldl-append}
 use mathlib.Core.Logic.{_≢_}
 use Prim.Native.Nat.{ℕ, zero, suc, _+_, _-_, _<_, _≤_}
+use native.Mathlib.Decide.{ℕ-discrete}
 use native.Mathlib.Numerals.{add-one}
 use native.Mathlib.Omega.{arith}
 use borrow.Author.Count.{below-more}
+use lib.Bits.{bitXor}
+use lib.Dec.{lit<}
 use lib.ListN.{length, getD, set, take, drop, replicate, length-replicate, getD-replicate, length-append, length-drop, length-map, List·getD-append, List·getD-map}
-use lib.Seq.{getD-set-same, getD-set-other, getD-take, length-take-le}
+use lib.Seq.{getD-set-same, getD-set-other, getD-take, take-suc, length-take-le}
 use Rattle.limits.specs.Limits.{maxParties}
 use Rattle.gf256.specs.Field.{product}
-use Rattle.gf256.proofs.Laws.{product-zero}
+use Rattle.gf256.proofs.Laws.{product-zero, product-one, product-lt}
 use Rattle.erasure.specs.Bytes.{bytes}
 use Rattle.erasure.specs.Arrays.{cell, Table}
 use Rattle.polynomial.specs.Polynomial.{Operations, factor, unit, numerator, denominator, basis}
@@ -96,3 +99,22 @@ module _ {A : Type 0} (F : Operations A) where
     denominator-more e =
         ap (λ n. denominator F n x i) (add-one m)
         ∙ cond-other (denominator F m x i) (F .mul (denominator F m x i) (F .add (x i) (x m))) e
+
+-- the product of a row that has a denominator's factors at the first b places, and 1 at its own point's
+module _ (row : List ℕ) (x : ℕ → ℕ) (i b : ℕ) (q : b ≤ length row) (own : getD row i 0 ≡ 1)
+    (others : (m : ℕ) → m < b → m ≢ i → getD row m 0 ≡ bitXor (x i) (x m)) where
+  one-more : (n d : ℕ) → n < b → d < 256 → d ≡ denominator bytes n x i → product d (getD row n 0) ≡ denominator bytes (suc n) x i
+  one-more n d l h e =
+      elim (ℕ-discrete n i) [
+        | yes s ↦ ap (product d) (ap (λ (m : ℕ). getD row m 0) s ∙ own) ∙ product-one d h ∙ e ∙ sym (denominator-skip bytes n x i s)
+            ∙ ap (λ (k : ℕ). denominator bytes k x i) (add-one n)
+        | no s ↦ ap₂ product e (others n l s) ∙ sym (denominator-more bytes n x i s) ∙ ap (λ (k : ℕ). denominator bytes k x i) (add-one n)
+      ]
+
+  pub row-denominator : (n : ℕ) → n ≤ b → (foldl product 1 (take n row) ≡ denominator bytes n x i) × (foldl product 1 (take n row) < 256)
+  unfolding denominator
+  row-denominator zero l = (refl, lit< tt)
+  row-denominator (suc n) l =
+      let before = row-denominator n (omega arith) in
+      rw (take-suc row n 0 (omega arith), foldl-append product 1 (take n row) (getD row n 0 ∷ []))
+      (one-more n (foldl product 1 (take n row)) l (before .1) (before .0), product-lt (foldl product 1 (take n row)) (getD row n 0) (before .1))

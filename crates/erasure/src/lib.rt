@@ -336,15 +336,14 @@ fn denominator_of(numbers: &[u8; MAX_PARTIES], b: usize, i: usize) -> u8
     ensures { λ r. ⌜ r ≡ denominator bytes b (λ m. getD (now (numbers .entry)) m 0) i ⌝ }
 {
     let x = numbers[i];
-    let mut d = 1u8;
+    let mut row = [0u8; MAX_PARTIES];
     let mut m: usize = 0;
     while m < b {
-        if m != i {
-            d = gf256::mul(d, x ^ numbers[m]);
-        }
+        row[m] = x ^ numbers[m];
         m += 1;
     }
-    d
+    row[i] = 1;
+    gf256::row_product(&row[..b])
 }
 
 // The table with the first b coefficients of the polynomial w, times d, in column m.

@@ -3,7 +3,7 @@
 mod table;
 
 ghost use mathlib.Core.Path.{_≡_};
-ghost use mathlib.Core.List.{map};
+ghost use mathlib.Core.List.{map, foldl};
 ghost use Prim.Native.Nat.{ℕ, _*_, _%_, _<_};
 ghost use lib.Bits.{bitXor};
 ghost use lib.ListN.{getD};
@@ -68,6 +68,21 @@ pub fn mul_row(a: u8, row: &mut [u8])
         row[c] = times(&powers, &exponents, a, row[c]);
         c += 1;
     }
+}
+
+// The product of the bytes of a row, 1 for none: the tables are laid down once here too.
+pub fn row_product(row: &[u8]) -> u8
+    ensures { λ r. ⌜ r ≡ foldl product 1 (now (row .entry)) ⌝ }
+{
+    let powers = power_table();
+    let exponents = exponent_table();
+    let mut total = 1u8;
+    let mut c: usize = 0;
+    while c < row.len() {
+        total = times(&powers, &exponents, total, row[c]);
+        c += 1;
+    }
+    total
 }
 
 // x times a: `timesX` without its ninth bit, so that it stays a byte.

@@ -1,37 +1,35 @@
--- `erasure::denominator_of` meets its contract. After m turns d is the product over the points below m. Assumes nothing.
-use mathlib.Core.Path.{_≡_, refl, sym, ap, _∙_}
-use mathlib.Core.Logic.{⊎-elim}
-use Prim.Native.Nat.{ℕ, _-_, _≤_}
+-- `erasure::denominator_of` meets its contract. After m turns the first m entries of the row are the sums with number i. Assumes nothing.
+use mathlib.Core.Path.{_≡_, refl, sym, _∙_}
+use mathlib.Core.Logic.{_≢_}
+use Prim.Native.Nat.{ℕ, _-_, _≤_, _<_}
 use native.Mathlib.Omega.{arith}
 use borrow.Author.Needs.{needs}
 use lib.Bits.{bitXor}
-use lib.ListN.{getD}
+use lib.ListN.{length, getD, set, length-set}
+use lib.Seq.{getD-set-same, getD-set-other, length-take-le}
 use Rattle.limits.specs.Limits.{maxParties}
-use Rattle.gf256.specs.Field.{product}
-use Rattle.polynomial.specs.Polynomial.{denominator}
-use Rattle.erasure.specs.Bytes.{bytes}
-use Rattle.erasure.proofs.Lagrange.{denominator-skip, denominator-more}
+use Rattle.erasure.proofs.Lagrange.{set-next, row-denominator}
 use Rattle.erasure.proofs.denominator_of.Statement.{statement}
 use Rattle.erasure.proofs.denominator_of.Tie as tie
 
 abbrev Inv-loop : tie.InvT-loop
-Inv-loop numbers b i x d₀ m₀ d m = (m ≤ b) × (b ≤ maxParties) × (d ≡ denominator bytes m (λ j. getD numbers j 0) i)
+Inv-loop numbers b i x row₀ m₀ row m =
+    (m ≤ b) × (length row ≡ maxParties) × ((j : ℕ) → j < m → getD row j 0 ≡ bitXor (getD numbers i 0) (getD numbers j 0))
 
 abbrev μ-loop : tie.MeasureT-loop
-μ-loop numbers b i x d₀ m₀ d m = b - m
+μ-loop numbers b i x row₀ m₀ row m = b - m
 
 element-copy-out-x : tie.Need-element-copy-out-x Inv-loop μ-loop
 element-copy-out-x c = search needs
 
 loop-holds : tie.Need-loop-holds Inv-loop μ-loop
-unfolding denominator
-loop-holds c = (omega arith, omega arith, refl)
+loop-holds c = (omega arith, refl, λ j l. absurd (omega arith))
 
-element-copy-out-mul : tie.Need-element-copy-out-mul Inv-loop μ-loop
-element-copy-out-mul c = search needs
+element-copy-out-row : tie.Need-element-copy-out-row Inv-loop μ-loop
+element-copy-out-row c = search needs
 
-mul-requires : tie.Need-mul-requires Inv-loop μ-loop
-mul-requires c κs = search needs
+array-write-row : tie.Need-array-write-row Inv-loop μ-loop
+array-write-row c = search needs
 
 add-m : tie.Need-add-m Inv-loop μ-loop
 add-m c = search needs
@@ -43,22 +41,37 @@ loop-again : tie.Need-loop-again Inv-loop μ-loop
 loop-again c =
     let l = c .before .before .loop in
     let a = c .before .before .before .before .args in
-    let x : ℕ → ℕ = λ j. getD (a .numbers .now) j 0 in (
+    let sum : ℕ → ℕ = λ j. bitXor (getD (a .numbers .now) (a .i) 0) (getD (a .numbers .now) j 0) in (
       omega arith,
-      l .inv .1,
-      ⊎-elim
-          (λ w. w .3 ∙ w .2 .ensures ∙ ap (λ e. product e (bitXor (x (a .i)) (x (l .m)))) (l .inv .2)
-          ∙ sym (denominator-more bytes (l .m) x (a .i) (w .0 .taken)))
-          (λ w. w .1 ∙ l .inv .2 ∙ sym (denominator-skip bytes (l .m) x (a .i) (w .0 .left)))
-          (c .if1 .came),
+      length-set (l .row) (l .m) (sum (l .m)) ∙ l .inv .1,
+      set-next (l .row) (λ j. j) sum (l .m) (sum (l .m)) (omega arith) (λ j b e. omega arith) (l .inv .2) refl,
     )
+
+array-write-row-2 : tie.Need-array-write-row-2 Inv-loop μ-loop
+array-write-row-2 c = search needs
+
+long : (c : tie.After-loop Inv-loop μ-loop) → length (set (c .before .loop .row) (c .before .before .before .args .i) 1) ≡ maxParties
+long c = length-set (c .before .loop .row) (c .before .before .before .args .i) 1 ∙ c .before .loop .inv .1
+
+array-share-prefix-row : tie.Need-array-share-prefix-row Inv-loop μ-loop
+array-share-prefix-row c = omega (arith, long c)
+
+slice-aggregate-row-product : tie.Need-slice-aggregate-row-product Inv-loop μ-loop
+slice-aggregate-row-product c =
+    let a = c .before .before .before .before .args in
+    sym (length-take-le (a .b) (set (c .before .before .loop .row) (a .i) 1) (omega (arith, long (c .before))))
+
+row-product-requires : tie.Need-row-product-requires Inv-loop μ-loop
+row-product-requires c κs = search needs
 
 returns : tie.Need-returns Inv-loop μ-loop
 returns c =
-    let l = c .before .loop in
-    let a = c .before .before .before .args in
-    let e : l .m ≡ a .b = omega arith in
-    l .inv .2 ∙ ap (λ n. denominator bytes n (λ j. getD (a .numbers .now) j 0) (a .i)) e
+    let l = c .before .before .before .loop in
+    let a = c .before .before .before .before .before .args in
+    c .row-product .ensures
+    ∙ row-denominator (set (l .row) (a .i) 1) (λ j. getD (a .numbers .now) j 0) (a .i) (a .b) (omega (arith, long (c .before .before)))
+    (getD-set-same (l .row) (a .i) 1 0 (omega arith))
+    (λ m h n. getD-set-other (l .row) (a .i) m 1 0 n ∙ l .inv .2 m (omega arith)) (a .b) (omega arith) .0
 
 pub denominator-of-spec : {M : Type 1} → statement M
 denominator-of-spec =
@@ -68,9 +81,13 @@ denominator-of-spec =
     μ-loop
     element-copy-out-x
     loop-holds
-    element-copy-out-mul
-    mul-requires
+    element-copy-out-row
+    array-write-row
     add-m
     loop-less
     loop-again
+    array-write-row-2
+    array-share-prefix-row
+    slice-aggregate-row-product
+    row-product-requires
     returns)
