@@ -1,6 +1,6 @@
 // The field and the erasure code.
 //
-// 1, products: a (1 byte). Its 256 products with 0 to 255.
+// 1, products: a (1 byte). Its 256 products with 0 to 255, four times, by each function of the field that makes products.
 // 2, inverses: nothing. The 256 inverses of 0 to 255.
 // 3, powers: a (1), k (8). The power (1).
 // 4, encode, and 5, rebuild: n (2), t (2), the length of the buffer lent (4), the bytes. The answer, and the buffer.
@@ -22,10 +22,10 @@ const FRONT: usize = 8;
 
 pub(crate) fn run(kind: usize, input: &[u8], out: &mut [u8]) -> usize {
     if kind == 1 {
-        return row(true, number_at(input, 0, 1), out);
+        return products(number_at(input, 0, 1), out);
     }
     if kind == 2 {
-        return row(false, 0, out);
+        return inverses(out);
     }
     if kind == 3 {
         return power(number_at(input, 0, 1), number_at(input, 1, 8), out);
@@ -33,18 +33,35 @@ pub(crate) fn run(kind: usize, input: &[u8], out: &mut [u8]) -> usize {
     coding(kind == 4, input, out)
 }
 
-// The products of a number, or the inverses.
-fn row(products: bool, number: usize, out: &mut [u8]) -> usize {
+// The products of a number: by themselves, without tables, as a row, and each as the product of a row of two.
+fn products(number: usize, out: &mut [u8]) -> usize {
     let a = (number % 256) as u8;
-    let mut bytes = [0u8; 256];
+    let mut alone = [0u8; 256];
+    let mut bits = [0u8; 256];
+    let mut row = [0u8; 256];
+    let mut pairs = [0u8; 256];
     let mut i: usize = 0;
     while i < 256 {
         let b = (i % 256) as u8;
-        bytes[i] = if products {
-            gf256::mul(a, b)
-        } else {
-            gf256::inv(b)
-        };
+        alone[i] = gf256::mul(a, b);
+        bits[i] = gf256::mul_bits(a, b);
+        row[i] = b;
+        pairs[i] = gf256::row_product(&[a, b]);
+        i += 1;
+    }
+    gf256::mul_row(a, &mut row);
+    buffer::put(out, 0, &alone);
+    buffer::put(out, 256, &bits);
+    buffer::put(out, 512, &row);
+    buffer::put(out, 768, &pairs);
+    1024
+}
+
+fn inverses(out: &mut [u8]) -> usize {
+    let mut bytes = [0u8; 256];
+    let mut i: usize = 0;
+    while i < 256 {
+        bytes[i] = gf256::inv((i % 256) as u8);
         i += 1;
     }
     buffer::put(out, 0, &bytes);

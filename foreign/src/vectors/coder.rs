@@ -1,6 +1,7 @@
 //! The field and the erasure code.
 //!
-//! - Products: a (1 byte). Its 256 products with 0 to 255.
+//! - Products: a (1 byte). Its 256 products with 0 to 255, as often as the field has functions that
+//!   make products.
 //! - Inverses: nothing. The 256 inverses of 0 to 255 (0 for 0).
 //! - Powers: a (1), k (8). The power (1).
 //! - Encode, and rebuild: n (2), t (2), the length of the buffer lent (4), the message or the
@@ -18,6 +19,9 @@ use crate::random::Random;
 
 const MOST_INPUT: usize = 2 * LONGEST_ENTRY;
 const MOST_ROOM: usize = 2 * LONGEST_SHARES;
+
+/// The functions of the field that make products.
+const PRODUCTS: usize = 4;
 
 /// Pairs n, t on which wrongly made frames are tried.
 const CHOSEN: [(usize, usize); 10] = [
@@ -157,7 +161,7 @@ fn field_cases(file: &mut File) {
         file.out.push(Case {
             kind: Kind::Products,
             given: Part::new().bytes(&[a]),
-            expected: Part(row),
+            expected: Part(row.repeat(PRODUCTS)),
         });
     }
     file.out.push(Case {

@@ -1,28 +1,22 @@
--- `vectors::coder::row` is safe and ends: the measure is the number of bytes that are left, and the row keeps its length. Assumes nothing.
+-- `vectors::coder::inverses` is safe and ends: the measure is the number of bytes that are left, and the row keeps its length. Assumes nothing.
 use mathlib.Core.Path.{_≡_}
 use Prim.Native.Nat.{_≤_, _-_}
 use lib.ListN.{length}
 use borrow.Author.Needs.{needs}
-use Rattle.vectors.proofs.coder.row.Statement.{statement}
-use Rattle.vectors.proofs.coder.row.Tie as tie
+use Rattle.vectors.proofs.coder.inverses.Statement.{statement}
+use Rattle.vectors.proofs.coder.inverses.Tie as tie
 
 abbrev Inv-loop : tie.InvT-loop
-Inv-loop products number out a bytes₀ i₀ bytes i = (i ≤ 256) × (length bytes ≡ 256)
+Inv-loop out bytes₀ i₀ bytes i = (i ≤ 256) × (length bytes ≡ 256)
 
 abbrev μ-loop : tie.MeasureT-loop
-μ-loop products number out a bytes₀ i₀ bytes i = 256 - i
-
-cast-a : tie.Need-cast-a Inv-loop μ-loop
-cast-a c = search needs
+μ-loop out bytes₀ i₀ bytes i = 256 - i
 
 loop-holds : tie.Need-loop-holds Inv-loop μ-loop
 loop-holds c = search needs
 
-cast-b : tie.Need-cast-b Inv-loop μ-loop
-cast-b c = search needs
-
-mul-requires : tie.Need-mul-requires Inv-loop μ-loop
-mul-requires c κs = search needs
+cast-inv : tie.Need-cast-inv Inv-loop μ-loop
+cast-inv c = search needs
 
 inv-requires : tie.Need-inv-requires Inv-loop μ-loop
 inv-requires c κs = search needs
@@ -51,16 +45,14 @@ same-length c = search needs
 returns : tie.Need-returns Inv-loop μ-loop
 returns c = search needs
 
-pub row-spec : {M : Type 1} → statement M
-row-spec =
+pub inverses-spec : {M : Type 1} → statement M
+inverses-spec =
     tie.close
     (tie.spec
     Inv-loop
     μ-loop
-    cast-a
     loop-holds
-    cast-b
-    mul-requires
+    cast-inv
     inv-requires
     array-write-bytes
     add-i
