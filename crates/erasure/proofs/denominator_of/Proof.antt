@@ -1,6 +1,5 @@
 -- `erasure::denominator_of` meets its contract. After m turns the first m entries of the row are the sums with number i. Assumes nothing.
 use mathlib.Core.Path.{_≡_, refl, sym, _∙_}
-use mathlib.Core.Logic.{_≢_}
 use Prim.Native.Nat.{ℕ, _-_, _≤_, _<_}
 use native.Mathlib.Omega.{arith}
 use borrow.Author.Needs.{needs}
@@ -50,16 +49,11 @@ loop-again c =
 array-write-row-2 : tie.Need-array-write-row-2 Inv-loop μ-loop
 array-write-row-2 c = search needs
 
-long : (c : tie.After-loop Inv-loop μ-loop) → length (set (c .before .loop .row) (c .before .before .before .args .i) 1) ≡ maxParties
-long c = length-set (c .before .loop .row) (c .before .before .before .args .i) 1 ∙ c .before .loop .inv .1
-
 array-share-prefix-row : tie.Need-array-share-prefix-row Inv-loop μ-loop
-array-share-prefix-row c = omega (arith, long c)
+array-share-prefix-row c = simp length-set (omega arith)
 
 slice-aggregate-row-product : tie.Need-slice-aggregate-row-product Inv-loop μ-loop
-slice-aggregate-row-product c =
-    let a = c .before .before .before .before .args in
-    sym (length-take-le (a .b) (set (c .before .before .loop .row) (a .i) 1) (omega (arith, long (c .before))))
+slice-aggregate-row-product c = sym (length-take-le _ _ (simp length-set (omega arith)))
 
 row-product-requires : tie.Need-row-product-requires Inv-loop μ-loop
 row-product-requires c κs = search needs
@@ -69,7 +63,7 @@ returns c =
     let l = c .before .before .before .loop in
     let a = c .before .before .before .before .before .args in
     c .row-product .ensures
-    ∙ row-denominator (set (l .row) (a .i) 1) (λ j. getD (a .numbers .now) j 0) (a .i) (a .b) (omega (arith, long (c .before .before)))
+    ∙ row-denominator (set (l .row) (a .i) 1) (λ j. getD (a .numbers .now) j 0) (a .i) (a .b) (simp length-set (omega arith))
     (getD-set-same (l .row) (a .i) 1 0 (omega arith))
     (λ m h n. getD-set-other (l .row) (a .i) m 1 0 n ∙ l .inv .2 m (omega arith)) (a .b) (omega arith) .0
 

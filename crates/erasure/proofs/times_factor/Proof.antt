@@ -1,6 +1,6 @@
 -- `erasure::times_factor` meets its contract. All coefficients are multiplied by r; then the one below is added to each, and after each turn the
 -- coefficients below k are those of the product. Assumes nothing.
-use mathlib.Core.Path.{_≡_, refl, sym, ap, _∙_}
+use mathlib.Core.Path.{_≡_, sym, ap, _∙_}
 use Prim.Native.Nat.{ℕ, zero, suc, _-_, _≤_, _<_}
 use native.Mathlib.Omega.{arith}
 use borrow.Author.Needs.{needs}

@@ -1,5 +1,5 @@
 -- The product is 0 where a factor is, and else the power at the sum of the two exponents, which is no greater than 508.
-use mathlib.Core.Path.{_≡_, sym, _∙_}
+use mathlib.Core.Path.{_≡_, _∙_}
 use Prim.Native.Nat.{_<_}
 use native.Mathlib.Omega.{arith}
 use Rattle.gf256.specs.Field.{power}
