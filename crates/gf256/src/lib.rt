@@ -32,6 +32,24 @@ fn wide(x: u8) -> usize
     x as usize
 }
 
+// 0x03 to the power i.
+fn power_at(i: usize) -> u8
+    requires { ⌜ i < 510 ⌝ }
+    ensures { λ r. ⌜ r ≡ power 3 i ⌝ }
+{
+    let powers = power_table();
+    powers[i]
+}
+
+// The exponent at which the power of 0x03 is a.
+fn exponent_of(a: u8) -> usize
+    requires { ⌜ 0 < a ⌝ }
+    ensures { λ r. ⌜ (r < 255) × (power 3 r ≡ a) ⌝ }
+{
+    let exponents = exponent_table();
+    wide(exponents[a as usize])
+}
+
 // The product of two bytes by the tables: exponents add, and the power at their sum is looked up. 0 has no exponent.
 fn times(powers: &[u8; 510], exponents: &[u8; 256], a: u8, b: u8) -> u8
     requires { ⌜ ((i : ℕ) → i < 510 → getD (now powers) i 0 ≡ power 3 i)
@@ -127,10 +145,8 @@ pub fn inv(a: u8) -> u8
     if a == 0 {
         return 0;
     }
-    let exponents = exponent_table();
-    let powers = power_table();
-    let rest = 255 - wide(exponents[a as usize]);
-    powers[rest]
+    let rest = 255 - exponent_of(a);
+    power_at(rest)
 }
 
 // a to the power k. k is reduced before the product of exponents, which then fits for every k.
@@ -143,10 +159,8 @@ pub fn pow(a: u8, k: usize) -> u8
     if a == 0 {
         return 0;
     }
-    let exponents = exponent_table();
-    let powers = power_table();
-    let e = wide(exponents[a as usize]);
+    let e = exponent_of(a);
     let times = k % 255;
     let raised = e * times;
-    powers[raised % 255]
+    power_at(raised % 255)
 }
