@@ -5,17 +5,14 @@ use mathlib.Core.Path.{_≡_, refl, sym, ap, ap₂, _∙_}
 use mathlib.Core.List.{List, [], _∷_, map, _++_, foldl, foldl-append}
 use mathlib.Core.Logic.{_≢_}
 use Prim.Native.Nat.{ℕ, zero, suc, _+_, _-_, _<_, _≤_}
-use native.Mathlib.Decide.{ℕ-discrete}
 use native.Mathlib.Numerals.{add-one}
 use native.Mathlib.Omega.{arith}
 use borrow.Author.Count.{below-more}
-use lib.Bits.{bitXor}
-use lib.Dec.{lit<}
 use lib.ListN.{length, getD, set, take, drop, replicate, length-replicate, getD-replicate, length-append, length-drop, length-map, List·getD-append, List·getD-map}
-use lib.Seq.{getD-set-same, getD-set-other, getD-take, take-suc, length-take-le}
+use lib.Seq.{getD-set-same, getD-set-other, getD-take, take-suc-set, length-take-le}
 use Rattle.limits.specs.Limits.{maxParties}
 use Rattle.gf256.specs.Field.{product}
-use Rattle.gf256.proofs.Laws.{product-zero, product-one, product-lt}
+use Rattle.gf256.proofs.Laws.{product-zero}
 use Rattle.erasure.specs.Bytes.{bytes}
 use Rattle.erasure.specs.Arrays.{cell, Table}
 use Rattle.polynomial.specs.Polynomial.{Operations, factor, unit, numerator, denominator, basis}
@@ -56,6 +53,11 @@ module _ (a b : ℕ) (w x : List ℕ) (q : b ≤ length w) (e : x ≡ map (produ
       ∙ ap (getD (map (product a) (take b w)) k) (sym (product-zero a)) ∙ List·getD-map (product a) (take b w) k 0
       ∙ ap (product a) (getD-take b w k 0 l)
 
+-- the product of the first c entries, and of one more that is set
+pub product-more : (row : List ℕ) (c y : ℕ) → c < length row
+    → foldl product 1 (take (c + 1) (set row c y)) ≡ product (foldl product 1 (take c row)) y
+product-more row c y l = rw (add-one, take-suc-set row c y l) (foldl-append product 1 (take c row) (y ∷ []))
+
 -- the polynomial 1 in an array
 pub one-unit : (n k : ℕ) → k < n → getD (set (replicate n 0) 0 1) k 0 ≡ unit bytes k
 unfolding unit
@@ -67,6 +69,11 @@ module _ {A : Type 0} (F : Operations A) where
   unfolding factor
   factor-at r p zero l = absurd (omega arith)
   factor-at r p (suc k) l = ap (λ n. F .add (p n) (F .mul r (p (suc k)))) (omega arith)
+
+  pub factor-low : (r : A) (p : ℕ → A) (k : ℕ) → k < 1 → factor F r p k ≡ F .mul r (p k)
+  unfolding factor
+  factor-low r p zero l = refl
+  factor-low r p (suc k) l = absurd (omega arith)
 
   -- coefficients that agree below n
   pub factor-below : (n : ℕ) (r : A) {p q : ℕ → A} → ((k : ℕ) → k < n → p k ≡ q k)
@@ -99,22 +106,3 @@ module _ {A : Type 0} (F : Operations A) where
     denominator-more e =
         ap (λ n. denominator F n x i) (add-one m)
         ∙ cond-other (denominator F m x i) (F .mul (denominator F m x i) (F .add (x i) (x m))) e
-
--- the product of a row that has a denominator's factors at the first b places, and 1 at its own point's
-module _ (row : List ℕ) (x : ℕ → ℕ) (i b : ℕ) (q : b ≤ length row) (own : getD row i 0 ≡ 1)
-    (others : (m : ℕ) → m < b → m ≢ i → getD row m 0 ≡ bitXor (x i) (x m)) where
-  one-more : (n d : ℕ) → n < b → d < 256 → d ≡ denominator bytes n x i → product d (getD row n 0) ≡ denominator bytes (suc n) x i
-  one-more n d l h e =
-      elim (ℕ-discrete n i) [
-        | yes s ↦ ap (product d) (ap (λ (m : ℕ). getD row m 0) s ∙ own) ∙ product-one d h ∙ e ∙ sym (denominator-skip bytes n x i s)
-            ∙ ap (λ (k : ℕ). denominator bytes k x i) (add-one n)
-        | no s ↦ ap₂ product e (others n l s) ∙ sym (denominator-more bytes n x i s) ∙ ap (λ (k : ℕ). denominator bytes k x i) (add-one n)
-      ]
-
-  pub row-denominator : (n : ℕ) → n ≤ b → (foldl product 1 (take n row) ≡ denominator bytes n x i) × (foldl product 1 (take n row) < 256)
-  unfolding denominator
-  row-denominator zero l = (refl, lit< tt)
-  row-denominator (suc n) l =
-      let before = row-denominator n (omega arith) in
-      rw (take-suc row n 0 (omega arith), foldl-append product 1 (take n row) (getD row n 0 ∷ []))
-      (one-more n (foldl product 1 (take n row)) l (before .1) (before .0), product-lt (foldl product 1 (take n row)) (getD row n 0) (before .1))

@@ -336,14 +336,17 @@ fn denominator_of(numbers: &[u8; MAX_PARTIES], b: usize, i: usize) -> u8
     ensures { λ r. ⌜ r ≡ denominator bytes b (λ m. getD (now (numbers .entry)) m 0) i ⌝ }
 {
     let x = numbers[i];
-    let mut row = [0u8; MAX_PARTIES];
+    let mut factors = [0u8; MAX_PARTIES];
+    let mut count: usize = 0;
     let mut m: usize = 0;
     while m < b {
-        row[m] = x ^ numbers[m];
+        if m != i {
+            factors[count] = x ^ numbers[m];
+            count += 1;
+        }
         m += 1;
     }
-    row[i] = 1;
-    gf256::row_product(&row[..b])
+    gf256::row_product(&factors[..count])
 }
 
 // The table with the first b coefficients of the polynomial w, times d, in column m.

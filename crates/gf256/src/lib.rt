@@ -1,5 +1,5 @@
 // The field of 256 elements: bytes as polynomials over two elements modulo 0x11B.
-// Contracts name the definition and no table.
+// Public contracts name the definition and no table.
 mod table;
 
 ghost use mathlib.Core.Path.{_≡_};
@@ -11,8 +11,8 @@ ghost use Rattle.gf256.specs.Field.{timesX, product, power, inverse};
 use table::EXPONENTS;
 use table::POWERS;
 
-// The powers of 0x03. The tables are read here and in `exponent_table` alone, so that no other proof meets them. Whoever reads a constant array lays it
-// down on the stack anew, so these are handed on.
+// The powers of 0x03. The tables are named here and in `exponent_table` alone, so that no other proof meets them. A function that reads a constant
+// array at a place that varies lays it down on the stack at each call: so what makes many products gets the tables by reference.
 fn power_table() -> [u8; 510]
     ensures { λ r. ⌜ ((i : ℕ) → i < 510 → getD r i 0 ≡ power 3 i) ⌝ }
 {
@@ -24,12 +24,6 @@ fn exponent_table() -> [u8; 256]
     ensures { λ r. ⌜ ((x : ℕ) → 0 < x → x < 256 → (getD r x 0 < 255) × (power 3 (getD r x 0) ≡ x)) ⌝ }
 {
     EXPONENTS
-}
-
-fn wide(x: u8) -> usize
-    ensures { λ r. ⌜ r ≡ x ⌝ }
-{
-    x as usize
 }
 
 // 0x03 to the power i.
@@ -47,11 +41,26 @@ fn exponent_of(a: u8) -> usize
     ensures { λ r. ⌜ (r < 255) × (power 3 r ≡ a) ⌝ }
 {
     let exponents = exponent_table();
+    exponent_in(&exponents, a)
+}
+
+// The same in the table of exponents.
+fn exponent_in(exponents: &[u8; 256], a: u8) -> usize
+    requires { ⌜ (0 < a)
+        × ((x : ℕ) → 0 < x → x < 256 → (getD (now exponents) x 0 < 255) × (power 3 (getD (now exponents) x 0) ≡ x)) ⌝ }
+    ensures { λ r. ⌜ (r < 255) × (power 3 r ≡ a) ⌝ }
+{
     wide(exponents[a as usize])
 }
 
+fn wide(x: u8) -> usize
+    ensures { λ r. ⌜ r ≡ x ⌝ }
+{
+    x as usize
+}
+
 // The product of two bytes by the tables: exponents add, and the power at their sum is looked up. 0 has no exponent.
-fn times(powers: &[u8; 510], exponents: &[u8; 256], a: u8, b: u8) -> u8
+fn mul_by_tables(powers: &[u8; 510], exponents: &[u8; 256], a: u8, b: u8) -> u8
     requires { ⌜ ((i : ℕ) → i < 510 → getD (now powers) i 0 ≡ power 3 i)
         × ((x : ℕ) → 0 < x → x < 256 → (getD (now exponents) x 0 < 255) × (power 3 (getD (now exponents) x 0) ≡ x)) ⌝ }
     ensures { λ r. ⌜ r ≡ product a b ⌝ }
@@ -62,7 +71,7 @@ fn times(powers: &[u8; 510], exponents: &[u8; 256], a: u8, b: u8) -> u8
     if b == 0 {
         return 0;
     }
-    let sum = wide(exponents[a as usize]) + wide(exponents[b as usize]);
+    let sum = exponent_in(exponents, a) + exponent_in(exponents, b);
     powers[sum]
 }
 
@@ -72,7 +81,7 @@ pub fn mul(a: u8, b: u8) -> u8
 {
     let powers = power_table();
     let exponents = exponent_table();
-    times(&powers, &exponents, a, b)
+    mul_by_tables(&powers, &exponents, a, b)
 }
 
 // Multiplies each byte of a row by a: the tables are laid down once for the whole row.
@@ -83,21 +92,24 @@ pub fn mul_row(a: u8, row: &mut [u8])
     let exponents = exponent_table();
     let mut c: usize = 0;
     while c < row.len() {
-        row[c] = times(&powers, &exponents, a, row[c]);
+        row[c] = mul_by_tables(&powers, &exponents, a, row[c]);
         c += 1;
     }
 }
 
-// The product of the bytes of a row, 1 for none: the tables are laid down once here too.
+// The product of the bytes of a row, 1 for none: the tables are laid down once here too, and not for nothing.
 pub fn row_product(row: &[u8]) -> u8
     ensures { λ r. ⌜ r ≡ foldl product 1 (now (row .entry)) ⌝ }
 {
+    if row.len() == 0 {
+        return 1;
+    }
     let powers = power_table();
     let exponents = exponent_table();
     let mut total = 1u8;
     let mut c: usize = 0;
     while c < row.len() {
-        total = times(&powers, &exponents, total, row[c]);
+        total = mul_by_tables(&powers, &exponents, total, row[c]);
         c += 1;
     }
     total

@@ -1,7 +1,7 @@
 -- `erasure::times_factor` meets its contract. All coefficients are multiplied by r; then the one below is added to each, and after each turn the
 -- coefficients below k are those of the product. Assumes nothing.
 use mathlib.Core.Path.{_≡_, sym, ap, _∙_}
-use Prim.Native.Nat.{ℕ, zero, suc, _-_, _≤_, _<_}
+use Prim.Native.Nat.{ℕ, _-_, _≤_, _<_}
 use native.Mathlib.Omega.{arith}
 use borrow.Author.Needs.{needs}
 use lib.Bits.{bitXor}
@@ -11,7 +11,7 @@ use Rattle.limits.specs.Limits.{maxParties}
 use Rattle.gf256.specs.Field.{product}
 use Rattle.polynomial.specs.Polynomial.{factor}
 use Rattle.erasure.specs.Bytes.{bytes}
-use Rattle.erasure.proofs.Lagrange.{set-next, factor-at, scaled-length, scaled-at}
+use Rattle.erasure.proofs.Lagrange.{set-next, factor-low, factor-at, scaled-length, scaled-at}
 use Rattle.erasure.proofs.times_factor.Statement.{statement}
 use Rattle.erasure.proofs.times_factor.Tie as tie
 
@@ -22,12 +22,6 @@ Inv-loop r b w v₀ k₀ v k =
 
 abbrev μ-loop : tie.MeasureT-loop
 μ-loop r b w v₀ k₀ v k = b - k
-
--- the lowest coefficient of (X + r) times a polynomial
-first-factor : (r : ℕ) (p : ℕ → ℕ) (y j : ℕ) → j < 1 → y ≡ product r (p j) → y ≡ factor bytes r p j
-unfolding factor
-first-factor r p y zero l e = e
-first-factor r p y (suc j) l e = absurd (omega arith)
 
 long : (c : tie.Start Inv-loop μ-loop) → length (c .args .t1) ≡ maxParties
 long c = search needs
@@ -51,7 +45,7 @@ loop-holds c =
     let at = scaled-at (a .r) (a .b) (a .t1) _ q (c .before .mul-row .ensures) in (
       omega arith,
       scaled-length (a .r) (a .b) (a .t1) _ q (c .before .mul-row .ensures) ∙ long start,
-      λ j l b. first-factor (a .r) (λ i. getD (a .t1) i 0) _ j l (at j b),
+      λ j l b. at j b ∙ sym (factor-low bytes (a .r) (λ i. getD (a .t1) i 0) j l),
       λ j l b. at j b,
     )
 

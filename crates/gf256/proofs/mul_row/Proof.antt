@@ -43,11 +43,11 @@ exponent-table-requires c κs = search needs
 loop-holds : tie.Need-loop-holds Inv-loop μ-loop
 loop-holds c = (omega arith, refl, refl)
 
-slice-read-times : tie.Need-slice-read-times Inv-loop μ-loop
-slice-read-times c = search needs
+slice-read-mul-by-tables : tie.Need-slice-read-mul-by-tables Inv-loop μ-loop
+slice-read-mul-by-tables c = search needs
 
-times-requires : tie.Need-times-requires Inv-loop μ-loop
-times-requires c κs = search needs
+mul-by-tables-requires : tie.Need-mul-by-tables-requires Inv-loop μ-loop
+mul-by-tables-requires c κs = search needs
 
 slice-write-row : tie.Need-slice-write-row Inv-loop μ-loop
 slice-write-row c = search needs
@@ -62,7 +62,7 @@ loop-again : tie.Need-loop-again Inv-loop μ-loop
 loop-again c =
     let l = c .before .before .before .before .before .loop in
     let f : ℕ → ℕ = product (c .before .before .before .before .before .before .before .before .before .args .a) in
-    let e : c .times .result ≡ f (getD (l .row) (l .c) 0) = c .times .ensures in (
+    let e : c .mul-by-tables .result ≡ f (getD (l .row) (l .c) 0) = c .mul-by-tables .ensures in (
       simp length-set (omega arith),
       simp length-set (l .inv .1),
       rw (e, add-one) (one-more f (l .row) (l .c) (omega arith) ∙ l .inv .2),
@@ -85,8 +85,8 @@ mul-row-spec =
     power-table-requires
     exponent-table-requires
     loop-holds
-    slice-read-times
-    times-requires
+    slice-read-mul-by-tables
+    mul-by-tables-requires
     slice-write-row
     add-c
     loop-less
