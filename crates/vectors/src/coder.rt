@@ -1,6 +1,6 @@
 // The field and the erasure code.
 //
-// 1, products: a (1 byte). Its 256 products with 0 to 255, four times, by each function of the field that makes products.
+// 1, products: a (1 byte). Its 256 products with 0 to 255, on which the four functions that make products have to agree.
 // 2, inverses: nothing. The 256 inverses of 0 to 255.
 // 3, powers: a (1), k (8). The power (1).
 // 4, encode, and 5, rebuild: n (2), t (2), the length of the buffer lent (4), the bytes. The answer, and the buffer.
@@ -50,11 +50,15 @@ fn products(number: usize, out: &mut [u8]) -> usize {
         i += 1;
     }
     gf256::mul_row(a, &mut row);
+    if !all_same(&alone, &bits, &row, &pairs) {
+        return MALFORMED;
+    }
     buffer::put(out, 0, &alone);
-    buffer::put(out, 256, &bits);
-    buffer::put(out, 512, &row);
-    buffer::put(out, 768, &pairs);
-    1024
+    256
+}
+
+fn all_same(first: &[u8], second: &[u8], third: &[u8], fourth: &[u8]) -> bool {
+    check::same(first, second) && check::same(second, third) && check::same(third, fourth)
 }
 
 fn inverses(out: &mut [u8]) -> usize {

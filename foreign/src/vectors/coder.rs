@@ -1,7 +1,6 @@
 //! The field and the erasure code.
 //!
-//! - Products: a (1 byte). Its 256 products with 0 to 255, as often as the field has functions that
-//!   make products.
+//! - Products: a (1 byte). Its 256 products with 0 to 255.
 //! - Inverses: nothing. The 256 inverses of 0 to 255 (0 for 0).
 //! - Powers: a (1), k (8). The power (1).
 //! - Encode, and rebuild: n (2), t (2), the length of the buffer lent (4), the message or the
@@ -19,9 +18,6 @@ use crate::random::Random;
 
 const MOST_INPUT: usize = 2 * LONGEST_ENTRY;
 const MOST_ROOM: usize = 2 * LONGEST_SHARES;
-
-/// The functions of the field that make products.
-const PRODUCTS: usize = 4;
 
 /// Pairs n, t on which wrongly made frames are tried.
 const CHOSEN: [(usize, usize); 10] = [
@@ -161,7 +157,7 @@ fn field_cases(file: &mut File) {
         file.out.push(Case {
             kind: Kind::Products,
             given: Part::new().bytes(&[a]),
-            expected: Part(row.repeat(PRODUCTS)),
+            expected: Part(row),
         });
     }
     file.out.push(Case {

@@ -61,35 +61,35 @@ slice-aggregate-mul-row c = search needs
 mul-row-requires : tie.Need-mul-row-requires Inv-loop μ-loop
 mul-row-requires c κs = search needs
 
+slice-aggregate-all-same : tie.Need-slice-aggregate-all-same Inv-loop μ-loop
+slice-aggregate-all-same c = search needs
+
+slice-aggregate-all-same-2 : tie.Need-slice-aggregate-all-same-2 Inv-loop μ-loop
+slice-aggregate-all-same-2 c = search needs
+
+slice-aggregate-all-same-3 : tie.Need-slice-aggregate-all-same-3 Inv-loop μ-loop
+slice-aggregate-all-same-3 c = search needs
+
+slice-aggregate-all-same-4 : tie.Need-slice-aggregate-all-same-4 Inv-loop μ-loop
+slice-aggregate-all-same-4 c = search needs
+
+all-same-requires : tie.Need-all-same-requires Inv-loop μ-loop
+all-same-requires c κs = search needs
+
+returns : tie.Need-returns Inv-loop μ-loop
+returns c = search needs
+
 slice-aggregate-put : tie.Need-slice-aggregate-put Inv-loop μ-loop
 slice-aggregate-put c = search needs
 
 put-requires : tie.Need-put-requires Inv-loop μ-loop
 put-requires c κs = search needs
 
-slice-aggregate-put-2 : tie.Need-slice-aggregate-put-2 Inv-loop μ-loop
-slice-aggregate-put-2 c = search needs
-
-put-requires-2 : tie.Need-put-requires-2 Inv-loop μ-loop
-put-requires-2 c κs = search needs
-
-slice-aggregate-put-3 : tie.Need-slice-aggregate-put-3 Inv-loop μ-loop
-slice-aggregate-put-3 c = search needs
-
-put-requires-3 : tie.Need-put-requires-3 Inv-loop μ-loop
-put-requires-3 c κs = search needs
-
-slice-aggregate-put-4 : tie.Need-slice-aggregate-put-4 Inv-loop μ-loop
-slice-aggregate-put-4 c = search needs
-
-put-requires-4 : tie.Need-put-requires-4 Inv-loop μ-loop
-put-requires-4 c κs = search needs
-
 same-length : tie.Need-same-length Inv-loop μ-loop
 same-length c = search needs
 
-returns : tie.Need-returns Inv-loop μ-loop
-returns c = search needs
+returns-2 : tie.Need-returns-2 Inv-loop μ-loop
+returns-2 c = search needs
 
 pub products-spec : {M : Type 1} → statement M
 products-spec =
@@ -113,13 +113,13 @@ products-spec =
     loop-again
     slice-aggregate-mul-row
     mul-row-requires
+    slice-aggregate-all-same
+    slice-aggregate-all-same-2
+    slice-aggregate-all-same-3
+    slice-aggregate-all-same-4
+    all-same-requires
+    returns
     slice-aggregate-put
     put-requires
-    slice-aggregate-put-2
-    put-requires-2
-    slice-aggregate-put-3
-    put-requires-3
-    slice-aggregate-put-4
-    put-requires-4
     same-length
-    returns)
+    returns-2)
