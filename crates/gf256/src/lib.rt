@@ -44,7 +44,7 @@ fn exponent_of(a: u8) -> usize
     exponent_in(&exponents, a)
 }
 
-// The same in the table of exponents.
+// The same, in a table of exponents that the caller has laid down.
 fn exponent_in(exponents: &[u8; 256], a: u8) -> usize
     requires { ⌜ (0 < a)
         × ((x : ℕ) → 0 < x → x < 256 → (getD (now exponents) x 0 < 255) × (power 3 (getD (now exponents) x 0) ≡ x)) ⌝ }
@@ -97,7 +97,7 @@ pub fn mul_row(a: u8, row: &mut [u8])
     }
 }
 
-// The product of the bytes of a row, 1 for none: the tables are laid down once here too, and not for nothing.
+// The product of the bytes of a row; 1 for none, for which no table is laid down. Else the tables are laid down once here too.
 pub fn row_product(row: &[u8]) -> u8
     ensures { λ r. ⌜ r ≡ foldl product 1 (now (row .entry)) ⌝ }
 {
@@ -150,7 +150,7 @@ pub fn mul_bits(a: u8, b: u8) -> u8
     next_bit(seven, a, b)
 }
 
-// The inverse of a byte; 0 for 0. The two exponents add up to 255.
+// The inverse of a byte; 0 for 0. It stands at 255 less the exponent of a, for 1 at place 255.
 pub fn inv(a: u8) -> u8
     ensures { λ r. ⌜ r ≡ inverse a ⌝ }
 {

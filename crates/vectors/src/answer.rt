@@ -1,7 +1,7 @@
 // What the modules of cases share: numbers in what is handed in, and the answers of calls in what comes of it.
 use buffer::Written;
 
-// More bytes than any buffer has: what is handed in is not as its kind says, and nothing agrees with that.
+// More bytes than any buffer has, so that nothing agrees with it: what is handed in is not as its kind says, or functions that have to agree do not.
 pub(crate) const MALFORMED: usize = 1 << 63;
 
 // The length of an answer in bytes: its code (1) and its value (8).

@@ -1,4 +1,4 @@
--- `erasure::times_factor` meets its contract. All coefficients are multiplied by r; then the one below is added to each, and after each turn the
+-- `erasure::times_factor` meets its contract. The first b coefficients are multiplied by r; then the one below is added to each, and after each turn the
 -- coefficients below k are those of the product. Assumes nothing.
 use mathlib.Core.Path.{_≡_, sym, ap, _∙_}
 use Prim.Native.Nat.{ℕ, _-_, _≤_, _<_}
