@@ -14,7 +14,7 @@ use Rattle.erasure.specs.Coding.{shareLength}
 use Rattle.merkle.specs.Height.{height}
 use Rattle.party.specs.State.{Result, nothing, settled}
 use Rattle.agreement.specs.Calls.{Call, agreeRoot, agreeBit, stepOf, Event, heard, wrote, packetTo, bitGiven}
-use Rattle.agreement.specs.Calls.{opening, did, firstOf, resultAfter, hashed, sentBy}
+use Rattle.agreement.specs.Calls.{opening, did, firstOf, resultAfter, checked, hashed, sentBy}
 
 -- a good party: its number, its message, and the calls that it gets after its opening
 pub record Good : Type 0 where
@@ -89,12 +89,16 @@ module _ (H : List ℕ → List ℕ) (n t : ℕ) (good : List Good) where
     pub firstInbox : Delivered (λ A B. heard n (B .own) (step 4 A)) (λ B A. packetTo n (A .own) (step 3 B))
     pub secondInbox : Delivered (λ A B. heard n (B .own) (step 5 A)) (λ B A. wrote (step 4 B))
 
-  -- no two different strings that good parties hashed, all taken together, have one hash
-  abbrev pub allHashed : List (List ℕ)
-  allHashed = joinOver (λ (A : Good). hashed H n t (A .own) (A .message) (A .calls)) good
+  -- no two different strings of the openings and path checks of good parties, all taken together, have one hash
+  abbrev pub allChecked : List (List ℕ)
+  allChecked = joinOver (λ (A : Good). checked H n t (A .own) (A .message) (A .calls)) good
 
   abbrev pub Clean : Type 0
-  Clean = (x y : List ℕ) → List·Memᴰ x allHashed → List·Memᴰ y allHashed → H x ≡ H y → x ≡ y
+  Clean = (x y : List ℕ) → List·Memᴰ x allChecked → List·Memᴰ y allChecked → H x ≡ H y → x ≡ y
+
+  -- all strings that good parties hashed
+  abbrev pub allHashed : List (List ℕ)
+  allHashed = joinOver (λ (A : Good). hashed H n t (A .own) (A .message) (A .calls)) good
 
   -- what is supposed
   pub record Premises (z : List ℕ) (bit : ℕ) : Type 0 where

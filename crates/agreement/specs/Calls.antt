@@ -9,8 +9,9 @@ use lib.ListN.{length, getD, take}
 use Rattle.buffer.specs.Entries.{bodies}
 use Rattle.erasure.specs.Coding.{shares}
 use Rattle.merkle.specs.Shares.{codingStrings}
+use Rattle.commitment.specs.Rebuild.{recodedStrings}
 use Rattle.party.specs.State.{Result, resultIn, hasEnded, happy}
-use Rattle.party.specs.Steps.{openOf, Stepped, agreeRootOf, agreeBitOf, takeSharesOf, takeRelaysOf}
+use Rattle.party.specs.Steps.{openOf, Stepped, agreeRootOf, agreeBitOf, takeSharesOf, recoveredBy, takeRelaysOf}
 use Rattle.party.specs.Strings.{shareStrings, relayStrings}
 use Rattle.party.specs.declared.Party.{Party}
 use Rattle.party.specs.declared.Opened.{Opened}
@@ -123,6 +124,18 @@ module _ (H : List ℕ → List ℕ) where
   checkedOver [] = []
   checkedOver (e ∷ es) = checkedIn (e .before) (e .call) ++ checkedOver es
 
+  -- the strings of the message that an accepted call rebuilds and codes again: step 5 of an unhappy party that had not ended (document 02, No. 4)
+  unfoldable pub recodedIn : Party → Call → List (List ℕ)
+  recodedIn x (agreeRoot z) = []
+  recodedIn x (agreeBit bit out) = []
+  recodedIn x (takeShares inbox out) = []
+  recodedIn x (takeRelays inbox out) =
+      cond (hasEnded (x .stage) || happy H x) [] (recodedStrings H (x .seat .n) (x .seat .t) (recoveredBy H x inbox))
+
+  unfoldable pub recodedOver : List Event → List (List ℕ)
+  recodedOver [] = []
+  recodedOver (e ∷ es) = recodedIn (e .before) (e .call) ++ recodedOver es
+
   -- a party that opened with n, t, its number and a message
   module _ (n t own : ℕ) (m : List ℕ) where
     abbrev pub opening : Opened
@@ -141,9 +154,14 @@ module _ (H : List ℕ → List ℕ) where
       abbrev pub resultAfter : Option Result
       resultAfter = resultIn (final (opening .state) calls)
 
-      -- the strings it hashed: the leaf and node strings of the message it coded, and those of the path checks it made
+      -- the strings of its opening and of its path checks: the leaf and node strings of the message it coded, and those of the path checks it made. Of
+      -- these alone agreement supposes something
+      unfoldable pub checked : List (List ℕ)
+      checked = codingStrings H n (shares n (n - t) m) ++ checkedOver did
+
+      -- all strings it hashed: those, and the ones of the message that it coded again
       unfoldable pub hashed : List (List ℕ)
-      hashed = codingStrings H n (shares n (n - t) m) ++ checkedOver did
+      hashed = checked ++ recodedOver did
 
       -- the bytes it sent
       unfoldable pub sentBy : ℕ

@@ -1,2 +1,3 @@
 pub mod Calls
 pub mod Agreement
+pub mod AgreedRoot

@@ -10,6 +10,7 @@ use lib.ListN.{length}
 use Rattle.buffer.specs.Given.{Given, written}
 use Rattle.erasure.specs.Coding.{encodeOf}
 use Rattle.erasure.specs.Rebuild.{rebuildOf}
+use Rattle.commitment.specs.Rebuild.{rebuildWithRootOf}
 use Rattle.sha256.specs.Sha256.{hashOf}
 use Rattle.merkle.specs.Shares.{checkOf}
 use Rattle.packet.specs.Format.{hashes}
@@ -30,7 +31,7 @@ abbrev pub versionOf : ℕ → ℕ → ℕ → ℕ
 versionOf major minor patch = major * 2 ^ 16 + minor * 2 ^ 8 + patch
 
 abbrev pub libraryVersion : ℕ
-libraryVersion = versionOf 2 0 0
+libraryVersion = versionOf 2 1 0
 
 -- a cause (0: accepted) in the upper 32 bits, a value in the lower
 unfoldable pub packed : ℕ → ℕ → ℕ
@@ -132,6 +133,10 @@ sharesCall n t m out = filled (encodeOf n t m out)
 
 unfoldable pub rebuildCall : ℕ → ℕ → List ℕ → List ℕ → Returned
 rebuildCall n t es out = filled (rebuildOf n t es out)
+
+module _ (H : List ℕ → List ℕ) where
+  unfoldable pub rebuildWithRootCall : ℕ → ℕ → List ℕ → List ℕ → List ℕ → Returned
+  rebuildWithRootCall n t z es out = filled (rebuildWithRootOf H n t z es out)
 
 -- SHA-256 of a message: causes 4 and 9
 unfoldable pub hashCall : List ℕ → List ℕ → Returned

@@ -14,7 +14,7 @@ ghost use Rattle.state_bytes.specs.Layout.{stateLength};
 ghost use Rattle.agreement.specs.Calls.{agreeRoot, agreeBit, takeShares, takeRelays};
 ghost use Rattle.capi.specs.Calls.{libraryVersion, packed, returned, replies, valueShown, over, openCall, called, readPacketCall, checkAnswer};
 ghost use Rattle.capi.specs.Calls.{stageCall, ownCall, lengthAnswer, resultLengthCall};
-ghost use Rattle.capi.specs.Calls.{checkPathCall, filled, sharesCall, rebuildCall, hashCall};
+ghost use Rattle.capi.specs.Calls.{checkPathCall, filled, sharesCall, rebuildCall, rebuildWithRootCall, hashCall};
 use buffer::Written;
 use merkle::Checked;
 use packet::Packet;
@@ -29,7 +29,7 @@ use state_bytes::LENGTH;
 // The version of the library.
 const MAJOR: u32 = 2;
 
-const MINOR: u32 = 0;
+const MINOR: u32 = 1;
 
 const PATCH: u32 = 0;
 
@@ -221,6 +221,22 @@ pub extern "C" fn cipangohu_rebuild(n: usize, t: usize, entries: &[u8], out: &mu
     ensures { λ r. ⌜ returned r (now (out .exit)) ≡ rebuildCall n t (now (entries .entry)) (now (out .entry)) ⌝ }
 {
     let answer = erasure::rebuild(n, t, entries, out);
+    number_of(answer)
+}
+
+// The message again from n entries, if it has this root.
+#[no_mangle]
+pub extern "C" fn cipangohu_rebuild_with_root(
+    n: usize,
+    t: usize,
+    root: &[u8],
+    entries: &[u8],
+    out: &mut [u8],
+) -> u64
+    ensures { λ r. ⌜ returned r (now (out .exit))
+        ≡ rebuildWithRootCall sha256 n t (now (root .entry)) (now (entries .entry)) (now (out .entry)) ⌝ }
+{
+    let answer = commitment::rebuild_with_root(n, t, root, entries, out);
     number_of(answer)
 }
 

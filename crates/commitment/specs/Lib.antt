@@ -1,3 +1,4 @@
 pub mod Commitment
+pub mod Rebuild
 pub mod Rooms
 pub mod Private

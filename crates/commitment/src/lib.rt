@@ -1,15 +1,16 @@
-// What n, t and a message give without a state: the root of the message's shares, and the packets that carry them. The message is coded, and each
-// hash of its tree made, once a call.
+// What n, t and a message give without a state: the root of the message's shares, and the packets that carry them; and the message again, if it has
+// the root given. The message is coded, and each hash of its tree made, once a call.
 ghost use mathlib.Core.Path.{_≡_};
 ghost use Prim.Native.Nat.{_-_, _*_, _≤_};
 ghost use lib.ListN.{length, take};
 ghost use Rattle.sha256.specs.Sha256.{sha256};
-ghost use Rattle.limits.specs.Limits.{maxParties, maxShare};
+ghost use Rattle.limits.specs.Limits.{maxParties, maxMessage, maxShare};
 ghost use Rattle.buffer.specs.Splice.{spliced};
 ghost use Rattle.buffer.specs.Given.{gave, written};
 ghost use Rattle.erasure.specs.Coding.{shareLength, shares};
 ghost use Rattle.merkle.specs.Shares.{leavesOf, nodesOf};
 ghost use Rattle.commitment.specs.Commitment.{openCause, rootedOf, sent, sendOf};
+ghost use Rattle.commitment.specs.Rebuild.{rebuildWithRootOf};
 ghost use Rattle.commitment.specs.Rooms.{maxShares};
 ghost use Rattle.commitment.specs.Private.{Coded, relayFor, entryWith, entryLength, outboxUpTo, outboxLength};
 use buffer::Written;
@@ -103,6 +104,36 @@ pub fn send(
     }
 }
 
+// Writes the message that n entries give, if its root is the one given: it is coded again before a byte is written.
+pub fn rebuild_with_root(
+    n: usize,
+    t: usize,
+    given: &[u8],
+    entries: &[u8],
+    out: &mut [u8],
+) -> Written
+    ensures { λ r. ⌜ gave r (now (out .exit))
+        ≡ rebuildWithRootOf sha256 n t (now (given .entry)) (now (entries .entry)) (now (out .entry)) ⌝ }
+{
+    let cause = limits::group_cause(n, t);
+    if cause != 0 {
+        return Written::Refused(cause);
+    }
+    if given.len() != 32 {
+        return Written::Refused(7);
+    }
+    let mut message = blank_message();
+    let answer = erasure::rebuild(n, t, entries, &mut message);
+    let Written::Done(len) = answer else {
+        return answer;
+    };
+    let coded = root(n, t, 1, &message[..len]).root;
+    if check::same(&coded, given) {
+        return buffer::give(&message[..len], out);
+    }
+    Written::Refused(15)
+}
+
 // Why a party with this number and a message of `len` bytes is not opened: cause 1, 2, 3 or 4, or 0.
 pub fn open_cause(n: usize, t: usize, own: usize, len: usize) -> u8
     ensures { λ r. ⌜ r ≡ openCause n t own len ⌝ }
@@ -125,6 +156,13 @@ fn blank() -> [u8; MAX_SHARES]
     ensures { λ r. ⌜ length r ≡ maxShares ⌝ }
 {
     [0; MAX_SHARES]
+}
+
+// Room for any message.
+fn blank_message() -> [u8; MAX_MESSAGE]
+    ensures { λ r. ⌜ length r ≡ maxMessage ⌝ }
+{
+    [0; MAX_MESSAGE]
 }
 
 // Writes the shares of a message, one behind the other, where there is room for all shares of any.

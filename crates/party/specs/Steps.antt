@@ -16,6 +16,7 @@ use Rattle.packet.specs.Format.{packetOf}
 use Rattle.packet.specs.Inbox.{inboxOf}
 use Rattle.packet.specs.Class.{Class, silent, faulty, valid, classOf}
 use Rattle.commitment.specs.Commitment.{packetWith}
+use Rattle.commitment.specs.Rebuild.{underRoot}
 unfoldable pub use Rattle.commitment.specs.Commitment.{openCause}
 use Rattle.party.specs.State.{seatOf, Result, nothing, settled, messageIn, shareHeld, atRoot, atBit, atFirst, atSecond, atEnd, blankState, broken, messageRoot, happy}
 use Rattle.party.specs.State.{resultIn, hasEnded}
@@ -193,7 +194,7 @@ shareFrom (valid x p) = x
 unfoldable pub relaysCause : Party → List ℕ → ℕ
 relaysCause x inbox = cond (hasEnded (x .stage)) (stateCause 5 x) (inboxCause 5 x inbox)
 
--- causes 11 and 12 of rebuilding become the result nothing
+-- causes 11, 12 and 15 of rebuilding become the result nothing
 abbrev pub rebuilt : Recovered → Result
 rebuilt (rebuild.cause k) = nothing
 rebuilt (rebuild.message m) = settled m
@@ -206,10 +207,14 @@ module _ (H : List ℕ → List ℕ) where
   gathered x j (p ∷ ps) =
       cond (eqb j (x .seat .own)) (shareHeld x) (shareFrom (classOf H (x .seat .n) j (x .root) p)) ∷ gathered x (j + 1) ps
 
-  -- a happy party finds its message; another rebuilds
+  -- what these give
+  abbrev pub recoveredBy : Party → List ℕ → Recovered
+  recoveredBy x inbox = recovered (x .seat .n - x .seat .t) (present 1 (gathered x 1 (bodies (x .seat .n) inbox)))
+
+  -- a happy party finds its message; another what it rebuilds, if that has the agreed root
   unfoldable pub resultFound : Party → List ℕ → Result
   resultFound x inbox =
-      cond (happy H x) (settled (messageIn x)) (rebuilt (recovered (x .seat .n - x .seat .t) (present 1 (gathered x 1 (bodies (x .seat .n) inbox)))))
+      cond (happy H x) (settled (messageIn x)) (rebuilt (underRoot H (x .seat .n) (x .seat .t) (x .root) (recoveredBy x inbox)))
 
 -- the result that a party holds, or else the one that it finds
 abbrev pub heldOr : Option Result → Result → Result

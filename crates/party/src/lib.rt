@@ -9,8 +9,8 @@ ghost use Rattle.limits.specs.Limits.{maxParties, maxMessage, maxShare};
 ghost use Rattle.buffer.specs.Splice.{spliced};
 ghost use Rattle.buffer.specs.Entries.{fills, bodies};
 ghost use Rattle.buffer.specs.Given.{gave, written};
-ghost use Rattle.merkle.specs.Shares.{blank};
-ghost use Rattle.commitment.specs.Commitment.{mailWith};
+ghost use Rattle.merkle.specs.Shares.{blank, same};
+ghost use Rattle.commitment.specs.Commitment.{messageRoot, mailWith};
 ghost use Rattle.party.specs.State.{partyLimits, padded, messageIn, shareHeld, nothing, settled, atEnd, resultFrom, hasEnded, blankState, overlong, broken, happy};
 ghost use Rattle.party.specs.Steps.{turnOf, openCause, stateCause, inboxCause, relaysCause, firstValid, gathered, resultFound};
 ghost use Rattle.party.specs.Steps.{stepped, writes, ending, openOf, agreeRootOf, agreeBitOf, takeSharesOf, takeRelaysOf};
@@ -225,7 +225,7 @@ impl Party {
         self.give_again(outcome, out)
     }
 
-    // Ends: a happy party with its message, another with what it rebuilds.
+    // Ends: a happy party with its message, another with what it rebuilds, if that has the agreed root.
     fn conclude(self, inbox: &[u8], out: &mut [u8]) -> Reply
         requires { ⌜ Fit self × (fills (self .seat .n) (now inbox) ≡ true) ⌝ }
         ensures { λ r. ⌜ stepped r (now (out .exit)) ≡ ending self (resultFound sha256 self (now (inbox .entry))) (now (out .entry)) ⌝ }
@@ -249,7 +249,10 @@ impl Party {
         ) else {
             return self.settle_nothing();
         };
-        self.settle(&message[..len], out)
+        if self.has_root(&message[..len]) {
+            return self.settle(&message[..len], out);
+        }
+        self.settle_nothing()
     }
 
     // Gives the result that the state holds, in the ended form built anew.
@@ -502,9 +505,17 @@ impl Party {
     {
         let len = self.len;
         let message = self.message;
+        self.has_root(&message[..len])
+    }
+
+    // Whether the agreed root is that of a message.
+    fn has_root(self, message: &[u8]) -> bool
+        requires { ⌜ Fit self × (length (now message) ≤ maxMessage) ⌝ }
+        ensures { λ r. ⌜ r ≡ same (messageRoot sha256 (self .seat .n) (self .seat .t) (now (message .entry))) (self .root) ⌝ }
+    {
         let agreed = self.root;
-        let own = commitment::root(self.seat.n, self.seat.t, self.seat.own, &message[..len]).root;
-        check::same(&own, &agreed)
+        let coded = commitment::root(self.seat.n, self.seat.t, self.seat.own, message).root;
+        check::same(&coded, &agreed)
     }
 
     // Lengths of zero for all parties, and the next state; cause 9 where out is too short.
