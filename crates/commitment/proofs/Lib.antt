@@ -1,4 +1,5 @@
 pub mod Answers
+pub mod Rebuild
 pub mod Opening
 pub mod Shared
 pub mod Messages
