@@ -21,6 +21,8 @@ use Rattle.buffer.proofs.Splice.{length-spliced, take-spliced}
 use Rattle.buffer.proofs.Given.{written-done}
 use Rattle.erasure.specs.Rebuild.{Recovered, cause, message, Point, point, present, other, unframed, joined, framed, recovered, answered, rebuildOf}
 use Rattle.erasure.proofs.Frame.{is-unframed}
+use Rattle.merkle.specs.Shares.{same}
+use Rattle.commitment.specs.Commitment.{messageRoot}
 use Rattle.commitment.specs.Rebuild.{underRoot, rebuildWithRootOf}
 use Rattle.commitment.proofs.Answers.{not-done}
 
@@ -46,6 +48,14 @@ short-recovered b ps =
     go false false (message m) q =
         let h = is-unframed b s f m q in
         omega (arith, h .within, length-take (size f) (drop 2 f), ap length (h .found))
+
+pub short-under : (H : List ℕ → List ℕ) (n t : ℕ) (z : List ℕ) (a : Recovered) → Short a → Short (underRoot H n t z a)
+short-under H n t z (cause k) s = tt
+short-under H n t z (message m) s = go (same (messageRoot H n t m) z)
+  where
+    go : (b : Bool) → Short (cond b (message m) (cause 15))
+    go true = s
+    go false = tt
 
 -- the answer of rebuilding in a buffer that any message fits: a message found, or a cause
 module _ (o out : List ℕ) (r : Written) (room : length out ≡ maxMessage) where

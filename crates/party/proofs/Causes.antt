@@ -54,10 +54,10 @@ whole-stage x e =
     (overlong (x .stage)) e .1
 
 -- the opening of such a state's message would be accepted
-pub fit-open : (x : Party) → Fit x → (len : ℕ) → len ≡ x .len → openCause (x .seat .n) (x .seat .t) (x .seat .own) len ≡ 0
-fit-open x f len e =
+pub fit-open : (x : Party) → Fit x → (len : ℕ) → len ≤ maxMessage → openCause (x .seat .n) (x .seat .t) (x .seat .own) len ≡ 0
+fit-open x f len short =
     open-fine (x .seat .n) (x .seat .t) (x .seat .own) len (group-fine (x .seat .n) (x .seat .t) (f .low) (f .high) (omega (arith, f .faults))) (f .first) (f .last)
-    (omega (arith, e, f .short))
+    short
 
 -- a broken state: its opening would be refused, or the share is too long; else it goes by the stage
 module _ (x : Party) where
@@ -66,7 +66,7 @@ module _ (x : Party) where
     where
       go : (b : Bool) → broken x ≡ b → broken x ≡ true
       go true e = e
-      go false e = absurd (h (fit-open x (fit-of x e) (x .len) refl))
+      go false e = absurd (h (fit-open x (fit-of x e) (x .len) (fit-of x e .short)))
 
   module _ (fine : openCause (x .seat .n) (x .seat .t) (x .seat .own) (x .len) ≡ 0) where
     pub broken-held : maxShare < x .held → broken x ≡ true

@@ -11,18 +11,17 @@ use borrow.Author.Tests.{lt-ltb, le-ltb, eq-eqb, ne-eqb}
 use lib.Dec.{ltb, eqb}
 use lib.ListN.{length}
 use Rattle.buffer.specs.Splice.{spliced}
-use Rattle.buffer.specs.Entries.{bodies}
 use Rattle.buffer.specs.Given.{Given, gave, written}
 use Rattle.buffer.specs.declared.Written.{Written}
 use Rattle.buffer.specs.declared.Written.the-variants as given
 use Rattle.buffer.proofs.Splice.{spliced-none}
-use Rattle.erasure.specs.Rebuild.{present, recovered}
 use Rattle.merkle.specs.Shares.{blank}
+use Rattle.commitment.specs.Rebuild.{underRoot}
 use Rattle.party.specs.State.{seatOf, Result, nothing, settled, messageIn, atRoot, atFirst, atSecond, atEnd, blankState, messageRoot, happy}
 use Rattle.party.specs.State.{resultFrom, resultAt, resultIn, hasEnded}
 use Rattle.party.specs.Steps.{turnOf, openCause, openOf, rootCause, withRoot, agreeRootOf, bitCause, gives, refused, stepped, writes, outboxOf}
 use Rattle.party.specs.Steps.{agreeBitOf, inboxCause, takenBy, shareTaken, packetTaken, ownRelay, relayOf, heldOf, takeSharesOf}
-use Rattle.party.specs.Steps.{gathered, rebuilt, relaysCause, resultFound, resultOf, ending, takeRelaysOf}
+use Rattle.party.specs.Steps.{rebuilt, recoveredBy, relaysCause, resultFound, resultOf, ending, takeRelaysOf}
 use Rattle.party.specs.Private.{after}
 use Rattle.party.specs.declared.Stage.{Stage}
 use Rattle.party.specs.declared.Stage.the-variants.{Root, Bit, First, Second, Ended}
@@ -151,7 +150,7 @@ module _ (H : List ℕ → List ℕ) where
     found-happy h = rw h
 
     pub found-rebuilt : happy H x ≡ false
-        → resultFound H x inbox ≡ rebuilt (recovered (x .seat .n - x .seat .t) (present 1 (gathered H x 1 (bodies (x .seat .n) inbox))))
+        → resultFound H x inbox ≡ rebuilt (underRoot H (x .seat .n) (x .seat .t) (x .root) (recoveredBy H x inbox))
     unfolding resultFound
     found-rebuilt h = rw h
 

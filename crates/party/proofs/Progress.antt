@@ -12,14 +12,14 @@ use lib.ListN.{length, length-take}
 use Rattle.limits.specs.Limits.{maxParties, maxMessage, maxShare}
 use Rattle.limits.proofs.Group.{group-fine}
 use Rattle.buffer.specs.Entries.{fills, bodies}
-use Rattle.erasure.specs.Rebuild.{Recovered, present, recovered}
+use Rattle.erasure.specs.Rebuild.{Recovered, present}
 use Rattle.erasure.specs.Rebuild as rebuild
 use Rattle.packet.proofs.Reading.{fields-of}
 use Rattle.packet.proofs.Class.{passing}
 use Rattle.party.specs.State.{Result, nothing, settled, resultBytes, messageIn, atRoot, atBit, atFirst, atSecond, atEnd, broken, happy}
 use Rattle.party.specs.State.{resultAt, hasEnded, overlong}
 use Rattle.party.specs.Steps.{turnOf, openOf, bitCause, inboxCause, relaysCause, agreeRootOf, outboxOf, agreeBitOf, Taken, missing, found, takenBy}
-use Rattle.party.specs.Steps.{shareTaken, relayOf, heldOf, takeSharesOf, gathered, rebuilt, resultFound, heldOr, resultOf, ending, takeRelaysOf, writes, Stepped}
+use Rattle.party.specs.Steps.{shareTaken, relayOf, heldOf, takeSharesOf, gathered, recoveredBy, rebuilt, resultFound, heldOr, resultOf, ending, takeRelaysOf, writes, Stepped}
 use Rattle.party.specs.declared.Outcome.the-variants.{Nothing, Message}
 use Rattle.party.specs.declared.Stage.{Stage}
 use Rattle.party.specs.declared.Stage.the-variants.{Root, Bit, First, Second, Ended}
@@ -27,10 +27,11 @@ use Rattle.party.specs.declared.Seat.{Seat}
 use Rattle.party.specs.declared.Party.{Party}
 use Rattle.party.specs.declared.Opened.{Opened}
 use Rattle.commitment.specs.Commitment.{openCause}
+use Rattle.commitment.specs.Rebuild.{underRoot}
 use Rattle.commitment.proofs.Opening.{open-fine}
+use Rattle.commitment.proofs.Rebuild.{Short, short-recovered, short-under}
 use Rattle.party.proofs.Causes.{fit-of, whole-stage, broken-stage, state-fine, root-fine, bit-fine, inbox-fine, relays-fine}
 use Rattle.party.proofs.Outcomes.{open-given, root-given}
-use Rattle.party.proofs.Taking.{Short, short-recovered}
 use Rattle.party.proofs.Checks.{took}
 
 -- a buffer that is long enough is written to
@@ -137,11 +138,12 @@ module _ (H : List ℕ → List ℕ) (x : Party) (whole : broken x ≡ false) wh
   found-short inbox = go (happy H x)
     where
       go : (b : Bool) → length (resultBytes (cond b (settled (messageIn x))
-          (rebuilt (recovered (x .seat .n - x .seat .t) (present 1 (gathered H x 1 (bodies (x .seat .n) inbox))))))) ≤ maxMessage
+          (rebuilt (underRoot H (x .seat .n) (x .seat .t) (x .root) (recoveredBy H x inbox))))) ≤ maxMessage
       go true = message-short
       go false =
-          rebuilt-short (recovered (x .seat .n - x .seat .t) (present 1 (gathered H x 1 (bodies (x .seat .n) inbox))))
-          (short-recovered (x .seat .n - x .seat .t) (present 1 (gathered H x 1 (bodies (x .seat .n) inbox))))
+          rebuilt-short (underRoot H (x .seat .n) (x .seat .t) (x .root) (recoveredBy H x inbox))
+          (short-under H (x .seat .n) (x .seat .t) (x .root) (recoveredBy H x inbox)
+          (short-recovered (x .seat .n - x .seat .t) (present 1 (gathered H x 1 (bodies (x .seat .n) inbox)))))
 
   -- a result that is held is within the limit, or the state were broken
   pub result-short : (inbox : List ℕ) → length (resultBytes (resultOf H x inbox)) ≤ maxMessage

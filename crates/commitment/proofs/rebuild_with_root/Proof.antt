@@ -1,6 +1,6 @@
 -- `commitment::rebuild_with_root` meets its contract: a refusal, that of rebuilding or of the root included, or the message found, in a lent buffer. Assumes nothing.
-use mathlib.Core.Path.{_≡_, refl, sym, ap, _∙_}
-use mathlib.Core.Bool.{Bool, true, false, cond}
+use mathlib.Core.Path.{_≡_, sym, ap, _∙_}
+use mathlib.Core.Bool.{Bool, cond}
 use mathlib.Core.List.{List}
 use Prim.Native.Nat.{ℕ, _≤_}
 use native.Mathlib.Omega.{arith}
@@ -9,7 +9,7 @@ use lib.ListN.{length, take}
 use lib.Seq.{length-take-le}
 use Rattle.limits.specs.Limits.{maxMessage, groupCause}
 use Rattle.limits.proofs.Group.{group-of}
-use Rattle.buffer.specs.Given.{Given, gave, written}
+use Rattle.buffer.specs.Given.{gave}
 use Rattle.buffer.specs.declared.Written.{Written}
 use Rattle.buffer.specs.declared.Written.the-variants as given
 use Rattle.erasure.specs.Rebuild.{Recovered, cause, message, answered}

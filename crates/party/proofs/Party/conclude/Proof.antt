@@ -1,6 +1,7 @@
--- `party::Party::conclude` meets its contract: each return is one result that is found, by whether the party is happy and by the answer of rebuilding from
--- the shares that were gathered. Assumes nothing.
+-- `party::Party::conclude` meets its contract: each return is one result that is found, by whether the party is happy, by the answer of rebuilding from
+-- the shares that were gathered, and by whether what was rebuilt has the agreed root. Assumes nothing.
 use mathlib.Core.Path.{_≡_, sym, ap, _∙_}
+use mathlib.Core.Bool.{Bool, cond}
 use mathlib.Core.List.{List}
 use Prim.Native.Nat.{ℕ, zero, _-_, _≤_}
 use native.Mathlib.Omega.{arith}
@@ -9,15 +10,17 @@ use lib.Seq.{length-take-le}
 use Rattle.limits.specs.Limits.{maxMessage, maxShare}
 use Rattle.buffer.specs.Entries.{bodies}
 use Rattle.buffer.specs.Given.{gave}
-use Rattle.erasure.specs.Rebuild.{Recovered, present, recovered, answered}
-use Rattle.party.specs.State.{Result, settled, messageIn}
-use Rattle.party.specs.Steps.{gathered, rebuilt, resultFound, stepped, ending}
+use Rattle.erasure.specs.Rebuild.{Recovered, cause, message, present, answered}
+use Rattle.commitment.specs.Rebuild.{underRoot}
+use Rattle.commitment.proofs.Rebuild.{Short, short-recovered, answer-found, answer-cause}
+use Rattle.party.specs.State.{Result, messageIn}
+use Rattle.party.specs.Steps.{gathered, rebuilt, recoveredBy, resultFound, stepped, ending}
 use Rattle.party.specs.Private.{Fit}
 use Rattle.party.specs.declared.Party.{Party}
 use Rattle.party.specs.declared.Reply.{Reply}
 use Rattle.party.proofs.Outcomes.{found-happy, found-rebuilt}
 use Rattle.party.proofs.Kept.{length-message}
-use Rattle.party.proofs.Taking.{rebuilt-of, Short, short-recovered, rebuilt-done, rebuilt-none}
+use Rattle.party.proofs.Taking.{rebuilt-of}
 use borrow.Author.Needs.{needs}
 use Rattle.sha256.specs.Sha256.{sha256}
 use Rattle.party.proofs.Party.conclude.Statement.{statement}
@@ -57,9 +60,12 @@ abbrev E : tie.After-rebuild-at → tie.Start
 E d = Entry (Gather d .before .before)
 
 abbrev A : tie.Start → Recovered
-A st = recovered (X st .seat .n - X st .seat .t) (present 1 (gathered sha256 (X st) 1 (bodies (X st .seat .n) (S st))))
+A st = recoveredBy sha256 (X st) (S st)
 
-rebuilding : (d : tie.After-rebuild-at) → let st = E d in resultFound sha256 (X st) (S st) ≡ rebuilt (A st)
+abbrev Under : tie.Start → Recovered → Result
+Under st a = rebuilt (underRoot sha256 (X st .seat .n) (X st .seat .t) (X st .root) a)
+
+rebuilding : (d : tie.After-rebuild-at) → let st = E d in resultFound sha256 (X st) (S st) ≡ Under st (A st)
 rebuilding d =
     let st = E d in
     let u = Gather d .before in
@@ -82,15 +88,29 @@ short : (st : tie.Start) → Short (A st)
 short st = short-recovered (X st .seat .n - X st .seat .t) (present 1 (gathered sha256 (X st) 1 (bodies (X st .seat .n) (S st))))
 
 found : (k : tie.After-len) → let d = k .before .before .before in let l = k .len .given .0 .0 in
-    (rebuilt (A (E d)) ≡ settled (take l (O d))) × (l ≤ maxMessage) × (l ≤ length (O d))
+    (A (E d) ≡ message (take l (O d))) × (l ≤ maxMessage) × (l ≤ length (O d))
 found k =
     let d = k .before .before .before in
-    rebuilt-done (O d) Zeros (d .rebuild-at .result) (length-replicate maxMessage zero) (A (E d)) (short (E d))
+    answer-found (O d) Zeros (d .rebuild-at .result) (length-replicate maxMessage zero) (A (E d)) (short (E d))
     (told d)
     (k .len .given .0 .0) (k .len .given .1)
 
 exact : (k : tie.After-len) → let d = k .before .before .before in let l = k .len .given .0 .0 in length (take l (O d)) ≡ l
 exact k = let d = k .before .before .before in length-take-le (k .len .given .0 .0) (O d) (found k .2)
+
+-- the message found, and whether it has the agreed root
+abbrev Len : tie.After-has-root → tie.After-len
+Len h = h .before .before .before
+
+abbrev M : tie.After-has-root → List ℕ
+M h = take (Len h .len .given .0 .0) (O (Len h .before .before .before))
+
+judged : (h : tie.After-has-root) → let st = E (Len h .before .before .before) in
+    resultFound sha256 (X st) (S st) ≡ rebuilt (cond (h .has-root .result) (message (M h)) (cause 15))
+judged h =
+    let d = Len h .before .before .before in
+    rebuilding d ∙ ap (Under (E d)) (found (Len h) .0)
+    ∙ ap (λ (b : Bool). rebuilt (cond b (message (M h)) (cause 15))) (sym (h .has-root .ensures))
 
 happy-requires : tie.Need-happy-requires
 happy-requires c κs = search needs
@@ -150,18 +170,29 @@ returns-2 c =
     let st = E d in
     ap (λ (r : Reply). stepped r (Out st)) (c .settle-nothing .ensures)
     ∙ sym (ap (λ (r : Result). ending (X st) r (Out st))
-    (rebuilding d ∙ rebuilt-none (O d) Zeros (d .rebuild-at .result) (length-replicate maxMessage zero) (A st) (short st) (told d)
-    (c .before .match .keys2)))
+    (rebuilding d ∙ ap (Under st) (answer-cause (O d) Zeros (d .rebuild-at .result) (length-replicate maxMessage zero) (A st) (short st) (told d)
+    (c .before .match .keys2) .1)))
 
 array-share-prefix-message-2 : tie.Need-array-share-prefix-message-2
 array-share-prefix-message-2 c = found (c .before) .2
 
+slice-aggregate-has-root : tie.Need-slice-aggregate-has-root
+slice-aggregate-has-root c = sym (exact (c .before .before))
+
+has-root-requires : tie.Need-has-root-requires
+has-root-requires c κs =
+    let k = c .before .before in
+    (fit (E (k .before .before .before)), omega (arith, exact k, found k .1))
+
+array-share-prefix-message-3 : tie.Need-array-share-prefix-message-3
+array-share-prefix-message-3 c = found (Len (c .before)) .2
+
 slice-aggregate-settle-2 : tie.Need-slice-aggregate-settle-2
-slice-aggregate-settle-2 c = sym (exact (c .before .before))
+slice-aggregate-settle-2 c = sym (exact (Len (c .before .before)))
 
 settle-requires-2 : tie.Need-settle-requires-2
 settle-requires-2 c κs =
-    let k = c .before .before .before in
+    let k = Len (c .before .before .before) in
     omega (arith, exact k, found k .1)
 
 same-length-2 : tie.Need-same-length-2
@@ -170,10 +201,22 @@ same-length-2 c = search needs
 returns-3 : tie.Need-returns-3
 returns-3 c =
     let w = c .before .before in
-    let k = w .before .before .before .before in
-    let d = k .before .before .before in
-    let st = E d in
-    w .settle2 .ensures ∙ ap (λ (r : Result). ending (X st) r (Out st)) (sym (rebuilding d ∙ found k .0))
+    let e = w .before .before .before in
+    let h = e .before in
+    let st = E (Len h .before .before .before) in
+    w .settle2 .ensures
+    ∙ ap (λ (r : Result). ending (X st) r (Out st)) (sym (judged h ∙ ap (λ (b : Bool). rebuilt (cond b (message (M h)) (cause 15))) (e .if2 .taken)))
+
+settle-nothing-requires-2 : tie.Need-settle-nothing-requires-2
+settle-nothing-requires-2 c κs = search needs
+
+returns-4 : tie.Need-returns-4
+returns-4 c =
+    let e = c .before in
+    let h = e .before in
+    let st = E (Len h .before .before .before) in
+    ap (λ (r : Reply). stepped r (Out st)) (c .settle-nothing2 .ensures)
+    ∙ sym (ap (λ (r : Result). ending (X st) r (Out st)) (judged h ∙ ap (λ (b : Bool). rebuilt (cond b (message (M h)) (cause 15))) (e .if2 .left)))
 
 pub conclude-spec : {M : Type 1} → statement M
 conclude-spec =
@@ -194,7 +237,12 @@ conclude-spec =
     settle-nothing-requires
     returns-2
     array-share-prefix-message-2
+    slice-aggregate-has-root
+    has-root-requires
+    array-share-prefix-message-3
     slice-aggregate-settle-2
     settle-requires-2
     same-length-2
-    returns-3)
+    returns-3
+    settle-nothing-requires-2
+    returns-4)

@@ -68,7 +68,7 @@ returns c =
     let m = messageIn x in
     let out = a .out .now in
     let bs = mailWith sha256 (a .relays) (x .seat .n) (x .seat .t) (x .seat .own) m in
-    let fine = fit-open x (st .pre) (length m) (kept st) in
+    let fine = fit-open x (st .pre) (length m) (omega (arith, kept st, st .pre .short)) in
     told (same (messageRoot sha256 (x .seat .n) (x .seat .t) m) (x .root)) (sent (q .send .result) (q .send .last .1 .1 .1 .1 .1 .1 .0)) bs out
     (λ h. q .send .ensures ∙ send-own sha256 (x .seat .n) (x .seat .t) (x .seat .own) m (a .relays) (x .root) out fine h)
     (λ h. q .send .ensures ∙ send-other sha256 (x .seat .n) (x .seat .t) (x .seat .own) m (a .relays) (x .root) out fine h)
