@@ -11,10 +11,10 @@ use lib.Dec.{T, ltb, T-prop, ltb→lt, lt→ltb}
 use Rattle.gf256.specs.Field.{product, inverse}
 use Rattle.gf256.proofs.Xor.{xor-assoc}
 use Rattle.gf256.proofs.Laws.{product-lt, product-comm, product-assoc, product-add, product-inverse, product-one, inverse-lt}
-use Rattle.polynomial.specs.Polynomial.{Operations, Laws, Distinct, value, through}
+use Rattle.polynomial.specs.Polynomial.{Operations, Laws, Distinct, sum, value, basis, through}
 use Rattle.polynomial.proofs.Value.{value-cong, value-horner}
 use Rattle.polynomial.proofs.Interpolation.{unique, through-value}
-use Rattle.polynomial.proofs.Hom.{Hom, hom-value, hom-through}
+use Rattle.polynomial.proofs.Hom.{Hom, hom-value, hom-basis, hom-through}
 use Rattle.erasure.specs.Bytes.{bytes}
 
 abbrev Byte : Type 0
@@ -86,9 +86,19 @@ distinct-lift n x hx d i j hi hj e = d i j hi hj (ap (λ (b : Byte). b .0) e)
 pub value-lt : (n : ℕ) (c : ℕ → ℕ) (x : ℕ) → ((i : ℕ) → c i < 256) → x < 256 → value bytes n c x < 256
 value-lt n c x hc hx = subst (λ (t : ℕ). t < 256) (value-lift n c x hc hx) (small (value byteOps n (lift c hc) (make x hx)))
 
-pub through-lt : (n : ℕ) (x y : ℕ → ℕ) → ((i : ℕ) → x i < 256) → ((i : ℕ) → y i < 256) → (k : ℕ) → through bytes n x y k < 256
-through-lt n x y hx hy k =
-    subst (λ (t : ℕ). t < 256) (through-lift n x y hx hy k) (small (through byteOps n (lift x hx) (lift y hy) k))
+-- the coefficients are bytes whatever the values are: those of Lagrange's polynomials are, and so is a byte times any number
+basis-lt : (n : ℕ) (x : ℕ → ℕ) (i k : ℕ) → ((j : ℕ) → x j < 256) → basis bytes n x i k < 256
+unfolding lift make
+basis-lt n x i k hx = subst (λ (t : ℕ). t < 256) (hom-basis number n (lift x hx) i k) (small (basis byteOps n (lift x hx) i k))
+
+sum-lt : (n : ℕ) (f : ℕ → ℕ) → ((i : ℕ) → f i < 256) → sum bytes n f < 256
+unfolding sum
+sum-lt zero f h = omega arith
+sum-lt (suc n) f h = xor-lt 8 (sum bytes n f) (f n) (sum-lt n f h) (h n)
+
+pub through-lt : (n : ℕ) (x y : ℕ → ℕ) → ((i : ℕ) → x i < 256) → (k : ℕ) → through bytes n x y k < 256
+unfolding through
+through-lt n x y hx k = sum-lt n _ (λ i. product-lt (basis bytes n x i k) (y i) (basis-lt n x i k hx))
 
 -- the value by Horner's rule
 pub byte-horner : (n : ℕ) (c : ℕ → ℕ) (x : ℕ) → ((i : ℕ) → c i < 256) → x < 256
@@ -122,5 +132,5 @@ pub byte-recovers : (n : ℕ) (x p : ℕ → ℕ) → ((i : ℕ) → x i < 256) 
     → (k : ℕ) → k < n → through bytes n x (λ j. value bytes n p (x j)) k ≡ p k
 byte-recovers n x p hx hp d =
     let hy : (i : ℕ) → value bytes n p (x i) < 256 = λ i. value-lt n p (x i) hp (hx i) in
-    byte-unique n x (through bytes n x (λ j. value bytes n p (x j))) p hx (through-lt n x (λ j. value bytes n p (x j)) hx hy) hp d
+    byte-unique n x (through bytes n x (λ j. value bytes n p (x j))) p hx (through-lt n x (λ j. value bytes n p (x j)) hx) hp d
     (byte-through-value n x (λ j. value bytes n p (x j)) hx hy d)

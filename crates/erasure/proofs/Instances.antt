@@ -78,7 +78,7 @@ used-bytes (suc zero) h = two-bytes 0x82 0x86 (lit< tt) (lit< tt)
 used-bytes (suc (suc i)) h = absurd (omega arith)
 
 pub rebuilt-has : (i : ℕ) → i < 2 → point (present 1 entries) i .share ≡ share 2 (point (present 1 entries) i .number) ab
-rebuilt-has = sound 2 ab entries (lit≤ tt) (lit< tt) used-bytes rebuilt .1
+rebuilt-has = sound 2 ab entries (lit≤ tt) (lit< tt) rebuilt used-bytes .1
 
 pub only : (m : List ℕ) → Bytes m → length m ≤ maxMessage → ((j : ℕ) → 1 ≤ j → j ≤ 3 → share 2 j ab ≡ share 2 j m) → ab ≡ m
 only m small short e =

@@ -55,20 +55,21 @@ module _ (b s : ℕ) (us : List Point) where
       getD-tabulate (b * s) _ (k * s + c) 0 (digits-lt hk hc)
       ∙ rw (digits-div k {m = s} hc, digits-mod k {m = s} hc)
 
-  module _ (hx : (i : ℕ) → point us i .number < 256) (hy : (i : ℕ) → Bytes (point us i .share)) where
+  module _ (hx : (i : ℕ) → point us i .number < 256) where
+    -- it is of bytes, whatever the shares are
     pub framed-bytes : Bytes (framed b s us)
     unfolding framed
     framed-bytes i = elim (decLt i (b * s)) [
       | yes l ↦ subst (λ (t : ℕ). t < 256) (sym (getD-tabulate (b * s) _ i 0 l))
-          (through-lt b (λ m. point us m .number) (λ m. getD (point us m .share) (i % s) 0) hx (λ m. hy m (i % s)) (i / s))
+          (through-lt b (λ m. point us m .number) (λ m. getD (point us m .share) (i % s) 0) hx (i / s))
       | no n ↦ omega (arith, length-framed, List·getD-eq-default (framed b s us) 0 {n = i} (omega (arith, length-framed)))
     ]
 
     -- a share of the message whose frame it is
-    pub framed-share : (m : List ℕ) → Distinct b (λ i. point us i .number) → s ≡ shareLength b (length m)
+    pub framed-share : ((i : ℕ) → Bytes (point us i .share)) → (m : List ℕ) → Distinct b (λ i. point us i .number) → s ≡ shareLength b (length m)
         → framed b s us ≡ frame b m → (i : ℕ) → i < b → length (point us i .share) ≡ s
         → point us i .share ≡ share b (point us i .number) m
-    framed-share m d e f i h l =
+    framed-share hy m d e f i h l =
         ext-getD 0 (point us i .share) (share b (point us i .number) m) (l ∙ e ∙ sym (length-share b (point us i .number) m))
         (λ c k. sym (byte c (omega arith)))
       where
@@ -86,8 +87,7 @@ both-pass true q r m e = let z : _≡_ {A = ℕ} 0 1 = cc in absurd (omega arith
 both-pass false true r m e = let z : _≡_ {A = ℕ} 0 1 = cc in absurd (omega arith)
 both-pass false false r m e = (refl, refl, e)
 
-module _ (b : ℕ) (m : List ℕ) (es : List (List ℕ)) (low : 1 ≤ b) (few : length es < 256)
-    (small : (i : ℕ) → i < b → Bytes (point (present 1 es) i .share)) (e : recovered b (present 1 es) ≡ message m) where
+module _ (b : ℕ) (m : List ℕ) (es : List (List ℕ)) (low : 1 ≤ b) (few : length es < 256) (e : recovered b (present 1 es) ≡ message m) where
   us : List Point
   us = take b (present 1 es)
 
@@ -116,32 +116,34 @@ module _ (b : ℕ) (m : List ℕ) (es : List (List ℕ)) (low : 1 ≤ b) (few : 
     | no n ↦ subst (λ (p : Point). p .number < 256) (sym (point-none us i (omega (arith, used-count)))) (lit< tt)
   ]
 
-  used-bytes : (i : ℕ) → Bytes (point us i .share)
-  used-bytes i = elim (decLt i b) [
-    | yes l ↦ subst (λ (p : Point). Bytes (p .share)) (sym (used i l)) (small i l)
-    | no n ↦ subst (λ (p : Point). Bytes (p .share)) (sym (point-none us i (omega (arith, used-count)))) (λ c. lit< tt)
-  ]
-
   found : (length m ≤ maxMessage) × (s ≡ shareLength b (length m)) × (framed b s us ≡ frame b m)
-  found = frame-unframed b s (framed b s us) m low (length-framed b s us) (framed-bytes b s us used-lt used-bytes) (passed .2)
+  found = frame-unframed b s (framed b s us) m low (length-framed b s us) (framed-bytes b s us used-lt) (passed .2)
+
+  -- it is of bytes
+  pub sound-bytes : Bytes m
+  sound-bytes = frame-bytes-message b m (subst Bytes (found .2) (framed-bytes b s us used-lt))
 
   distinct : Distinct b (λ i. point us i .number)
   distinct i k hi hk q =
       number-distinct es b enough i k hi hk
       (ap (λ (p : Point). p .number) (sym (used i hi)) ∙ q ∙ ap (λ (p : Point). p .number) (used k hk))
 
-  pub sound : (length m ≤ maxMessage)
-      × ((i : ℕ) → i < b → point (present 1 es) i .share ≡ share b (point (present 1 es) i .number) m)
-  sound = (
-    found .0,
-    λ i h. subst (λ (p : Point). p .share ≡ share b (p .number) m) (used i h)
-        (framed-share b s us used-lt used-bytes m distinct (found .1) (found .2) i h
-        (one-length s us (passed .1) i (omega (arith, used-count)))),
-  )
+  -- and has the shares used, where they are of bytes
+  module _ (small : (i : ℕ) → i < b → Bytes (point (present 1 es) i .share)) where
+    used-bytes : (i : ℕ) → Bytes (point us i .share)
+    used-bytes i = elim (decLt i b) [
+      | yes l ↦ subst (λ (p : Point). Bytes (p .share)) (sym (used i l)) (small i l)
+      | no n ↦ subst (λ (p : Point). Bytes (p .share)) (sym (point-none us i (omega (arith, used-count)))) (λ c. lit< tt)
+    ]
 
-  -- and it is of bytes
-  pub sound-bytes : Bytes m
-  sound-bytes = frame-bytes-message b m (subst Bytes (found .2) (framed-bytes b s us used-lt used-bytes))
+    pub sound : (length m ≤ maxMessage)
+        × ((i : ℕ) → i < b → point (present 1 es) i .share ≡ share b (point (present 1 es) i .number) m)
+    sound = (
+      found .0,
+      λ i h. subst (λ (p : Point). p .share ≡ share b (p .number) m) (used i h)
+          (framed-share b s us used-lt used-bytes m distinct (found .1) (found .2) i h
+          (one-length s us (passed .1) i (omega (arith, used-count)))),
+    )
 
 -- the same of n entries: what was written is a message that has the shares used
 
@@ -186,13 +188,13 @@ rebuild-sound n t l entries out h e =
     let low : 1 ≤ n - t = omega arith in
     let few : length es < 256 = omega (arith, length-bodies n entries) in
     let bs : (i : ℕ) → i < n - t → Bytes (point (present 1 es) i .share) = λ i k. present-bytes es (bodies-bytes n entries h) i in
-    let f = sound (n - t) (g .0) es low few bs (g .1) in
+    let f = sound (n - t) (g .0) es low few (g .1) bs in
     record {
       text = g .0;
       group = c;
-      there = enough (n - t) (g .0) es low few bs (g .1);
+      there = enough (n - t) (g .0) es low few (g .1);
       within = f .0;
-      small = sound-bytes (n - t) (g .0) es low few bs (g .1);
+      small = sound-bytes (n - t) (g .0) es low few (g .1);
       own = f .1;
       done = rebuild-answered n t entries out c (a .1) ∙ g .2;
     }
