@@ -20,12 +20,13 @@ use Rattle.limits.proofs.Group.{group-of}
 use Rattle.buffer.specs.Entries.{bodies}
 use Rattle.buffer.proofs.Tabulate.{length-tabulate, getD-tabulate}
 use Rattle.erasure.specs.Coding.{shareLength, share}
-use Rattle.erasure.specs.Rebuild.{present}
+use Rattle.erasure.specs.Rebuild.{Recovered, present}
 use Rattle.merkle.specs.Height.{height}
 use Rattle.merkle.specs.Shares.{same}
 use Rattle.merkle.proofs.Judged.{same-true, same-refl}
 use Rattle.packet.specs.Class.{Class, silent, faulty, valid, classOf}
 use Rattle.commitment.specs.Commitment.{messageRoot, packetWith, relayWith}
+use Rattle.commitment.specs.Rebuild.{underRoot}
 use Rattle.commitment.specs.Private.{Coded}
 use Rattle.commitment.proofs.Opening.{open-bounds}
 use Rattle.commitment.proofs.Messages.{share-there, pathTo, rebuilds}
@@ -250,7 +251,9 @@ module _ (H : List ℕ → List ℕ) (wide : (s : List ℕ) → length (H s) ≡
 
         unhappy-result : does B hB .result ≡ settled M
         unhappy-result =
-            does B hB .rebuilds uB ∙ ap rebuilt (rebuilds n t M codedM gs gs-length entry-or enough (opened .bytes A hA))
+            does B hB .rebuilds uB
+            ∙ ap (λ (a : Recovered). rebuilt (underRoot H n t z a)) (rebuilds n t M codedM gs gs-length entry-or enough (opened .bytes A hA))
+            ∙ rw (ap (same (messageRoot H n t M)) (sym root-M) ∙ same-refl (messageRoot H n t M))
 
       results : (B : Good) (hB : In B) → does B hB .result ≡ settled M
       results B hB = go (way (isGlad B))

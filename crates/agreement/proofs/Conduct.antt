@@ -1,7 +1,7 @@
 -- What a good party does on bit 1, told by what it heard and wrote, with no state left. A happy one sends its message's packets, relays its own share
 -- and ends with its message; another relays a packet that passes if it heard one, and rebuilds from the relays that pass. By the laws of the party's
 -- steps. Assumes nothing.
-use mathlib.Core.Path.{_≡_, refl, sym, ap, _∙_, subst}
+use mathlib.Core.Path.{_≡_, refl, sym, ap, ap₂, _∙_, subst}
 use mathlib.Core.Logic.{_≢_}
 use mathlib.Core.Bool.{Bool, true, false, cond}
 use mathlib.Core.List.{List, [], List·Memᴰ, List·Memᴰ·not-nil}
@@ -15,7 +15,7 @@ use Rattle.buffer.specs.Splice.{tabulate}
 use Rattle.buffer.specs.Entries.{bodies}
 use Rattle.buffer.proofs.Entries.{length-bodies}
 use Rattle.buffer.proofs.Tabulate.{length-tabulate, tabulate-cong, tabulate-getD}
-use Rattle.erasure.specs.Rebuild.{present, recovered}
+use Rattle.erasure.specs.Rebuild.{Recovered, present, recovered}
 use Rattle.merkle.specs.Shares.{same}
 use Rattle.packet.specs.Format.{packetOf}
 use Rattle.packet.specs.Inbox.{inboxOf}
@@ -24,17 +24,18 @@ use Rattle.packet.proofs.Inbox.{inbox-bodies}
 use Rattle.packet.proofs.Reading.{fields-of, read-empty}
 use Rattle.packet.proofs.Class.{passing, rewritten}
 use Rattle.commitment.specs.Commitment.{messageRoot, packetsWith, relayWith}
+use Rattle.commitment.specs.Rebuild.{underRoot, recodedStrings}
 use Rattle.party.specs.State.{seatOf, Result, nothing, settled, shareHeld, atBit, atFirst, atSecond, happy}
 use Rattle.party.specs.Steps.{packetFor, outboxOf, Taken, missing, found, shareTaken, packetTaken, firstValid, relayOf, heldOf}
-use Rattle.party.specs.Steps.{shareFrom, gathered, rebuilt, resultFound, resultOf}
+use Rattle.party.specs.Steps.{shareFrom, gathered, rebuilt, recoveredBy, resultFound, resultOf}
 use Rattle.party.specs.Strings.{shareStrings}
 use Rattle.party.specs.declared.Party.{Party}
 use Rattle.party.proofs.Kept.{message-bit, message-first, message-second, share-second}
 use Rattle.party.proofs.Ways.{Way, on, off, way}
 use Rattle.party.proofs.Checks.{took, finds, in-relays, gathered-at, gathered-length}
-use Rattle.agreement.specs.Calls.{Call, agreeBit, takeShares, takeRelays, Event, entry, heard, wrote, bitGiven, lengths, checkedIn}
-use Rattle.agreement.specs.Calls.{firstOf, resultAfter, hashed, sentBy}
-use Rattle.agreement.specs.Agreement.{Good, step, OpenedAll, CalledAll, allHashed}
+use Rattle.agreement.specs.Calls.{Call, agreeBit, takeShares, takeRelays, inboxIn, Event, entry, heard, wrote, bitGiven, lengths, checkedIn, recodedIn}
+use Rattle.agreement.specs.Calls.{firstOf, resultAfter, openedAndChecked, recoded, sentBy}
+use Rattle.agreement.specs.Agreement.{Good, step, OpenedAll, CalledAll, allOpenedAndChecked}
 use Rattle.agreement.proofs.Ran.{Ran, ran-none, ran-through, bit-given, bit-small}
 use Rattle.agreement.proofs.Lists.{lengths-none, in-join}
 use Rattle.agreement.proofs.Needed.{glad, relayFrom, Needs, coding, check, Needed}
@@ -51,7 +52,7 @@ module _ (H : List ℕ → List ℕ) (n t i : ℕ) (m : List ℕ) (calls : List 
     pub result : Result
     pub ends : resultAfter H n t i m calls ≡ some result
     pub sends : sentBy H n t i m calls ≡ lengths (bodies n (wrote (done 3))) + (n - 1) * length (wrote (done 4))
-    pub hashes : (s : List ℕ) → Needs H n t i m calls z s → List·Memᴰ s (hashed H n t i m calls)
+    pub hashes : (s : List ℕ) → Needs H n t i m calls z s → List·Memᴰ s (openedAndChecked H n t i m calls)
     -- happy
     pub outbox : glad H n t m z ≡ true → bodies n (wrote (done 3)) ≡ packetsWith H n t i m
     pub relay : glad H n t m z ≡ true → wrote (done 4) ≡ relayWith H n t i m
@@ -61,7 +62,12 @@ module _ (H : List ℕ → List ℕ) (n t i : ℕ) (m : List ℕ) (calls : List 
     pub relays : glad H n t m z ≡ false → (j : ℕ) → 1 ≤ j → j ≤ n → j ≢ i → (x : List ℕ) (p : List (List ℕ))
         → classOf H n i z (heard n j (done 4)) ≡ valid x p
         → (y : List ℕ) × (q : List (List ℕ)) × (classOf H n i z (wrote (done 4)) ≡ valid y q)
-    pub rebuilds : glad H n t m z ≡ false → result ≡ rebuilt (recovered (n - t) (present 1 sharesIn))
+    pub rebuilds : glad H n t m z ≡ false → result ≡ rebuilt (underRoot H n t z (recovered (n - t) (present 1 sharesIn)))
+    pub recodes : glad H n t m z ≡ false → (s : List ℕ) → List·Memᴰ s (recodedStrings H n t (recovered (n - t) (present 1 sharesIn)))
+        → List·Memᴰ s (recoded H n t i m calls)
+    -- what the call that ended it found in its inbox
+    pub ended : glad H n t m z ≡ false → (e : Event) → firstOf H n t i m calls 5 ≡ some e → (e .before .seat ≡ seatOf n t i) × (e .before .root ≡ z)
+        × (recoveredBy H (e .before) (inboxIn (e .call)) ≡ recovered (n - t) (present 1 sharesIn))
 
 module _ (H : List ℕ → List ℕ) (n t i : ℕ) (m z : List ℕ) where
   abbrev X1 : Party
@@ -208,11 +214,20 @@ module _ (H : List ℕ → List ℕ) (n t i : ℕ) (m z : List ℕ) where
           sym (tabulate-getD gs []) ∙ ap (λ (k : ℕ). tabulate k (λ j. getD gs j [])) gs-length
           ∙ tabulate-cong n (λ j. getD gs j []) (λ k. shareFrom (classOf H n (1 + k) z (has (1 + k)))) at
 
-      result-unhappy : resultOf H X3 in5
-          ≡ rebuilt (recovered (n - t) (present 1 (tabulate n (λ k. shareFrom (classOf H n (1 + k) z (has (1 + k)))))))
+      abbrev All : List (List ℕ)
+      All = tabulate n (λ k. shareFrom (classOf H n (1 + k) z (has (1 + k))))
+
+      recovered-is : recoveredBy H X3 in5 ≡ recovered (n - t) (present 1 All)
+      unfolding atSecond
+      recovered-is = ap (λ (l : List (List ℕ)). recovered (n - t) (present 1 l)) gathered-is
+
+      result-unhappy : resultOf H X3 in5 ≡ rebuilt (underRoot H n t z (recovered (n - t) (present 1 All)))
       unfolding resultOf resultFound atSecond
-      result-unhappy =
-          rw (happy-second (heldOf H X2 in4) ∙ u) (ap (λ (l : List (List ℕ)). rebuilt (recovered (n - t) (present 1 l))) gathered-is)
+      result-unhappy = rw (happy-second (heldOf H X2 in4) ∙ u) (ap (λ (a : Recovered). rebuilt (underRoot H n t z a)) recovered-is)
+
+      recoded-is : recodedIn H X3 (takeRelays in5 []) ≡ recodedStrings H n t (recovered (n - t) (present 1 All))
+      unfolding recodedIn atSecond
+      recoded-is = rw (happy-second (heldOf H X2 in4) ∙ u) (ap (recodedStrings H n t) recovered-is)
 
       heard-strings : (j : ℕ) → j ≢ i → (x : List ℕ) (p : List (List ℕ)) → classOf H n j z (entry n j in5) ≡ valid x p → (s : List ℕ)
           → List·Memᴰ s (classStrings H n j (entry n j in5)) → List·Memᴰ s (checkedIn H X3 (takeRelays in5 []))
@@ -230,17 +245,23 @@ module _ (H : List ℕ → List ℕ) (n t i : ℕ) (m z : List ℕ) where
     has-is : (j : ℕ) → relayFrom H n t i m calls j ≡ cond (eqb j i) (relayOf H X2 (r .in4)) (entry n j (r .in5))
     has-is j = rw (r .relayed, r .heard5 j)
 
-    hashes : (s : List ℕ) → Needs H n t i m calls z s → List·Memᴰ s (hashed H n t i m calls)
+    hashes : (s : List ℕ) → Needs H n t i m calls z s → List·Memᴰ s (openedAndChecked H n t i m calls)
     hashes s (coding e h) = r .in-tree s h
     hashes s (check u j x p v h) = go (way (eqb j i))
       where
-        go : Way (eqb j i) → List·Memᴰ s (hashed H n t i m calls)
+        go : Way (eqb j i) → List·Memᴰ s (openedAndChecked H n t i m calls)
         go (on e) = r .in-first s (relay-strings u (r .in4) s (rw (e, eqb-true j i e, r .relayed) at h))
         go (off e) =
             r .in-second s
             (heard-strings u (r .in4) (r .in5) j (eqb-false j i e) x p (rw (e, r .heard5 j) at v) s (rw (e, r .heard5 j) at h))
 
-    conduct : Conduct H n t i m calls z
+    -- the shares in the relays that pass
+    shares-is : tabulate n (λ k. shareFrom (classOf H n (1 + k) z (cond (eqb (1 + k) i) (relayOf H X2 (r .in4)) (entry n (1 + k) (r .in5)))))
+        ≡ sharesIn H n t i m calls z
+    shares-is = tabulate-cong n _ _ (λ k l. ap (λ (w : List ℕ). shareFrom (classOf H n (1 + k) z w)) (sym (has-is (1 + k))))
+
+    pub conduct : Conduct H n t i m calls z
+    unfolding atSecond
     conduct =
         record {
           result = resultOf H (atSecond (seatOf n t i) m z (heldOf H X2 (r .in4))) (r .in5);
@@ -253,8 +274,15 @@ module _ (H : List ℕ → List ℕ) (n t i : ℕ) (m z : List ℕ) where
           quiet = λ u. ap (bodies n) (r .packets) ∙ out-unhappy u;
           relays = λ u j first last d x p v. rw (r .relayed) (relays-one u (r .in4) j first last d x p (rw (r .heard4 j) at v));
           rebuilds = λ u. result-unhappy u (r .in4) (r .in5)
-              ∙ ap (λ (l : List (List ℕ)). rebuilt (recovered (n - t) (present 1 l)))
-              (tabulate-cong n _ _ (λ k l. ap (λ (w : List ℕ). shareFrom (classOf H n (1 + k) z w)) (sym (has-is (1 + k)))));
+              ∙ ap (λ (l : List (List ℕ)). rebuilt (underRoot H n t z (recovered (n - t) (present 1 l)))) shares-is;
+          recodes = λ u s h. r .in-again s (subst (List·Memᴰ s) (sym (recoded-is u (r .in4) (r .in5)
+              ∙ ap (λ (l : List (List ℕ)). recodedStrings H n t (recovered (n - t) (present 1 l))) shares-is)) h);
+          ended = λ u e f. let k = r .ended e f in (
+            ap (λ (x : Party). x .seat) (k .0),
+            ap (λ (x : Party). x .root) (k .0),
+            ap₂ (recoveredBy H) (k .0) (k .1) ∙ recovered-is u (r .in4) (r .in5)
+                ∙ ap (λ (l : List (List ℕ)). recovered (n - t) (present 1 l)) shares-is,
+          );
         }
 
 -- every good party, by its number, message and calls
@@ -297,7 +325,7 @@ module _ (H : List ℕ → List ℕ) (n t : ℕ) (good : List Good) (z : List �
 
 -- what is needed was hashed
 pub needed-hashed : (H : List ℕ → List ℕ) (n t : ℕ) (good : List Good) (z : List ℕ) (bit : ℕ) → OpenedAll H n t good
-    → CalledAll H n t good z bit → bit ≡ 1 → (s : List ℕ) → Needed H n t good z s → List·Memᴰ s (allHashed H n t good)
+    → CalledAll H n t good z bit → bit ≡ 1 → (s : List ℕ) → Needed H n t good z s → List·Memᴰ s (allOpenedAndChecked H n t good)
 needed-hashed H n t good z bit opened called b1 s k =
-    in-join (λ (A : Good). hashed H n t (A .own) (A .message) (A .calls)) (k .1)
+    in-join (λ (A : Good). openedAndChecked H n t (A .own) (A .message) (A .calls)) (k .1)
     (conducts H n t good z bit opened called (k .0) (k .1) b1 .hashes s (k .2))

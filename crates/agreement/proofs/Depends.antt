@@ -1,5 +1,6 @@
--- No string more: what a call gives back depends on the hash only at the strings of the state's own message and of the path checks that
--- `Calls.checkedIn` lists; two hashes that agree on these give the same reply. By the same law of the tree, the path and the check. Assumes nothing.
+-- No string more: what a call gives back depends on the hash only at the strings of the state's own message, of the path checks that `Calls.checkedIn`
+-- lists and of the second coding that `Calls.recodedIn` lists; two hashes that agree on these give the same reply. By the same law of the tree, the path and
+-- the check. Assumes nothing.
 use mathlib.Core.Path.{_≡_, refl, sym, ap, ap₂, _∙_}
 use mathlib.Core.Bool.{Bool, false, cond, not, _&&_}
 use mathlib.Core.List.{List, [], _∷_, _++_, Memᴰ·append-left, Memᴰ·append-right}
@@ -12,7 +13,7 @@ use lib.ListN.{length, take, replicate}
 use Rattle.buffer.specs.Entries.{bodies}
 use Rattle.buffer.proofs.Tabulate.{tabulate-cong}
 use Rattle.erasure.specs.Coding.{share, shares}
-use Rattle.erasure.specs.Rebuild.{present, recovered}
+use Rattle.erasure.specs.Rebuild.{Recovered, cause, message, present, recovered}
 use Rattle.merkle.specs.Shares.{leavesOf, sidesOf, pathOf, same, passes, codingStrings, stringsOf}
 use Rattle.merkle.proofs.Judged.{passes-same, passes-miscount}
 use Rattle.merkle.proofs.Depends.{Agree}
@@ -22,16 +23,18 @@ use Rattle.packet.specs.Format.{Reading, silence, unreadable, shared, packetOf,
 use Rattle.packet.specs.Inbox.{inboxOf}
 use Rattle.packet.specs.Class.{Class, silent, faulty, valid, judged, classOf, checkedStrings, classStrings}
 use Rattle.party.specs.State.{Result, nothing, messageIn, shareHeld, atBit, atFirst, atSecond, atEnd, resultIn, hasEnded, messageRoot, happy}
-use Rattle.party.specs.Steps.{packetFor, outboxOf, firstValid, takenBy, shareTaken, packetTaken, ownRelay, relayOf, heldOf, shareFrom, gathered, rebuilt, resultFound, heldOr, resultOf}
+use Rattle.party.specs.Steps.{packetFor, outboxOf, firstValid, takenBy, shareTaken, packetTaken, ownRelay, relayOf, heldOf, shareFrom, gathered, rebuilt, recoveredBy, resultFound, heldOr, resultOf}
 use Rattle.party.specs.Steps.{rootCause, withRoot, Stepped, gives, agreeRootOf, bitCause, refused, writes, agreeBitOf, inboxCause, relaysCause, takeSharesOf, ending, takeRelaysOf}
 use Rattle.party.specs.Strings.{unlessValid, shareStrings, relayStrings}
 use Rattle.party.specs.declared.Party.{Party}
 use Rattle.party.specs.declared.Answer.the-variants as answer
-use Rattle.agreement.specs.Calls.{Call, agreeRoot, agreeBit, takeShares, takeRelays, made, checkedIn}
+use Rattle.agreement.specs.Calls.{Call, agreeRoot, agreeBit, takeShares, takeRelays, made, checkedIn, recodedIn, hashedIn}
 use Rattle.party.proofs.Ways.{Way, on, off, way}
 use Rattle.party.proofs.Kept.{message-bit}
 use Rattle.party.proofs.Outcomes.{holds-not}
+use Rattle.commitment.specs.Rebuild.{underRoot, recodedStrings}
 use Rattle.commitment.specs.Private.{Coded}
+use Rattle.commitment.proofs.Rebuild.{Short, short-recovered}
 use Rattle.commitment.proofs.Messages.{fine}
 
 module _ (H K : List ℕ → List ℕ) where
@@ -40,6 +43,12 @@ module _ (H K : List ℕ → List ℕ) where
 
   agree-right : (xs ys : List (List ℕ)) → Agree H K (xs ++ ys) → Agree H K ys
   agree-right xs ys f x h = f x (Memᴰ·append-right xs h)
+
+  checks-agree : (x : Party) (call : Call) → Agree H K (hashedIn H x call) → Agree H K (checkedIn H x call)
+  checks-agree x call f = agree-left (checkedIn H x call) (recodedIn H x call) f
+
+  recoding-agree : (x : Party) (call : Call) → Agree H K (hashedIn H x call) → Agree H K (recodedIn H x call)
+  recoding-agree x call f = agree-right (checkedIn H x call) (recodedIn H x call) f
 
   -- a packet's class, by the strings of its check
   passes-depends : (n j : ℕ) (z x : List ℕ) (p : List (List ℕ)) → Agree H K (stringsOf H n j x p (length p))
@@ -124,6 +133,14 @@ module _ (H K : List ℕ → List ℕ) where
         path-hashed H wide n (shares n (n - t) m) (fine n t m c) j first last K tree
         ∙ sym (tree-path K n (shares n (n - t) m) (fine n t m c) (c .low) (c .high) j first last)
 
+  -- whether what was rebuilt has a root, by the strings of its second coding
+  under-depends : ((x : List ℕ) → length (H x) ≡ 32) → (n t : ℕ) (z m : List ℕ) → Coded n t m → (a : Recovered) → Short a
+      → Agree H K (recodedStrings H n t a) → underRoot H n t z a ≡ underRoot K n t z a
+  under-depends wide n t z m c (cause k) s f = refl
+  under-depends wide n t z m c (message o) s f =
+      ap (λ (r : List ℕ). cond (same r z) (message o) (cause 15))
+      (root-depends wide n t o (record { low = c .low; high = c .high; faults = c .faults; short = s }) f)
+
   -- so all that a state's own message gives
   module _ (wide : (x : List ℕ) → length (H x) ≡ 32) (x : Party) (c : Coded (x .seat .n) (x .seat .t) (messageIn x)) (own : 1 ≤ x .seat .own) (last : x .seat .own ≤ x .seat .n)
       (tree : Agree H K (codingStrings H (x .seat .n) (shares (x .seat .n) (x .seat .n - x .seat .t) (messageIn x)))) where
@@ -154,7 +171,7 @@ module _ (H K : List ℕ → List ℕ) where
       Shares = Agree H K (checkedIn H x (takeShares inbox out))
 
       abbrev Relays : Type 0
-      Relays = Agree H K (checkedIn H x (takeRelays inbox out))
+      Relays = Agree H K (hashedIn H x (takeRelays inbox out))
 
       taken-depends : happy H x ≡ false → Shares → takenBy H x inbox ≡ takenBy K x inbox
       unfolding checkedIn
@@ -177,15 +194,19 @@ module _ (H K : List ℕ → List ℕ) where
           go (off e) = rw (e, sym happy-depends ∙ e) (ap shareTaken (taken-depends e f))
 
       found-depends : hasEnded (x .stage) ≡ false → Relays → resultFound H x inbox ≡ resultFound K x inbox
-      unfolding resultFound checkedIn
+      unfolding resultFound checkedIn recodedIn
       found-depends w f = go (way (happy H x))
         where
           go : Way (happy H x) → resultFound H x inbox ≡ resultFound K x inbox
           go (on e) = rw (e, sym happy-depends ∙ e)
           go (off e) =
+              let g = checks-agree x (takeRelays inbox out) f in
+              let h = recoding-agree x (takeRelays inbox out) f in
               rw (e, sym happy-depends ∙ e)
-              (ap (λ (gs : List (List ℕ)). rebuilt (recovered (x .seat .n - x .seat .t) (present 1 gs)))
-              (gathered-depends x 1 (bodies (x .seat .n) inbox) (rw (w, e) at f)))
+              (ap rebuilt (under-depends wide (x .seat .n) (x .seat .t) (x .root) (messageIn x) c (recoveredBy H x inbox)
+              (short-recovered (x .seat .n - x .seat .t) _) (rw (w, e) at h)
+              ∙ ap (λ (gs : List (List ℕ)). underRoot K (x .seat .n) (x .seat .t) (x .root) (recovered (x .seat .n - x .seat .t) (present 1 gs)))
+              (gathered-depends x 1 (bodies (x .seat .n) inbox) (rw (w, e) at g))))
 
       pub result-depends : Relays → resultOf H x inbox ≡ resultOf K x inbox
       unfolding resultOf
@@ -204,7 +225,7 @@ module _ (H K : List ℕ → List ℕ) where
         ∙ sym (ap (λ (m : List ℕ). same (messageRoot K (x .seat .n) (x .seat .t) m) z) (message-bit (x .seat) (messageIn x) z))
 
     -- the whole reply
-    pub made-depends : (call : Call) → Agree H K (checkedIn H x call) → made H x call ≡ made K x call
+    pub made-depends : (call : Call) → Agree H K (hashedIn H x call) → made H x call ≡ made K x call
     unfolding made agreeRootOf agreeBitOf takeSharesOf takeRelaysOf
     made-depends (agreeRoot z) f =
         ap {B = Stepped} (λ (b : Bool). cond (not (eqb (rootCause x z) 0)) (refused x (rootCause x z) [])
@@ -215,7 +236,7 @@ module _ (H K : List ℕ → List ℕ) where
     made-depends (takeShares inbox out) f =
         ap₂ {C = Stepped} (λ (held bs : List ℕ). cond (not (eqb (inboxCause 4 x inbox) 0)) (refused x (inboxCause 4 x inbox) out)
         (writes x (atSecond (x .seat) (messageIn x) (x .root) held) bs out))
-        (held-depends inbox out f) (relay-depends inbox out f)
+        (held-depends inbox out (checks-agree x (takeShares inbox out) f)) (relay-depends inbox out (checks-agree x (takeShares inbox out) f))
     made-depends (takeRelays inbox out) f =
         ap {B = Stepped} (λ (w : Result). cond (not (eqb (relaysCause x inbox) 0)) (refused x (relaysCause x inbox) out) (ending x w out))
         (result-depends inbox out f)

@@ -39,8 +39,8 @@ use Rattle.party.specs.declared.Party.{Party}
 use Rattle.party.specs.Strings.{shareStrings, relayStrings}
 use Rattle.party.proofs.Ways.{Way, on, off, way, clash}
 use Rattle.agreement.specs.Calls.{Call, agreeRoot, agreeBit, takeShares, takeRelays, Event, accepted, first, entry, lengths, sentOver, made, events, final}
-use Rattle.agreement.specs.Calls.{checkedIn, checkedOver, did, hashed, sentBy, heard, packetTo, wrote, opening, resultAfter}
-use Rattle.agreement.specs.Agreement.{Good, among, different, absent, sumOver, joinOver, step, allHashed, Premises, sent, Conclusions}
+use Rattle.agreement.specs.Calls.{stringsOver, checkedIn, recodedIn, did, openedAndChecked, recoded, hashed, sentBy, heard, packetTo, wrote, opening, resultAfter}
+use Rattle.agreement.specs.Agreement.{Good, among, different, absent, sumOver, joinOver, step, allOpenedAndChecked, Premises, sent, Conclusions}
 use Rattle.agreement.proofs.Lists.{same-some}
 use Rattle.agreement.proofs.Agreement.{agreement}
 
@@ -276,17 +276,19 @@ pub record Computed : Type 0 where
   -- the bytes sent in the two plans
   pub same-books-sent : sent toy 3 1 same-books ≡ 496
   pub two-books-sent : sent toy 3 1 two-books ≡ 388
-  -- in the second, party 1 hashes the five strings of its message's tree; party 2 those of its own, and three in each exchange
+  -- in the second, party 1, which is happy, hashes the five strings of its message's tree and no others; party 2 those of its own, three in each exchange, and
+  -- the five of the message that it rebuilt and coded again
   pub first-hashes : length (hashed toy 3 1 1 (0x41 ∷ []) calls1) ≡ 5
-  pub second-hashes : length (hashed toy 3 1 2 (0x42 ∷ []) calls2) ≡ 5 + 3 + 3
+  pub second-hashes : length (hashed toy 3 1 2 (0x42 ∷ []) calls2) ≡ 5 + 3 + 3 + 5
   -- refused calls hash nothing: of the first session party 2 hashes the five strings of its own message's tree, three of the share that it took, three of the
-  -- forged relay and two of party 3's, though it was handed its inboxes again and again and its result was read again
-  pub refused-unhashed : length (hashed toy 3 1 2 (0x43 ∷ []) (P2 .calls)) ≡ 5 + 3 + 3 + 2
+  -- forged relay and two of party 3's, and the five of the message that it coded again once, though it was handed its inboxes again and again and its result was
+  -- read again
+  pub refused-unhashed : length (hashed toy 3 1 2 (0x43 ∷ []) (P2 .calls)) ≡ 5 + 3 + 3 + 2 + 5
   pub idle-unhashed : length (hashed toy 3 1 2 (0x43 ∷ []) (Q2 .calls)) ≡ 5
   pub second-ends : resultAfter toy 3 1 2 (0x42 ∷ []) calls2 ≡ some (settled (0x41 ∷ []))
 
 pub computed : Computed
-unfolding size body rest fills bodies spliced tabulate parties numbered groupCause timesX productOf product power inverse sum pow value factor unit numerator denominator basis through shareLength headed frame block shareByte shareOf share shares present point framed other unframed joined recovered splitFrom split shapeOf shape leaves nodeString sides beside root path folded treeStrings foldStrings checkStrings topHash pathHashes leafString leafStrings sharesCause same leavesOf rootOf pathOf passes codingStrings stringsOf chained hashes packetOf entryOf shareIn readOf inboxOf classOf classStrings atRoot atBit atFirst atSecond atEnd blankState broken messageRoot happy stateCause openCause openOf rootCause agreeRootOf packetFor bitCause outboxOf agreeBitOf inboxCause firstValid relayOf heldOf takeSharesOf gathered resultFound resultOf relaysCause takeRelaysOf accepted first entry lengths sentOver made events final shareStrings relayStrings checkedIn checkedOver did hashed sentBy among different absent sumOver joinOver clean cleanOf there mix digest
+unfolding size body rest fills bodies spliced tabulate parties numbered groupCause timesX productOf product power inverse sum pow value factor unit numerator denominator basis through shareLength headed frame block shareByte shareOf share shares present point framed other unframed joined recovered splitFrom split shapeOf shape leaves nodeString sides beside root path folded treeStrings foldStrings checkStrings topHash pathHashes leafString leafStrings sharesCause same leavesOf rootOf pathOf passes codingStrings stringsOf chained hashes packetOf entryOf shareIn readOf inboxOf classOf classStrings atRoot atBit atFirst atSecond atEnd blankState broken messageRoot happy stateCause openCause openOf rootCause agreeRootOf packetFor bitCause outboxOf agreeBitOf inboxCause firstValid relayOf heldOf takeSharesOf gathered resultFound resultOf relaysCause takeRelaysOf accepted first entry lengths sentOver made events final shareStrings relayStrings checkedIn stringsOver recodedIn did openedAndChecked recoded sentBy among different absent sumOver joinOver clean cleanOf there mix digest
 computed = record {
   premises = record {
     opened = record {
@@ -313,7 +315,7 @@ computed = record {
       secondInbox = each P2 P3 (λ A. (B : Good) → List·Memᴰ B good → Relay A B)
           (each P2 P3 (Relay P2) (λ d. absurd (d refl)) (λ d. refl)) (each P2 P3 (Relay P3) (λ d. refl) (λ d. absurd (d refl)));
     };
-    clean = λ x y h k e. clean-sound x y (allHashed toy 3 1 good) (allHashed toy 3 1 good) refl h k e;
+    clean = λ x y h k e. clean-sound x y (allOpenedAndChecked toy 3 1 good) (allOpenedAndChecked toy 3 1 good) refl h k e;
   };
   idle-premises = record {
     opened = record {
@@ -335,7 +337,7 @@ computed = record {
       vote = λ v f. same-some (f Q2 (List·Memᴰ·head refl));
     };
     delivered = λ e. absurd (zero-one e);
-    clean = λ x y h k e. clean-sound x y (allHashed toy 3 1 idle) (allHashed toy 3 1 idle) refl h k e;
+    clean = λ x y h k e. clean-sound x y (allOpenedAndChecked toy 3 1 idle) (allOpenedAndChecked toy 3 1 idle) refl h k e;
   };
   good-share = refl;
   bad-share = refl;

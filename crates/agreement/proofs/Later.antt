@@ -1,7 +1,7 @@
 -- What a party's later calls can and cannot change. Every accepted step 5 gave the result that the state holds after the list; and once it holds one,
 -- whatever the party is called with, its result stays, no byte is sent and no string is hashed. By the laws of lists and of an ended party's calls.
 -- Assumes nothing.
-use mathlib.Core.Path.{_≡_, refl, sym, ap, _∙_}
+use mathlib.Core.Path.{_≡_, refl, sym, ap, ap₂, _∙_}
 use mathlib.Core.List.{List, [], _∷_, _++_, append-nil, append-assoc, List·Memᴰ}
 use mathlib.Core.Option.{some}
 use Prim.Native.Nat.{ℕ, _+_, _-_}
@@ -12,8 +12,8 @@ use Rattle.merkle.specs.Shares.{codingStrings}
 use Rattle.party.specs.State.{Result, resultIn}
 use Rattle.party.specs.declared.Party.{Party}
 use Rattle.party.proofs.Ways.{Way, on, off, way}
-use Rattle.agreement.specs.Calls.{Call, stepOf, Event, accepted, writtenBy, sentIn, sentOver, made, events, final, checkedIn, checkedOver}
-use Rattle.agreement.specs.Calls.{opening, did, resultAfter, hashed, sentBy}
+use Rattle.agreement.specs.Calls.{Call, stepOf, Event, accepted, writtenBy, sentIn, sentOver, made, stringsOver, events, final, checkedIn, checkedOver, recodedIn, recodedOver}
+use Rattle.agreement.specs.Calls.{opening, did, resultAfter, openedAndChecked, recoded, hashed, sentBy}
 use Rattle.agreement.proofs.Run.{event, chain, Still, still, gave-held}
 
 accepted-both : (es fs : List Event) → accepted (es ++ fs) ≡ accepted es ++ accepted fs
@@ -32,14 +32,14 @@ sent-both n [] fs = omega arith
 sent-both n (e ∷ es) fs =
     ap (λ (k : ℕ). sentIn n (e .call) (writtenBy e) + k) (sent-both n es fs) ∙ omega arith
 
-module _ (H : List ℕ → List ℕ) where
-  checked-both : (es fs : List Event) → checkedOver H (es ++ fs) ≡ checkedOver H es ++ checkedOver H fs
-  unfolding checkedOver
-  checked-both [] fs = refl
-  checked-both (e ∷ es) fs =
-      ap (λ (l : List (List ℕ)). checkedIn H (e .before) (e .call) ++ l) (checked-both es fs)
-      ∙ sym (append-assoc (checkedIn H (e .before) (e .call)) (checkedOver H es) (checkedOver H fs))
+strings-both : (of : Party → Call → List (List ℕ)) (es fs : List Event) → stringsOver of (es ++ fs) ≡ stringsOver of es ++ stringsOver of fs
+unfolding stringsOver
+strings-both of [] fs = refl
+strings-both of (e ∷ es) fs =
+    ap (λ (l : List (List ℕ)). of (e .before) (e .call) ++ l) (strings-both of es fs)
+    ∙ sym (append-assoc (of (e .before) (e .call)) (stringsOver of es) (stringsOver of fs))
 
+module _ (H : List ℕ → List ℕ) where
   final-both : (x : Party) (cs ds : List Call) → final H x (cs ++ ds) ≡ final H (final H x cs) ds
   unfolding final
   final-both x [] ds = refl
@@ -84,10 +84,20 @@ module _ (H : List ℕ → List ℕ) where
       later-sent =
           ap (sentOver n) (did-both n t i m calls more) ∙ sent-both n (did H n t i m calls) rest ∙ omega (arith, stays .1)
 
-      pub later-hashed : hashed H n t i m (calls ++ more) ≡ hashed H n t i m calls
-      unfolding hashed
-      later-hashed =
+      pub later-checked : openedAndChecked H n t i m (calls ++ more) ≡ openedAndChecked H n t i m calls
+      unfolding openedAndChecked
+      later-checked =
           ap (λ (l : List (List ℕ)). codingStrings H n (shares n (n - t) m) ++ l)
-          (ap (checkedOver H) (did-both n t i m calls more) ∙ checked-both (did H n t i m calls) rest
+          (ap (checkedOver H) (did-both n t i m calls more) ∙ strings-both (checkedIn H) (did H n t i m calls) rest
           ∙ ap (λ (l : List (List ℕ)). checkedOver H (did H n t i m calls) ++ l) (stays .2)
           ∙ append-nil (checkedOver H (did H n t i m calls)))
+
+      later-recoded : recoded H n t i m (calls ++ more) ≡ recoded H n t i m calls
+      unfolding recoded
+      later-recoded =
+          ap (recodedOver H) (did-both n t i m calls more) ∙ strings-both (recodedIn H) (did H n t i m calls) rest
+          ∙ ap (λ (l : List (List ℕ)). recodedOver H (did H n t i m calls) ++ l) (stays .3)
+          ∙ append-nil (recodedOver H (did H n t i m calls))
+
+      pub later-hashed : hashed H n t i m (calls ++ more) ≡ hashed H n t i m calls
+      later-hashed = ap₂ (λ (k l : List (List ℕ)). k ++ l) later-checked later-recoded

@@ -25,9 +25,10 @@ use Rattle.party.specs.declared.Answer.the-variants as answer
 use Rattle.party.proofs.Kept.{take-padded, result-end}
 use Rattle.party.proofs.Outcomes.{open-given, open-refused}
 use Rattle.party.proofs.Ways.{Way, on, off, way}
-use Rattle.agreement.specs.Calls.{Call, agreeRoot, agreeBit, takeShares, takeRelays, stepOf, Event, accepted, first, entry, heard, wrote}
-use Rattle.agreement.specs.Calls.{bitGiven, lengths, sentOver, events, final, checkedIn, checkedOver}
-use Rattle.agreement.specs.Calls.{opening, did, firstOf, resultAfter, hashed, sentBy}
+use Rattle.agreement.specs.Calls.{Call, agreeRoot, agreeBit, takeShares, takeRelays, stepOf, inboxIn, Event, accepted, first, entry, heard, wrote}
+use Rattle.agreement.specs.Calls.{bitGiven, lengths, sentOver, events, final, stringsOver, checkedIn, checkedOver, recodedIn, recodedOver}
+use Rattle.agreement.specs.Calls.{opening, did, firstOf, resultAfter, openedAndChecked, recoded, sentBy}
+use Rattle.agreement.proofs.Lists.{same-some}
 use Rattle.agreement.proofs.Run.{made2, made3, made4, endedWith, did2, did3, did4, did5, in-turn, event, Chain, chain, next, Still, still}
 
 -- an accepted opening
@@ -203,12 +204,18 @@ pub record Ran (H : List ℕ → List ℕ) (n t i : ℕ) (m : List ℕ) (calls :
   pub packets : wrote (firstOf H n t i m calls 3) ≡ outboxOf H (atBit (seatOf n t i) m z) 1
   pub relayed : wrote (firstOf H n t i m calls 4) ≡ relayOf H (atFirst (seatOf n t i) m z) in4
   pub ends : resultAfter H n t i m calls ≡ some (resultOf H (atSecond (seatOf n t i) m z (heldOf H (atFirst (seatOf n t i) m z) in4)) in5)
-  pub in-tree : (s : List ℕ) → List·Memᴰ s (codingStrings H n (shares n (n - t) m)) → List·Memᴰ s (hashed H n t i m calls)
+  pub in-tree : (s : List ℕ) → List·Memᴰ s (codingStrings H n (shares n (n - t) m)) → List·Memᴰ s (openedAndChecked H n t i m calls)
   pub in-first : (s : List ℕ) → List·Memᴰ s (checkedIn H (atFirst (seatOf n t i) m z) (takeShares in4 []))
-      → List·Memᴰ s (hashed H n t i m calls)
+      → List·Memᴰ s (openedAndChecked H n t i m calls)
   pub in-second : (s : List ℕ)
       → List·Memᴰ s (checkedIn H (atSecond (seatOf n t i) m z (heldOf H (atFirst (seatOf n t i) m z) in4)) (takeRelays in5 []))
-      → List·Memᴰ s (hashed H n t i m calls)
+      → List·Memᴰ s (openedAndChecked H n t i m calls)
+  pub in-again : (s : List ℕ)
+      → List·Memᴰ s (recodedIn H (atSecond (seatOf n t i) m z (heldOf H (atFirst (seatOf n t i) m z) in4)) (takeRelays in5 []))
+      → List·Memᴰ s (recoded H n t i m calls)
+  -- the call that ended it
+  pub ended : (e : Event) → firstOf H n t i m calls 5 ≡ some e
+      → (e .before ≡ atSecond (seatOf n t i) m z (heldOf H (atFirst (seatOf n t i) m z) in4)) × (inboxIn (e .call) ≡ in5)
   pub sends : sentBy H n t i m calls
       ≡ lengths (bodies n (outboxOf H (atBit (seatOf n t i) m z) 1)) + (n - 1) * length (relayOf H (atFirst (seatOf n t i) m z) in4)
 
@@ -282,14 +289,14 @@ module _ (H : List ℕ → List ℕ) (n t i : ℕ) (m : List ℕ) (calls : List 
     unfolding first
     is-5 = rw all-did
 
-    checked-in : (s : List ℕ) → List·Memᴰ s (checkedOver H (fourth ∷ fifth ∷ q .rest)) → List·Memᴰ s (hashed H n t i m calls)
-    unfolding hashed checkedOver checkedIn
+    checked-in : (s : List ℕ) → List·Memᴰ s (checkedOver H (fourth ∷ fifth ∷ q .rest)) → List·Memᴰ s (openedAndChecked H n t i m calls)
+    unfolding openedAndChecked stringsOver checkedIn
     checked-in s h =
         Memᴰ·append-right (codingStrings H n (shares n (n - t) m))
         (subst (λ (l : List Event). List·Memᴰ s (checkedOver H l)) (sym all-did) h)
 
     ran : Ran H n t i m calls z
-    unfolding hashed checkedOver checkedIn sentBy sentOver
+    unfolding openedAndChecked stringsOver checkedIn recoded recodedIn sentBy sentOver
     ran =
         record {
           in4 = q .in4;
@@ -303,6 +310,9 @@ module _ (H : List ℕ → List ℕ) (n t i : ℕ) (m : List ℕ) (calls : List 
           in-first = λ s h. checked-in s (Memᴰ·append-left (checkedOver H (fifth ∷ q .rest)) h);
           in-second = λ s h. checked-in s (Memᴰ·append-right (checkedIn H (atFirst (seatOf n t i) m z) (takeShares (q .in4) []))
               (Memᴰ·append-left (checkedOver H (q .rest)) h));
+          in-again = λ s h. subst (λ (l : List Event). List·Memᴰ s (recodedOver H l)) (sym all-did) (Memᴰ·append-left (recodedOver H (q .rest)) h);
+          ended = λ e f. let k : fifth ≡ e = same-some (sym is-5 ∙ f) in
+              (ap (λ (v : Event). v .before) (sym k), ap (λ (v : Event). inboxIn (v .call)) (sym k));
           sends = rw (
             all-did,
             q .last .1,

@@ -1,9 +1,9 @@
 -- The accepted calls of a party, one after the other: a refused call keeps the state, an accepted one is the step that is in turn and gives what
--- its definition says, and once the party has ended its result is kept by every call and nothing more is sent or checked. By the tests of the
+-- its definition says, and once the party has ended its result is kept by every call and nothing more is sent or hashed. By the tests of the
 -- steps, and by inductions over the list of calls. Assumes nothing.
 use mathlib.Core.Path.{_≡_, refl, sym, ap, _∙_, subst}
 use mathlib.Core.Logic.{_⊎_, inl, inr, _≢_}
-use mathlib.Core.Bool.{true, cond, not}
+use mathlib.Core.Bool.{true, false, cond, not}
 use mathlib.Core.List.{List, [], _∷_, List·Memᴰ, List·Memᴰ·not-nil, List·Memᴰ·cases-cons}
 use mathlib.Core.Option.{Option, some, Option·none-ne-some}
 use Prim.Native.Nat.{ℕ, _≤_}
@@ -13,7 +13,7 @@ use lib.Dec.{eqb, ltb}
 use lib.ListN.{length}
 use Rattle.buffer.specs.Splice.{spliced}
 use Rattle.buffer.proofs.Splice.{take-spliced}
-use Rattle.party.specs.State.{Result, nothing, settled, resultBytes, messageIn, atFirst, atSecond, atEnd, resultIn, happy}
+use Rattle.party.specs.State.{Result, nothing, settled, resultBytes, messageIn, atFirst, atSecond, atEnd, resultIn, broken, happy}
 use Rattle.party.specs.Steps.{turnOf, stateCause, rootCause, withRoot, Stepped, gives, refused, writes, bitCause, outboxOf}
 use Rattle.party.specs.Steps.{agreeBitOf, inboxCause, relaysCause, relayOf, heldOf, takeSharesOf, resultOf, ending, takeRelaysOf}
 use Rattle.party.specs.declared.Party.{Party}
@@ -21,11 +21,12 @@ use Rattle.party.specs.declared.Seat.{Seat}
 use Rattle.party.specs.declared.Answer.{Answer}
 use Rattle.party.specs.declared.Answer.the-variants as answer
 use Rattle.party.proofs.Ways.{Way, on, off, way}
+use Rattle.commitment.proofs.Opening.{cleared, spared}
 use Rattle.party.proofs.Causes.{state-sound, inbox-sound, relays-sound}
 use Rattle.party.proofs.Outcomes.{root-refused, root-given, holds-ended}
 use Rattle.party.proofs.Kept.{result-end}
 use Rattle.agreement.specs.Calls.{Call, agreeRoot, agreeBit, takeShares, takeRelays, stepOf, Event, accepted, first, writtenBy}
-use Rattle.agreement.specs.Calls.{sentIn, sentOver, made, events, final, checkedIn, checkedOver}
+use Rattle.agreement.specs.Calls.{sentIn, sentOver, made, events, final, stringsOver, checkedIn, checkedOver, recodedIn, recodedOver}
 use Rattle.agreement.proofs.Lists.{same-some}
 
 -- a call is taken, or turned away with the state kept
@@ -100,29 +101,16 @@ taken : {A : Type 0} {x : Party} (r : Stepped) → r .cause ≡ 0 → A ⊎ Turn
 taken r e (inl a) = a
 taken r e (inr b) = absurd (b .0 e)
 
--- a step that no cause turns away is in turn
-root-turn : (x : Party) (z : List ℕ) → rootCause x z ≡ 0 → turnOf (x .stage) ≡ 2
+-- a step that no cause turns away is not turned away for its state
+root-state : (x : Party) (z : List ℕ) → rootCause x z ≡ 0 → stateCause 2 x ≡ 0
 unfolding rootCause
-root-turn x z e = go (way (eqb (stateCause 2 x) 0))
-  where
-    go : Way (eqb (stateCause 2 x) 0) → turnOf (x .stage) ≡ 2
-    go (on q) = state-sound 2 x (eqb-true (stateCause 2 x) 0 q) .1
-    go (off q) = absurd (eqb-false (stateCause 2 x) 0 q (rw q at e))
+root-state x z e = cleared (stateCause 2 x) (cond (not (eqb (length z) 32)) 7 0) e .0
 
-bit-turn : (x : Party) (bit : ℕ) → bitCause x bit ≡ 0 → (turnOf (x .stage) ≡ 3) × (bit ≤ 1)
+bit-state : (x : Party) (bit : ℕ) → bitCause x bit ≡ 0 → (stateCause 3 x ≡ 0) × (bit ≤ 1)
 unfolding bitCause
-bit-turn x bit e = go (way (eqb (stateCause 3 x) 0)) (way (ltb 1 bit))
-  where
-    go : Way (eqb (stateCause 3 x) 0) → Way (ltb 1 bit) → (turnOf (x .stage) ≡ 3) × (bit ≤ 1)
-    go (on q) (off r) = (state-sound 3 x (eqb-true (stateCause 3 x) 0 q) .1, ltb-false 1 bit r)
-    go (on q) (on r) = let z : _≡_ {A = ℕ} 7 0 = rw (q, r) at e in absurd (omega arith)
-    go (off q) r = absurd (eqb-false (stateCause 3 x) 0 q (rw q at e))
-
-shares-turn : (x : Party) (inbox : List ℕ) → inboxCause 4 x inbox ≡ 0 → turnOf (x .stage) ≡ 4
-shares-turn x inbox e = state-sound 4 x (inbox-sound 4 x inbox e .0) .1
-
-relays-turn : (x : Party) (inbox : List ℕ) → relaysCause x inbox ≡ 0 → turnOf (x .stage) ≡ 5
-relays-turn x inbox e = state-sound 5 x (relays-sound x inbox e .0) .1
+bit-state x bit e =
+    let h = cleared (stateCause 3 x) (cond (ltb 1 bit) 7 0) e in
+    (h .0, ltb-false 1 bit (spared (ltb 1 bit) 6 0 (h .1) .0))
 
 module _ (H : List ℕ → List ℕ) where
   -- what an accepted call gives, from the state it got
@@ -180,38 +168,44 @@ module _ (H : List ℕ → List ℕ) where
   refused-keeps x (takeRelays inbox out) d =
       keeps (made H x (takeRelays inbox out)) (λ e. ap (λ (r : Stepped). r .cause) (e .1)) d (relays-or x inbox out)
 
-  -- what an accepted call is: in turn, and what it gives
+  -- what an accepted call is: on a state that fits it, and what it gives
   pub did2 : (x : Party) (z : List ℕ) → made H x (agreeRoot z) .cause ≡ 0
-      → (turnOf (x .stage) ≡ 2) × (made H x (agreeRoot z) ≡ made2 x z)
+      → (stateCause 2 x ≡ 0) × (made H x (agreeRoot z) ≡ made2 x z)
   did2 x z a =
       let t = taken (made H x (agreeRoot z)) a (root-or x z) in
-      (root-turn x z (t .0), t .1)
+      (root-state x z (t .0), t .1)
 
   pub did3 : (x : Party) (bit : ℕ) (out : List ℕ) → made H x (agreeBit bit out) .cause ≡ 0
-      → (turnOf (x .stage) ≡ 3) × (bit ≤ 1) × (made H x (agreeBit bit out) ≡ made3 x bit out)
+      → (stateCause 3 x ≡ 0) × (bit ≤ 1) × (made H x (agreeBit bit out) ≡ made3 x bit out)
   did3 x bit out a =
       let t = taken (made H x (agreeBit bit out)) a (bit-or x bit out) in
-      let b = bit-turn x bit (t .0) in
+      let b = bit-state x bit (t .0) in
       (b .0, b .1, t .1)
 
   pub did4 : (x : Party) (inbox out : List ℕ) → made H x (takeShares inbox out) .cause ≡ 0
-      → (turnOf (x .stage) ≡ 4) × (made H x (takeShares inbox out) ≡ made4 x inbox out)
+      → (stateCause 4 x ≡ 0) × (made H x (takeShares inbox out) ≡ made4 x inbox out)
   did4 x inbox out a =
       let t = taken (made H x (takeShares inbox out)) a (shares-or x inbox out) in
-      (shares-turn x inbox (t .0), t .1)
+      (inbox-sound 4 x inbox (t .0) .0, t .1)
 
   pub did5 : (x : Party) (inbox out : List ℕ) → made H x (takeRelays inbox out) .cause ≡ 0
-      → (turnOf (x .stage) ≡ 5) × (made H x (takeRelays inbox out) ≡ endedWith (x .seat) (resultOf H x inbox) out)
+      → (stateCause 5 x ≡ 0) × (made H x (takeRelays inbox out) ≡ endedWith (x .seat) (resultOf H x inbox) out)
   did5 x inbox out a =
       let t = taken (made H x (takeRelays inbox out)) a (relays-or x inbox out) in
-      (relays-turn x inbox (t .0), t .1)
+      (relays-sound x inbox (t .0) .0, t .1)
 
-  -- an accepted call is of the step that the stage waits for
+  fitting : (x : Party) (c : Call) → made H x c .cause ≡ 0 → stateCause (stepOf c) x ≡ 0
+  fitting x (agreeRoot z) a = did2 x z a .0
+  fitting x (agreeBit bit out) a = did3 x bit out a .0
+  fitting x (takeShares inbox out) a = did4 x inbox out a .0
+  fitting x (takeRelays inbox out) a = did5 x inbox out a .0
+
+  -- so the state is whole, and waits for that step
+  pub unbroken : (x : Party) (c : Call) → made H x c .cause ≡ 0 → broken x ≡ false
+  unbroken x c a = state-sound (stepOf c) x (fitting x c a) .0
+
   pub in-turn : (x : Party) (c : Call) → made H x c .cause ≡ 0 → turnOf (x .stage) ≡ stepOf c
-  in-turn x (agreeRoot z) a = did2 x z a .0
-  in-turn x (agreeBit bit out) a = did3 x bit out a .0
-  in-turn x (takeShares inbox out) a = did4 x inbox out a .0
-  in-turn x (takeRelays inbox out) a = did5 x inbox out a .0
+  in-turn x c a = state-sound (stepOf c) x (fitting x c a) .1
 
   abbrev pub event : Party → Call → Event
   event x c = record { before = x; call = c; reply = made H x c }
@@ -257,14 +251,15 @@ module _ (H : List ℕ → List ℕ) where
       let d = did5 x inbox out a .1 in
       (ap (λ (s : Stepped). s .result) d, ap (λ (s : Stepped). resultIn (s .state)) d ∙ result-end (x .seat) (resultOf H x inbox))
 
-  -- an accepted call on a party that holds a result: the state holds it again, and nothing is sent or checked
+  -- an accepted call on a party that holds a result: the state holds it again, and nothing is sent or hashed
   record Again (n : ℕ) (x : Party) (c : Call) (r : Result) : Type 0 where
     holds : resultIn (made H x c .state) ≡ some r
     unsent : (bs : List ℕ) → sentIn n c bs ≡ 0
     unchecked : checkedIn H x c ≡ []
+    uncoded : recodedIn H x c ≡ []
 
   again : (n : ℕ) (x : Party) (c : Call) (r : Result) → resultIn x ≡ some r → made H x c .cause ≡ 0 → Again n x c r
-  unfolding checkedIn resultOf
+  unfolding checkedIn recodedIn resultOf
   again n x (agreeRoot z) r h a = let e = in-turn x (agreeRoot z) a in absurd (omega (arith, e, holds-ended x r h .1))
   again n x (agreeBit bit out) r h a = let e = in-turn x (agreeBit bit out) a in absurd (omega (arith, e, holds-ended x r h .1))
   again n x (takeShares inbox out) r h a = let e = in-turn x (takeShares inbox out) a in absurd (omega (arith, e, holds-ended x r h .1))
@@ -274,24 +269,26 @@ module _ (H : List ℕ → List ℕ) where
         holds = ends x inbox out a .1 ∙ ap {B = Option Result} some same;
         unsent = λ bs. refl;
         unchecked = rw (holds-ended x r h .0);
+        uncoded = rw (holds-ended x r h .0);
       }
 
-  -- once ended, the result is kept by every call, and nothing is sent or checked
+  -- once ended, the result is kept by every call, and nothing is sent or hashed
   abbrev pub Still : ℕ → Result → List Event → Party → Type 0
-  Still n r es fin = (resultIn fin ≡ some r) × (sentOver n es ≡ 0) × (checkedOver H es ≡ [])
+  Still n r es fin = (resultIn fin ≡ some r) × (sentOver n es ≡ 0) × (checkedOver H es ≡ []) × (recodedOver H es ≡ [])
 
   pub still : (n : ℕ) (x fin : Party) (es : List Event) (r : Result) → resultIn x ≡ some r → Chain x es fin → Still n r es fin
-  unfolding sentOver checkedOver
-  still n x fin [] r a h = (ap resultIn h ∙ a, refl, refl)
+  unfolding sentOver stringsOver
+  still n x fin [] r a h = (ap resultIn h ∙ a, refl, refl, refl)
   still n x fin (d ∷ es) r a h =
       let g = again n x (d .call) r a (subst (λ (v : Event). v .reply .cause ≡ 0) (h .0) (h .1)) in
       let kept : resultIn (d .reply .state) ≡ some r = ap (λ (v : Event). resultIn (v .reply .state)) (h .0) ∙ g .holds in
       let none : checkedIn H (d .before) (d .call) ≡ [] = ap (λ (v : Event). checkedIn H (v .before) (d .call)) (h .0) ∙ g .unchecked in
+      let again : recodedIn H (d .before) (d .call) ≡ [] = ap (λ (v : Event). recodedIn H (v .before) (d .call)) (h .0) ∙ g .uncoded in
       let s = still n (d .reply .state) fin es r kept (h .2) in
-      (s .0, rw (g .unsent (writtenBy d), s .1), rw (none, s .2))
+      (s .0, rw (g .unsent (writtenBy d), s .1), rw (none, s .2), rw (again, s .3))
 
   -- so every accepted step 5 gave the result that is held at the end
-  gave : (x : Party) (c : Call) → made H x c .cause ≡ 0 → stepOf c ≡ 5
+  pub gave : (x : Party) (c : Call) → made H x c .cause ≡ 0 → stepOf c ≡ 5
       → (r : Result) × (made H x c .result ≡ some r) × (resultIn (made H x c .state) ≡ some r)
   gave x (agreeRoot z) a e = absurd (omega arith)
   gave x (agreeBit bit out) a e = absurd (omega arith)

@@ -1,24 +1,27 @@
--- What document 02, No. 4, promises: a rebuilt message has the agreed root. Four claims: under the premises of agreement no string is hashed that its
--- premise does not cover already, and no call gives anything else than without the check of the root; and, whoever the others are, a message that a party
--- ends with has the agreed root, and is one that a good party opened with, or two different strings have one hash. The hash is a parameter. Assumes nothing.
+-- What the root's check in step 5 gives (document 02, No. 4), for any hash. Of one party, whoever the others are: a message that it ends with has the root
+-- that it was told was agreed. Of all good parties together, however many are bad, where they are told one root and one bit and the bit is by its rule: none
+-- ends with a message that no good party opened with, unless two strings that they hashed collide; and where no two strings of openings and path checks
+-- collide, no call gives anything else than without the check, and no other string is hashed. Assumes nothing.
 use mathlib.Core.Path.{_≡_}
 use mathlib.Core.Logic.{_⊎_}
-use mathlib.Core.Bool.{cond, not}
+use mathlib.Core.Bool.{false, cond, not}
 use mathlib.Core.List.{List, [], _∷_, List·Memᴰ}
 use mathlib.Core.Option.{some}
-use Prim.Native.Nat.{ℕ}
+use Prim.Native.Nat.{ℕ, _-_}
 use lib.Dec.{eqb}
 use Rattle.buffer.specs.Bounds.{Bytes}
+use Rattle.erasure.specs.Coding.{shares}
 use Rattle.merkle.specs.Strings.{Collision}
-use Rattle.party.specs.State.{Result, nothing, settled, messageIn, resultIn, messageRoot, happy}
+use Rattle.merkle.specs.Shares.{codingStrings}
+use Rattle.party.specs.State.{Result, nothing, settled, messageIn, resultIn, hasEnded, messageRoot, happy}
 use Rattle.party.specs.Steps.{Stepped, refused, recoveredBy, rebuilt, heldOr, relaysCause, ending}
 use Rattle.party.specs.declared.Party.{Party}
-use Rattle.agreement.specs.Calls.{Call, agreeRoot, agreeBit, takeShares, takeRelays, stepOf, inboxIn, Event, bitGiven, made, events}
-use Rattle.agreement.specs.Calls.{opening, did, firstOf, resultAfter}
-use Rattle.agreement.specs.Agreement.{Good, Each, step, Rule, allChecked, allHashed, Premises}
+use Rattle.agreement.specs.Calls.{Call, agreeRoot, agreeBit, takeShares, takeRelays, stepOf, Event, bitGiven, made, events}
+use Rattle.agreement.specs.Calls.{opening, did, firstOf, resultAfter, recoded}
+use Rattle.agreement.specs.Agreement.{Good, Each, step, Rule, allOpenedAndChecked, allHashed, Clean}
 
 module _ (H : List ℕ → List ℕ) where
-  -- step 5 as it was: what is rebuilt is taken, whatever its root
+  -- step 5 without the check, as it was: what is rebuilt is taken, whatever its root
   unfoldable pub foundUnchecked : Party → List ℕ → Result
   foundUnchecked x inbox = cond (happy H x) (settled (messageIn x)) (rebuilt (recoveredBy H x inbox))
 
@@ -27,7 +30,7 @@ module _ (H : List ℕ → List ℕ) where
       cond (not (eqb (relaysCause x inbox) 0)) (refused x (relaysCause x inbox) out)
       (ending x (heldOr (resultIn x) (foundUnchecked x inbox)) out)
 
-  -- the calls of a list with this step 5, the other steps as they are
+  -- a list of calls with that step 5, and the other steps as they are
   unfoldable pub madeUnchecked : Party → Call → Stepped
   madeUnchecked x (agreeRoot z) = made H x (agreeRoot z)
   madeUnchecked x (agreeBit bit out) = made H x (agreeBit bit out)
@@ -39,44 +42,47 @@ module _ (H : List ℕ → List ℕ) where
   eventsUnchecked x (c ∷ cs) =
       record { before = x; call = c; reply = madeUnchecked x c } ∷ eventsUnchecked (madeUnchecked x c .state) cs
 
--- under the premises of agreement every string that a good party hashed is one of an opening or a path check: so that no two different ones of those have one
--- hash says the same of all
-abbrev pub NoStringMore : (List ℕ → List ℕ) → Type 0
-NoStringMore H =
-    (n t : ℕ) (good : List Good) (z : List ℕ) (bit : ℕ) → Premises H n t good z bit
-    → (s : List ℕ) → List·Memᴰ s (allHashed H n t good) → List·Memᴰ s (allChecked H n t good)
+  -- a party ends with a result: its state holds it after all calls, or an accepted step 5 gave it
+  abbrev pub EndsWith : ℕ → ℕ → Good → Result → Type 0
+  EndsWith n t A R =
+      (resultAfter H n t (A .own) (A .message) (A .calls) ≡ some R)
+      ⊎ ((e : Event) × List·Memᴰ e (did H n t (A .own) (A .message) (A .calls)) × (stepOf (e .call) ≡ 5) × (e .reply .result ≡ some R))
 
--- under the premises of agreement every call of every good party gives what it gives without the check: state, answer, result and buffer
-abbrev pub NoOtherEnding : (List ℕ → List ℕ) → Type 0
-NoOtherEnding H =
-    (n t : ℕ) (good : List Good) (z : List ℕ) (bit : ℕ) → Premises H n t good z bit
-    → Each H n t good (λ A. let x = opening H n t (A .own) (A .message) .state in eventsUnchecked H x (A .calls) ≡ events H x (A .calls))
+  -- one party
+  pub record EndsUnderItsRoot : Type 0 where
+    -- step 5 on any state that has not ended, with any inbox and buffer
+    pub any-state : (x : Party) (inbox out m : List ℕ) → hasEnded (x .stage) ≡ false → made H x (takeRelays inbox out) .result ≡ some (settled m)
+        → messageRoot H (x .seat .n) (x .seat .t) m ≡ x .root
+    -- any list of calls: whoever ends with a message had a first accepted step 2, and its root is the message's
+    pub any-list : (n t : ℕ) (A : Good) (m : List ℕ) → EndsWith n t A (settled m) → (e : Event) × (z : List ℕ)
+        × (firstOf H n t (A .own) (A .message) (A .calls) 2 ≡ some e) × (e .call ≡ agreeRoot z) × (messageRoot H n t m ≡ z)
 
--- a party ends with a result: its state holds it after the list, or an accepted step 5 gave it
-abbrev pub EndsWith : (List ℕ → List ℕ) → ℕ → ℕ → Good → Result → Type 0
-EndsWith H n t A R =
-    (resultAfter H n t (A .own) (A .message) (A .calls) ≡ some R)
-    ⊎ ((e : Event) × List·Memᴰ e (did H n t (A .own) (A .message) (A .calls)) × (stepOf (e .call) ≡ 5) × (e .reply .result ≡ some R))
+  -- what is supposed of all good parties: they opened with messages of bytes; each got the agreed root z in its first accepted step 2, and the agreed bit in
+  -- its first accepted step 3, if it had one; and the rule of the bit. Nothing is said of how many are bad, of inboxes, or of the root's rule
+  pub record Told (n t : ℕ) (good : List Good) (z : List ℕ) (bit : ℕ) : Type 0 where
+    pub bytes : Each H n t good (λ A. Bytes (A .message))
+    pub root : Each H n t good (λ A. (e : Event) × (step H n t good 2 A ≡ some e) × (e .call ≡ agreeRoot z))
+    pub same-bit : Each H n t good (λ A. (e : Event) → step H n t good 3 A ≡ some e → (out : List ℕ) × (e .call ≡ agreeBit bit out))
+    pub vote : Rule H n t good (λ A. bitGiven (step H n t good 2 A)) bit
 
--- with nothing supposed of the others: a party that was opened, got the agreed root z and ends with a message ends with one that has this root
-abbrev pub EndsUnderItsRoot : (List ℕ → List ℕ) → Type 0
-EndsUnderItsRoot H =
-    (n t : ℕ) (A : Good) (z : List ℕ) (e : Event) (m : List ℕ) → opening H n t (A .own) (A .message) .cause ≡ 0
-    → firstOf H n t (A .own) (A .message) (A .calls) 2 ≡ some e → e .call ≡ agreeRoot z → EndsWith H n t A (settled m) → messageRoot H n t m ≡ z
+  -- a good party ends with nothing or with a message that a good party opened with; or a string of its second coding and one of a good party's opening, two
+  -- different ones, have one hash
+  abbrev pub NoInventedMessage : Type 0
+  NoInventedMessage =
+      (n t : ℕ) (good : List Good) (z : List ℕ) (bit : ℕ) → Told n t good z bit → Each H n t good (λ A. (R : Result) → EndsWith n t A R
+      → (R ≡ nothing) ⊎ ((B : Good) × List·Memᴰ B good
+      × ((R ≡ settled (B .message)) ⊎ Collision H (recoded H n t (A .own) (A .message) (A .calls)) (codingStrings H n (shares n (n - t) (B .message))))))
 
--- with any number of bad parties: what is still supposed of the good ones
-pub record AnyBad (H : List ℕ → List ℕ) (n t : ℕ) (good : List Good) (z : List ℕ) (bit : ℕ) : Type 0 where
-  -- all opened with messages of bytes, and are handed inboxes of bytes
-  pub bytes : Each H n t good (λ A. Bytes (A .message))
-  pub inboxes : Each H n t good (λ A. (c : Call) → List·Memᴰ c (A .calls) → Bytes (inboxIn c))
-  pub accepted : Each H n t good (λ A. opening H n t (A .own) (A .message) .cause ≡ 0)
-  -- the first accepted steps 2 and 3 got the agreed root and bit, which keeps the rule
-  pub step2 : Each H n t good (λ A. (e : Event) × (step H n t good 2 A ≡ some e) × (e .call ≡ agreeRoot z))
-  pub step3 : Each H n t good (λ A. (e : Event) × (out : List ℕ) × (step H n t good 3 A ≡ some e) × (e .call ≡ agreeBit bit out))
-  pub vote : Rule H n t good (λ A. bitGiven (step H n t good 2 A)) bit
+  -- every string that a good party hashed is one of an opening or a path check. So to suppose that no two different ones of these have one hash is to suppose it
+  -- of all
+  abbrev pub NoStringMore : Type 0
+  NoStringMore =
+      (n t : ℕ) (good : List Good) (z : List ℕ) (bit : ℕ) → Told n t good z bit → Clean H n t good
+      → (s : List ℕ) → List·Memᴰ s (allHashed H n t good) → List·Memᴰ s (allOpenedAndChecked H n t good)
 
--- then a good party ends with nothing or with a message that some good party opened with, or two different strings that good parties hashed have one hash
-abbrev pub NoInventedMessage : (List ℕ → List ℕ) → Type 0
-NoInventedMessage H =
-    (n t : ℕ) (good : List Good) (z : List ℕ) (bit : ℕ) → AnyBad H n t good z bit → Each H n t good (λ A. (R : Result) → EndsWith H n t A R
-    → (R ≡ nothing) ⊎ ((B : Good) × List·Memᴰ B good × (R ≡ settled (B .message))) ⊎ Collision H (allHashed H n t good) (allHashed H n t good))
+  -- every call of every good party gives what it gives without the check: state, answer, result and buffer. What is supposed is read over the calls as they are
+  -- with the check: without it a forged inbox with a short buffer is cause 9, and its strings are in no list
+  abbrev pub NoOtherEnding : Type 0
+  NoOtherEnding =
+      (n t : ℕ) (good : List Good) (z : List ℕ) (bit : ℕ) → Told n t good z bit → Clean H n t good
+      → Each H n t good (λ A. let x = opening H n t (A .own) (A .message) .state in eventsUnchecked x (A .calls) ≡ events H x (A .calls))

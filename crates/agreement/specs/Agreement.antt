@@ -14,7 +14,7 @@ use Rattle.erasure.specs.Coding.{shareLength}
 use Rattle.merkle.specs.Height.{height}
 use Rattle.party.specs.State.{Result, nothing, settled}
 use Rattle.agreement.specs.Calls.{Call, agreeRoot, agreeBit, stepOf, Event, heard, wrote, packetTo, bitGiven}
-use Rattle.agreement.specs.Calls.{opening, did, firstOf, resultAfter, checked, hashed, sentBy}
+use Rattle.agreement.specs.Calls.{opening, did, firstOf, resultAfter, openedAndChecked, hashed, sentBy}
 
 -- a good party: its number, its message, and the calls that it gets after its opening
 pub record Good : Type 0 where
@@ -89,16 +89,17 @@ module _ (H : List ℕ → List ℕ) (n t : ℕ) (good : List Good) where
     pub firstInbox : Delivered (λ A B. heard n (B .own) (step 4 A)) (λ B A. packetTo n (A .own) (step 3 B))
     pub secondInbox : Delivered (λ A B. heard n (B .own) (step 5 A)) (λ B A. wrote (step 4 B))
 
-  -- no two different strings of the openings and path checks of good parties, all taken together, have one hash
-  abbrev pub allChecked : List (List ℕ)
-  allChecked = joinOver (λ (A : Good). checked H n t (A .own) (A .message) (A .calls)) good
+  -- the strings of the openings and path checks of good parties, all taken together; and all strings that they hashed, which are the same ones and no others
+  -- under these premises (`AgreedRoot.NoStringMore`)
+  abbrev pub allOpenedAndChecked : List (List ℕ)
+  allOpenedAndChecked = joinOver (λ (A : Good). openedAndChecked H n t (A .own) (A .message) (A .calls)) good
 
-  abbrev pub Clean : Type 0
-  Clean = (x y : List ℕ) → List·Memᴰ x allChecked → List·Memᴰ y allChecked → H x ≡ H y → x ≡ y
-
-  -- all strings that good parties hashed
   abbrev pub allHashed : List (List ℕ)
   allHashed = joinOver (λ (A : Good). hashed H n t (A .own) (A .message) (A .calls)) good
+
+  -- no two different ones of the former have one hash
+  abbrev pub Clean : Type 0
+  Clean = (x y : List ℕ) → List·Memᴰ x allOpenedAndChecked → List·Memᴰ y allOpenedAndChecked → H x ≡ H y → x ≡ y
 
   -- what is supposed
   pub record Premises (z : List ℕ) (bit : ℕ) : Type 0 where

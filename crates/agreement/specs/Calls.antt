@@ -95,6 +95,11 @@ unfoldable pub sentOver : ℕ → List Event → ℕ
 sentOver n [] = 0
 sentOver n (e ∷ es) = sentIn n (e .call) (writtenBy e) + sentOver n es
 
+-- the strings of several calls, by those of each
+unfoldable pub stringsOver : (Party → Call → List (List ℕ)) → List Event → List (List ℕ)
+stringsOver of [] = []
+stringsOver of (e ∷ es) = of (e .before) (e .call) ++ stringsOver of es
+
 module _ (H : List ℕ → List ℕ) where
   unfoldable pub made : Party → Call → Stepped
   made x (agreeRoot z) = agreeRootOf H x z
@@ -120,10 +125,6 @@ module _ (H : List ℕ → List ℕ) where
   checkedIn x (takeRelays inbox out) =
       cond (hasEnded (x .stage) || happy H x) [] (relayStrings H (x .seat .n) (x .seat .own) 1 (bodies (x .seat .n) inbox))
 
-  unfoldable pub checkedOver : List Event → List (List ℕ)
-  checkedOver [] = []
-  checkedOver (e ∷ es) = checkedIn (e .before) (e .call) ++ checkedOver es
-
   -- the strings of the message that an accepted call rebuilds and codes again: step 5 of an unhappy party that had not ended (document 02, No. 4)
   unfoldable pub recodedIn : Party → Call → List (List ℕ)
   recodedIn x (agreeRoot z) = []
@@ -132,9 +133,15 @@ module _ (H : List ℕ → List ℕ) where
   recodedIn x (takeRelays inbox out) =
       cond (hasEnded (x .stage) || happy H x) [] (recodedStrings H (x .seat .n) (x .seat .t) (recoveredBy H x inbox))
 
-  unfoldable pub recodedOver : List Event → List (List ℕ)
-  recodedOver [] = []
-  recodedOver (e ∷ es) = recodedIn (e .before) (e .call) ++ recodedOver es
+  -- beside those of the message that the state holds, these are all that an accepted call hashes
+  abbrev pub hashedIn : Party → Call → List (List ℕ)
+  hashedIn x c = checkedIn x c ++ recodedIn x c
+
+  abbrev pub checkedOver : List Event → List (List ℕ)
+  checkedOver es = stringsOver checkedIn es
+
+  abbrev pub recodedOver : List Event → List (List ℕ)
+  recodedOver es = stringsOver recodedIn es
 
   -- a party that opened with n, t, its number and a message
   module _ (n t own : ℕ) (m : List ℕ) where
@@ -154,14 +161,18 @@ module _ (H : List ℕ → List ℕ) where
       abbrev pub resultAfter : Option Result
       resultAfter = resultIn (final (opening .state) calls)
 
-      -- the strings of its opening and of its path checks: the leaf and node strings of the message it coded, and those of the path checks it made. Of
-      -- these alone agreement supposes something
-      unfoldable pub checked : List (List ℕ)
-      checked = codingStrings H n (shares n (n - t) m) ++ checkedOver did
+      -- the strings of its opening and of its path checks: the leaf and node strings of the message that it opened with, and those of the path checks it
+      -- made. Agreement supposes something of these alone
+      unfoldable pub openedAndChecked : List (List ℕ)
+      openedAndChecked = codingStrings H n (shares n (n - t) m) ++ checkedOver did
 
-      -- all strings it hashed: those, and the ones of the message that it coded again
-      unfoldable pub hashed : List (List ℕ)
-      hashed = checked ++ recodedOver did
+      -- those of the message that it rebuilt and coded again
+      unfoldable pub recoded : List (List ℕ)
+      recoded = recodedOver did
+
+      -- all strings it hashed
+      abbrev pub hashed : List (List ℕ)
+      hashed = openedAndChecked ++ recoded
 
       -- the bytes it sent
       unfoldable pub sentBy : ℕ

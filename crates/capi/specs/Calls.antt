@@ -1,5 +1,5 @@
 -- What each exported function gives back: its number, with the cause in the upper half and the value in the lower, and the bytes of the lent
--- buffers. Every one is the definition of the party, the coder, the tree or the packets, on what the bytes say. The hash is a parameter H.
+-- buffers. Every one is the definition of the party, the coder, the tree, the commitment or the packets, on what the bytes say. The hash is a parameter H.
 -- Assumes nothing.
 use mathlib.Core.Bool.{Bool, cond, not, _&&_}
 use mathlib.Core.List.{List}
@@ -134,6 +134,7 @@ sharesCall n t m out = filled (encodeOf n t m out)
 unfoldable pub rebuildCall : ℕ → ℕ → List ℕ → List ℕ → Returned
 rebuildCall n t es out = filled (rebuildOf n t es out)
 
+-- the same under a root z, which is handed in before the entries
 module _ (H : List ℕ → List ℕ) where
   unfoldable pub rebuildWithRootCall : ℕ → ℕ → List ℕ → List ℕ → List ℕ → Returned
   rebuildWithRootCall n t z es out = filled (rebuildWithRootOf H n t z es out)

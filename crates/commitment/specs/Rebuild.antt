@@ -1,4 +1,4 @@
--- Rebuilding under a root (document 02, No. 4): what the shares give is coded again, and taken only if its root is the one given. The hash of the tree is a
+-- Rebuilding under a root (document 02, No. 4): a message counts as found only where its own shares, made anew, have that root. The hash of the tree is a
 -- parameter H. Assumes nothing.
 use mathlib.Core.Bool.{cond, not}
 use mathlib.Core.List.{List, []}

@@ -194,7 +194,7 @@ shareFrom (valid x p) = x
 unfoldable pub relaysCause : Party → List ℕ → ℕ
 relaysCause x inbox = cond (hasEnded (x .stage)) (stateCause 5 x) (inboxCause 5 x inbox)
 
--- causes 11, 12 and 15 of rebuilding become the result nothing
+-- where rebuilding ends with a cause, the result is nothing
 abbrev pub rebuilt : Recovered → Result
 rebuilt (rebuild.cause k) = nothing
 rebuilt (rebuild.message m) = settled m
@@ -207,11 +207,11 @@ module _ (H : List ℕ → List ℕ) where
   gathered x j (p ∷ ps) =
       cond (eqb j (x .seat .own)) (shareHeld x) (shareFrom (classOf H (x .seat .n) j (x .root) p)) ∷ gathered x (j + 1) ps
 
-  -- what these give
+  -- what is rebuilt from these shares
   abbrev pub recoveredBy : Party → List ℕ → Recovered
   recoveredBy x inbox = recovered (x .seat .n - x .seat .t) (present 1 (gathered x 1 (bodies (x .seat .n) inbox)))
 
-  -- a happy party finds its message; another what it rebuilds, if that has the agreed root
+  -- a happy party finds its message; another what it rebuilds, if that has the agreed root (document 02, No. 4)
   unfoldable pub resultFound : Party → List ℕ → Result
   resultFound x inbox =
       cond (happy H x) (settled (messageIn x)) (rebuilt (underRoot H (x .seat .n) (x .seat .t) (x .root) (recoveredBy x inbox)))
