@@ -1,6 +1,7 @@
 pub mod Lists
 pub mod Run
 pub mod Ran
+pub mod Ended
 pub mod Later
 pub mod Needed
 pub mod Conduct

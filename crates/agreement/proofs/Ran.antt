@@ -48,14 +48,26 @@ opened-is H n t i m e = go (way (eqb (openCause n t i (length m)) 0))
 abbrev ev : Party → Call → Stepped → Event
 ev x c r = record { before = x; call = c; reply = r }
 
--- a call of step 4 or 5 has an inbox and a buffer
-is-fourth : (c : Call) → stepOf c ≡ 4 → (inbox : List ℕ) × (out : List ℕ) × (c ≡ takeShares inbox out)
+-- a call of step 2 has a root, one of step 3 a bit and a buffer, one of step 4 or 5 an inbox and a buffer
+pub is-second : (c : Call) → stepOf c ≡ 2 → (z : List ℕ) × (c ≡ agreeRoot z)
+is-second (agreeRoot z) e = (z, refl)
+is-second (agreeBit bit out) e = absurd (omega arith)
+is-second (takeShares inbox out) e = absurd (omega arith)
+is-second (takeRelays inbox out) e = absurd (omega arith)
+
+pub is-third : (c : Call) → stepOf c ≡ 3 → (bit : ℕ) × (out : List ℕ) × (c ≡ agreeBit bit out)
+is-third (agreeRoot z) e = absurd (omega arith)
+is-third (agreeBit bit out) e = (bit, out, refl)
+is-third (takeShares inbox out) e = absurd (omega arith)
+is-third (takeRelays inbox out) e = absurd (omega arith)
+
+pub is-fourth : (c : Call) → stepOf c ≡ 4 → (inbox : List ℕ) × (out : List ℕ) × (c ≡ takeShares inbox out)
 is-fourth (agreeRoot z) e = absurd (omega arith)
 is-fourth (agreeBit bit out) e = absurd (omega arith)
 is-fourth (takeShares inbox out) e = (inbox, out, refl)
 is-fourth (takeRelays inbox out) e = absurd (omega arith)
 
-is-fifth : (c : Call) → stepOf c ≡ 5 → (inbox : List ℕ) × (out : List ℕ) × (c ≡ takeRelays inbox out)
+pub is-fifth : (c : Call) → stepOf c ≡ 5 → (inbox : List ℕ) × (out : List ℕ) × (c ≡ takeRelays inbox out)
 is-fifth (agreeRoot z) e = absurd (omega arith)
 is-fifth (agreeBit bit out) e = absurd (omega arith)
 is-fifth (takeShares inbox out) e = absurd (omega arith)
@@ -63,13 +75,13 @@ is-fifth (takeRelays inbox out) e = (inbox, out, refl)
 
 module _ (H : List ℕ → List ℕ) where
   -- the first of step k, where the stage awaits it: the call was accepted on that state
-  accepted-at : (k : ℕ) (x fin : Party) (es : List Event) (e : Event) (c : Call) → turnOf (x .stage) ≡ k → Chain H x es fin
+  pub accepted-at : (k : ℕ) (x fin : Party) (es : List Event) (e : Event) (c : Call) → turnOf (x .stage) ≡ k → Chain H x es fin
       → first k es ≡ some e → e .call ≡ c → event H x c .reply .cause ≡ 0
   accepted-at k x fin es e c a h q p =
       let r = next H k x fin es e a h q in
       subst (λ (d : Call). event H x d .reply .cause ≡ 0) p (subst (λ (v : Event). v .reply .cause ≡ 0) (r .2) (r .3))
 
-  advance : (k : ℕ) (x fin : Party) (es : List Event) (e : Event) (c : Call) (s : Stepped) → turnOf (x .stage) ≡ k
+  pub advance : (k : ℕ) (x fin : Party) (es : List Event) (e : Event) (c : Call) (s : Stepped) → turnOf (x .stage) ≡ k
       → Chain H x es fin → first k es ≡ some e → e .call ≡ c → event H x c .reply ≡ s
       → (rest : List Event) × (es ≡ ev x c s ∷ rest) × Chain H (s .state) rest fin
   advance k x fin es e c s a h q p g =
@@ -77,50 +89,50 @@ module _ (H : List ℕ → List ℕ) where
       let u : e ≡ ev x c s = r .2 ∙ ap (event H x) p ∙ ap (ev x c) g in
       (r .0, r .1 ∙ ap (λ (v : Event). v ∷ r .0) u, subst (λ (v : Event). Chain H (v .reply .state) (r .0) fin) u (r .4))
 
-  turn-of : (k : ℕ) (x fin : Party) (es : List Event) (e : Event) → turnOf (x .stage) ≡ k → Chain H x es fin
+  pub turn-of : (k : ℕ) (x fin : Party) (es : List Event) (e : Event) → turnOf (x .stage) ≡ k → Chain H x es fin
       → first k es ≡ some e → stepOf (e .call) ≡ k
   turn-of k x fin es e a h q =
       let r = next H k x fin es e a h q in
       sym (in-turn H x (e .call) (subst (λ (v : Event). v .reply .cause ≡ 0) (r .2) (r .3))) ∙ a
 
   module _ (n t i : ℕ) (m z : List ℕ) where
-    abbrev X1 : Party
+    abbrev pub X1 : Party
     X1 = atBit (seatOf n t i) m z
 
-    abbrev X2 : Party
+    abbrev pub X2 : Party
     X2 = atFirst (seatOf n t i) m z
 
-    abbrev X3 : List ℕ → Party
+    abbrev pub X3 : List ℕ → Party
     X3 inbox = atSecond (seatOf n t i) m z (heldOf H X2 inbox)
 
     -- the replies, by the states that the accepted calls got
-    abbrev reply2 : Stepped
+    abbrev pub reply2 : Stepped
     reply2 = gives X1 (answer.Happy (happy H X1)) []
 
-    abbrev reply3 : ℕ → List ℕ → Stepped
+    abbrev pub reply3 : ℕ → List ℕ → Stepped
     reply3 bit out =
         gives (cond (eqb bit 0) (atEnd (seatOf n t i) nothing) X2) (answer.Sent (length (outboxOf H X1 bit)))
         (spliced out 0 (outboxOf H X1 bit))
 
-    abbrev reply4 : List ℕ → List ℕ → Stepped
+    abbrev pub reply4 : List ℕ → List ℕ → Stepped
     reply4 inbox out = gives (X3 inbox) (answer.Sent (length (relayOf H X2 inbox))) (spliced out 0 (relayOf H X2 inbox))
 
     abbrev reply5 : List ℕ → List ℕ → List ℕ → Stepped
     reply5 in4 in5 out = endedWith (seatOf n t i) (resultOf H (X3 in4) in5) out
 
-    is2 : made2 H (atRoot (seatOf n t i) m) z ≡ reply2
+    pub is2 : made2 H (atRoot (seatOf n t i) m) z ≡ reply2
     unfolding atRoot
     is2 =
         ap (λ (b : List ℕ). gives (atBit (seatOf n t i) b z) (answer.Happy (happy H (atBit (seatOf n t i) b z))) [])
         (take-padded maxMessage m)
 
-    is3 : (bit : ℕ) (out : List ℕ) → made3 H X1 bit out ≡ reply3 bit out
+    pub is3 : (bit : ℕ) (out : List ℕ) → made3 H X1 bit out ≡ reply3 bit out
     unfolding atBit
     is3 bit out =
         ap (λ (b : List ℕ). gives (cond (eqb bit 0) (atEnd (seatOf n t i) nothing) (atFirst (seatOf n t i) b z))
         (answer.Sent (length (outboxOf H X1 bit))) (spliced out 0 (outboxOf H X1 bit))) (take-padded maxMessage m)
 
-    is4 : (inbox out : List ℕ) → made4 H X2 inbox out ≡ reply4 inbox out
+    pub is4 : (inbox out : List ℕ) → made4 H X2 inbox out ≡ reply4 inbox out
     unfolding atFirst
     is4 inbox out =
         ap (λ (b : List ℕ). gives (atSecond (seatOf n t i) b z (heldOf H X2 inbox)) (answer.Sent (length (relayOf H X2 inbox)))
@@ -130,10 +142,10 @@ module _ (H : List ℕ → List ℕ) where
     unfolding atSecond
     is5 in4 in5 out = refl
 
-    abbrev ev2 : Event
+    abbrev pub ev2 : Event
     ev2 = ev (atRoot (seatOf n t i) m) (agreeRoot z) reply2
 
-    abbrev ev3 : ℕ → List ℕ → Event
+    abbrev pub ev3 : ℕ → List ℕ → Event
     ev3 bit out = ev X1 (agreeBit bit out) (reply3 bit out)
 
     abbrev ev4 : List ℕ → List ℕ → Event
@@ -219,30 +231,29 @@ pub record Ran (H : List ℕ → List ℕ) (n t i : ℕ) (m : List ℕ) (calls :
   pub sends : sentBy H n t i m calls
       ≡ lengths (bodies n (outboxOf H (atBit (seatOf n t i) m z) 1)) + (n - 1) * length (relayOf H (atFirst (seatOf n t i) m z) in4)
 
-module _ (H : List ℕ → List ℕ) (n t i : ℕ) (m : List ℕ) (calls : List Call) (z : List ℕ) (o : opening H n t i m .cause ≡ 0) where
+module _ (H : List ℕ → List ℕ) (n t i : ℕ) (m : List ℕ) (calls : List Call) (o : opening H n t i m .cause ≡ 0) where
   x0-is : opening H n t i m .state ≡ atRoot (seatOf n t i) m
   x0-is = ap (λ (r : Opened). r .state) (opened-is H n t i m o .1)
 
-  fin : Party
+  abbrev pub fin : Party
   fin = final H (atRoot (seatOf n t i) m) calls
 
   did-is : did H n t i m calls ≡ accepted (events H (atRoot (seatOf n t i) m) calls)
   unfolding did
   did-is = ap (λ (x : Party). accepted (events H x calls)) x0-is
 
-  ends-is : resultAfter H n t i m calls ≡ resultIn fin
-  unfolding fin
+  pub ends-is : resultAfter H n t i m calls ≡ resultIn fin
   ends-is = ap (λ (x : Party). resultIn (final H x calls)) x0-is
 
-  did-chain : Chain H (atRoot (seatOf n t i) m) (did H n t i m calls) fin
-  unfolding fin
+  pub did-chain : Chain H (atRoot (seatOf n t i) m) (did H n t i m calls) fin
   did-chain = subst (λ (l : List Event). Chain H (atRoot (seatOf n t i) m) l (final H (atRoot (seatOf n t i) m) calls)) (sym did-is) (chain H (atRoot (seatOf n t i) m) calls)
 
+module _ (H : List ℕ → List ℕ) (n t i : ℕ) (m : List ℕ) (calls : List Call) (z : List ℕ) (o : opening H n t i m .cause ≡ 0) where
   module _ (e2 e3 : Event) (bit : ℕ) (out : List ℕ) (f2 : firstOf H n t i m calls 2 ≡ some e2) (c2 : e2 .call ≡ agreeRoot z)
       (f3 : firstOf H n t i m calls 3 ≡ some e3) (c3 : e3 .call ≡ agreeBit bit out) where
-    begun : (rest : List Event) × (did H n t i m calls ≡ ev2 H n t i m z ∷ ev3 H n t i m z bit out ∷ rest) × (bit ≤ 1)
-        × Chain H (cond (eqb bit 0) (atEnd (seatOf n t i) nothing) (atFirst (seatOf n t i) m z)) rest fin
-    begun = two H n t i m z fin (did H n t i m calls) e2 e3 bit out did-chain f2 c2 f3 c3
+    pub begun : (rest : List Event) × (did H n t i m calls ≡ ev2 H n t i m z ∷ ev3 H n t i m z bit out ∷ rest) × (bit ≤ 1)
+        × Chain H (cond (eqb bit 0) (atEnd (seatOf n t i) nothing) (atFirst (seatOf n t i) m z)) rest (fin H n t i m calls o)
+    begun = two H n t i m z (fin H n t i m calls o) (did H n t i m calls) e2 e3 bit out (did-chain H n t i m calls o) f2 c2 f3 c3
 
     -- the bit that step 2 gave
     pub bit-given : bitGiven (firstOf H n t i m calls 2) ≡ some (cond (happy H (atBit (seatOf n t i) m z)) 1 0)
@@ -260,14 +271,14 @@ module _ (H : List ℕ → List ℕ) (n t i : ℕ) (m : List ℕ) (calls : List 
   unfolding sentBy sentOver
   ran-none e2 e3 out f2 c2 f3 c3 =
       let b = begun e2 e3 0 out f2 c2 f3 c3 in
-      let l = still H n (atEnd (seatOf n t i) nothing) fin (b .0) nothing (result-end (seatOf n t i) nothing) (b .3) in (
-        ends-is ∙ l .0,
+      let l = still H n (atEnd (seatOf n t i) nothing) (fin H n t i m calls o) (b .0) nothing (result-end (seatOf n t i) nothing) (b .3) in (
+        ends-is H n t i m calls o ∙ l .0,
         rw (b .1, l .1, take-spliced out (outboxOf H (atBit (seatOf n t i) m z) 0)) (omega arith),
       )
 
   -- on bit 1
   module _ (out : List ℕ) (es : List Event) (d : did H n t i m calls ≡ ev2 H n t i m z ∷ ev3 H n t i m z 1 out ∷ es)
-      (q : Four H n t i m z fin es) where
+      (q : Four H n t i m z (fin H n t i m calls o) es) where
     abbrev fourth : Event
     fourth = ev4 H n t i m z (q .in4) (q .out4)
 
@@ -277,9 +288,9 @@ module _ (H : List ℕ → List ℕ) (n t i : ℕ) (m : List ℕ) (calls : List 
     all-did : did H n t i m calls ≡ ev2 H n t i m z ∷ ev3 H n t i m z 1 out ∷ fourth ∷ fifth ∷ q .rest
     all-did = d ∙ ap (λ (r : List Event). ev2 H n t i m z ∷ ev3 H n t i m z 1 out ∷ r) (q .all)
 
-    is-third : firstOf H n t i m calls 3 ≡ some (ev3 H n t i m z 1 out)
+    is-3 : firstOf H n t i m calls 3 ≡ some (ev3 H n t i m z 1 out)
     unfolding first
-    is-third = rw all-did
+    is-3 = rw all-did
 
     is-4 : firstOf H n t i m calls 4 ≡ some fourth
     unfolding first
@@ -303,9 +314,9 @@ module _ (H : List ℕ → List ℕ) (n t i : ℕ) (m : List ℕ) (calls : List 
           in5 = q .in5;
           heard4 = λ j. ap (heard n j) is-4;
           heard5 = λ j. ap (heard n j) is-5;
-          packets = ap wrote is-third ∙ take-spliced out (outboxOf H (atBit (seatOf n t i) m z) 1);
+          packets = ap wrote is-3 ∙ take-spliced out (outboxOf H (atBit (seatOf n t i) m z) 1);
           relayed = ap wrote is-4 ∙ take-spliced (q .out4) (relayOf H (atFirst (seatOf n t i) m z) (q .in4));
-          ends = ends-is ∙ q .last .0;
+          ends = ends-is H n t i m calls o ∙ q .last .0;
           in-tree = λ s h. Memᴰ·append-left (checkedOver H (did H n t i m calls)) h;
           in-first = λ s h. checked-in s (Memᴰ·append-left (checkedOver H (fifth ∷ q .rest)) h);
           in-second = λ s h. checked-in s (Memᴰ·append-right (checkedIn H (atFirst (seatOf n t i) m z) (takeShares (q .in4) []))
@@ -329,4 +340,4 @@ module _ (H : List ℕ → List ℕ) (n t i : ℕ) (m : List ℕ) (calls : List 
       let b = begun e2 e3 1 out f2 c2 f3 c3 in
       let g4 : first 4 (b .0) ≡ some e4 = rw (b .1) at f4 in
       let g5 : first 5 (b .0) ≡ some e5 = rw (b .1) at f5 in
-      ran out (b .0) (b .1) (four H n t i m z fin (b .0) e4 e5 (b .3) g4 g5)
+      ran out (b .0) (b .1) (four H n t i m z (fin H n t i m calls o) (b .0) e4 e5 (b .3) g4 g5)

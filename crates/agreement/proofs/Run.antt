@@ -229,13 +229,16 @@ module _ (H : List ℕ → List ℕ) where
           (refused-keeps x c (eqb-false (made H x c .cause) 0 y)) r)
 
   -- the next accepted call is the one that the stage awaits
+  pub leads : (x fin : Party) (d : Event) (es : List Event) → Chain x (d ∷ es) fin → turnOf (x .stage) ≡ stepOf (d .call)
+  leads x fin d es h = in-turn x (d .call) (subst (λ (v : Event). v .reply .cause ≡ 0) (h .0) (h .1))
+
   pub next : (k : ℕ) (x fin : Party) (es : List Event) (e : Event) → turnOf (x .stage) ≡ k → Chain x es fin → first k es ≡ some e
       → (rest : List Event) × (es ≡ e ∷ rest) × (e ≡ event x (e .call)) × (e .reply .cause ≡ 0) × Chain (e .reply .state) rest fin
   unfolding first
   next k x fin [] e a h q = absurd (Option·none-ne-some e q)
   next k x fin (d ∷ es) e a h q =
       let s : eqb (stepOf (d .call)) k ≡ true =
-      eq-eqb (stepOf (d .call)) k (sym (in-turn x (d .call) (subst (λ (v : Event). v .reply .cause ≡ 0) (h .0) (h .1))) ∙ a) in
+      eq-eqb (stepOf (d .call)) k (sym (leads x fin d es h) ∙ a) in
       let w : d ≡ e = same-some (rw s at q) in (
         es,
         ap (λ (v : Event). v ∷ es) w,
