@@ -24,7 +24,7 @@ use Rattle.erasure.specs.Rebuild.{Recovered, present}
 use Rattle.merkle.specs.Height.{height}
 use Rattle.merkle.specs.Shares.{same}
 use Rattle.merkle.proofs.Judged.{same-true, same-refl}
-use Rattle.packet.specs.Class.{Class, silent, faulty, valid, classOf}
+use Rattle.packet.specs.Class.{valid, classOf}
 use Rattle.commitment.specs.Commitment.{messageRoot, packetWith, relayWith}
 use Rattle.commitment.specs.Rebuild.{underRoot}
 use Rattle.commitment.specs.Private.{Coded}
@@ -36,13 +36,13 @@ use Rattle.party.specs.State.{Result, nothing, settled}
 use Rattle.party.specs.Steps.{shareFrom, rebuilt}
 use Rattle.party.specs.declared.Opened.{Opened}
 use Rattle.party.proofs.Ways.{Way, on, off, way, clash}
-use Rattle.agreement.specs.Calls.{heard, wrote, entry, bitGiven, lengths, opening, resultAfter, sentBy}
+use Rattle.agreement.specs.Calls.{heard, wrote, entry, lengths, opening, resultAfter, sentBy}
 use Rattle.agreement.specs.Agreement.{Good, among, absent, Each, owns, step, OpenedAll, CalledAll, Ruled, DeliveredAll, sent, Conclusions, Agreement}
 use Rattle.agreement.proofs.Ran.{opened-is}
-use Rattle.agreement.proofs.Lists.{lengths-none, lengths-others, sum-below, sum-none, find, among-out, one-each, present-borne}
+use Rattle.agreement.proofs.Lists.{lengths-none, lengths-others, sum-below, sum-none, among-out, one-each, present-borne}
 use Rattle.agreement.proofs.Needed.{glad, relayFrom, coding, check, Needed}
 use Rattle.agreement.proofs.Later.{gave}
-use Rattle.agreement.proofs.Conduct.{Conduct, sharesIn, vote-given, bit-low, ended, conducts, needed-hashed}
+use Rattle.agreement.proofs.Conduct.{Conduct, sharesIn, shares-or, voted, someone, bit-low, ended, conducts, needed-hashed}
 
 regroup : (g k K x : ℕ) → x ≤ g * (2 * (k * K)) → x ≤ 2 * g * k * K
 regroup g k K x h = omega arith
@@ -54,9 +54,6 @@ module _ (H : List ℕ → List ℕ) (wide : (s : List ℕ) → length (H s) ≡
     (opened : OpenedAll H n t good) (called : CalledAll H n t good z bit) (ruled : Ruled H n t good z bit) where
   abbrev In : Good → Type 0
   In A = List·Memᴰ A good
-
-  abbrev isGlad : Good → Bool
-  isGlad A = glad H n t (A .message) z
 
   -- what an accepted opening says
   record Admitted (A : Good) : Type 0 where
@@ -77,9 +74,8 @@ module _ (H : List ℕ → List ℕ) (wide : (s : List ℕ) → length (H s) ≡
   root-given : (A : Good) → In A → opening H n t (A .own) (A .message) .root ≡ messageRoot H n t (A .message)
   root-given A h = ap (λ (o : Opened). o .root) (opened-is H n t (A .own) (A .message) (opened .accepted A h) .1)
 
-  -- the bit that a good party put in
-  voted : (A : Good) → In A → bitGiven (step H n t good 2 A) ≡ some (cond (isGlad A) 1 0)
-  voted A h = vote-given H n t good z bit opened called A h
+  abbrev isGlad : Good → Bool
+  isGlad A = glad H n t (A .message) z
 
   -- on bit 0
   module _ (b0 : bit ≡ 0) where
@@ -90,7 +86,7 @@ module _ (H : List ℕ → List ℕ) (wide : (s : List ℕ) → length (H s) ≡
         ruled .root (messageRoot H n t m)
         (λ A h. ap {B = Option (List ℕ)} some (root-given A h ∙ ap (messageRoot H n t) (e A h))) in
         let one : bit ≡ 1 =
-        ruled .vote 1 (λ A h. voted A h
+        ruled .vote 1 (λ A h. voted H n t good z (opened .accepted) (called .step2) A h
         ∙ ap {B = Option ℕ} (λ (g : Bool). some (cond g 1 0)) (ap₂ same (ap (messageRoot H n t) (e A h)) zm ∙ same-refl (messageRoot H n t m))) in
         omega arith
 
@@ -111,17 +107,6 @@ module _ (H : List ℕ → List ℕ) (wide : (s : List ℕ) → length (H s) ≡
   module _ (b1 : bit ≡ 1) where
     does : (A : Good) → In A → Conduct H n t (A .own) (A .message) (A .calls) z
     does A h = conducts H n t good z bit opened called A h b1
-
-    -- some good party is happy
-    someone : (A : Good) × In A × (isGlad A ≡ true)
-    someone = go (find isGlad good)
-      where
-        go : ((A : Good) × In A × (isGlad A ≡ true)) ⊎ ((A : Good) → In A → isGlad A ≡ false) → (A : Good) × In A × (isGlad A ≡ true)
-        go (inl a) = a
-        go (inr f) =
-            let zero-bit : bit ≡ 0 =
-            ruled .vote 0 (λ A h. voted A h ∙ ap {B = Option ℕ} (λ (g : Bool). some (cond g 1 0)) (f A h)) in
-            absurd (omega arith)
 
     module _ (delivered : DeliveredAll H n t good) (free : CollisionFree H (Needed H n t good z)) (A : Good) (hA : In A)
         (eA : isGlad A ≡ true) where
@@ -212,13 +197,7 @@ module _ (H : List ℕ → List ℕ) (wide : (s : List ℕ) → length (H s) ≡
         at k l = getD-tabulate n _ k [] l
 
         entry-or : (k : ℕ) → k < n → (getD gs k [] ≡ []) ⊎ (getD gs k [] ≡ share (n - t) (1 + k) M)
-        entry-or k l = go (classOf H n (1 + k) z (has B (1 + k))) refl
-          where
-            go : (c : Class) → classOf H n (1 + k) z (has B (1 + k)) ≡ c
-                → (getD gs k [] ≡ []) ⊎ (getD gs k [] ≡ share (n - t) (1 + k) M)
-            go silent v = inl (at k l ∙ ap shareFrom v)
-            go faulty v = inl (at k l ∙ ap shareFrom v)
-            go (valid x p) v = inr (at k l ∙ ap shareFrom v ∙ valid-M B hB uB (1 + k) x p v)
+        entry-or = shares-or H n t (B .own) (B .message) (B .calls) z (n - t) M (valid-M B hB uB)
 
         -- a good party's relay came
         relay-came : (C : Good) → In C → has B (C .own) ≡ wrote (step H n t good 4 C)
@@ -330,7 +309,7 @@ module _ (H : List ℕ → List ℕ) (wide : (s : List ℕ) → length (H s) ≡
     where
       go : Dec (bit ≡ 1) → (R : Result) × Conclusions H n t good bit R
       go (yes b1) =
-          let a = someone b1 in (settled (a .0 .message), on-one b1 (delivered b1) (free b1) (a .0) (a .1) (a .2))
+          let a = someone H n t good z (opened .accepted) (called .step2) bit (ruled .vote) b1 in (settled (a .0 .message), on-one b1 (delivered b1) (free b1) (a .0) (a .1) (a .2))
       go (no d) = (nothing, on-zero (bit-zero d good refl))
 
 -- so it holds where no two different strings have one hash of any list that has the needed ones; all that were hashed is such a list

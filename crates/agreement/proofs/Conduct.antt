@@ -2,7 +2,7 @@
 -- and ends with its message; another relays a packet that passes if it heard one, and rebuilds from the relays that pass. By the laws of the party's
 -- steps. Assumes nothing.
 use mathlib.Core.Path.{_≡_, refl, sym, ap, ap₂, _∙_, subst}
-use mathlib.Core.Logic.{_≢_}
+use mathlib.Core.Logic.{_⊎_, inl, inr, _≢_}
 use mathlib.Core.Bool.{Bool, true, false, cond}
 use mathlib.Core.List.{List, [], List·Memᴰ, List·Memᴰ·not-nil}
 use mathlib.Core.Option.{Option, some}
@@ -14,12 +14,13 @@ use lib.ListN.{length, getD, replicate, length-replicate}
 use Rattle.buffer.specs.Splice.{tabulate}
 use Rattle.buffer.specs.Entries.{bodies}
 use Rattle.buffer.proofs.Entries.{length-bodies}
-use Rattle.buffer.proofs.Tabulate.{length-tabulate, tabulate-cong, tabulate-getD}
+use Rattle.buffer.proofs.Tabulate.{length-tabulate, getD-tabulate, tabulate-cong, tabulate-getD}
+use Rattle.erasure.specs.Coding.{share}
 use Rattle.erasure.specs.Rebuild.{Recovered, present, recovered}
 use Rattle.merkle.specs.Shares.{same}
 use Rattle.packet.specs.Format.{packetOf}
 use Rattle.packet.specs.Inbox.{inboxOf}
-use Rattle.packet.specs.Class.{silent, valid, judged, classOf, checkedStrings, classStrings}
+use Rattle.packet.specs.Class.{Class, silent, faulty, valid, judged, classOf, checkedStrings, classStrings}
 use Rattle.packet.proofs.Inbox.{inbox-bodies}
 use Rattle.packet.proofs.Reading.{fields-of, read-empty}
 use Rattle.packet.proofs.Class.{passing, rewritten}
@@ -33,11 +34,11 @@ use Rattle.party.specs.declared.Party.{Party}
 use Rattle.party.proofs.Kept.{message-bit, message-first, message-second, share-second}
 use Rattle.party.proofs.Ways.{Way, on, off, way}
 use Rattle.party.proofs.Checks.{took, finds, in-relays, gathered-at, gathered-length}
-use Rattle.agreement.specs.Calls.{Call, agreeBit, takeShares, takeRelays, inboxIn, Event, entry, heard, wrote, bitGiven, lengths, checkedIn, recodedIn}
-use Rattle.agreement.specs.Calls.{firstOf, resultAfter, openedAndChecked, recoded, sentBy}
-use Rattle.agreement.specs.Agreement.{Good, step, OpenedAll, CalledAll, allOpenedAndChecked}
+use Rattle.agreement.specs.Calls.{Call, agreeRoot, agreeBit, takeShares, takeRelays, inboxIn, Event, entry, heard, wrote, bitGiven, lengths, checkedIn, recodedIn}
+use Rattle.agreement.specs.Calls.{opening, firstOf, resultAfter, openedAndChecked, recoded, sentBy}
+use Rattle.agreement.specs.Agreement.{Good, Each, step, Rule, OpenedAll, CalledAll, allOpenedAndChecked}
 use Rattle.agreement.proofs.Ran.{Ran, ran-none, ran-through, bit-given, bit-small}
-use Rattle.agreement.proofs.Lists.{lengths-none, in-join}
+use Rattle.agreement.proofs.Lists.{lengths-none, in-join, find}
 use Rattle.agreement.proofs.Needed.{glad, relayFrom, Needs, coding, check, Needed}
 
 module _ (H : List ℕ → List ℕ) (n t i : ℕ) (m : List ℕ) (calls : List Call) (z : List ℕ) where
@@ -47,6 +48,20 @@ module _ (H : List ℕ → List ℕ) (n t i : ℕ) (m : List ℕ) (calls : List 
   -- the shares in the relays that pass, by number
   abbrev pub sharesIn : List (List ℕ)
   sharesIn = tabulate n (λ k. shareFrom (classOf H n (1 + k) z (relayFrom H n t i m calls (1 + k))))
+
+  -- each is a share of M or missing, where no relay that passes has another
+  pub shares-or : (b : ℕ) (M : List ℕ) → ((j : ℕ) (x : List ℕ) (p : List (List ℕ)) → classOf H n j z (relayFrom H n t i m calls j) ≡ valid x p
+      → x ≡ share b j M) → (k : ℕ) → k < n → (getD sharesIn k [] ≡ []) ⊎ (getD sharesIn k [] ≡ share b (1 + k) M)
+  shares-or b M only k l = go (classOf H n (1 + k) z (relayFrom H n t i m calls (1 + k))) refl
+    where
+      at : getD sharesIn k [] ≡ shareFrom (classOf H n (1 + k) z (relayFrom H n t i m calls (1 + k)))
+      at = getD-tabulate n _ k [] l
+
+      go : (c : Class) → classOf H n (1 + k) z (relayFrom H n t i m calls (1 + k)) ≡ c
+          → (getD sharesIn k [] ≡ []) ⊎ (getD sharesIn k [] ≡ share b (1 + k) M)
+      go silent v = inl (at ∙ ap shareFrom v)
+      go faulty v = inl (at ∙ ap shareFrom v)
+      go (valid x p) v = inr (at ∙ ap shareFrom v ∙ only (1 + k) x p v)
 
   pub record Conduct : Type 0 where
     pub result : Result
@@ -65,9 +80,10 @@ module _ (H : List ℕ → List ℕ) (n t i : ℕ) (m : List ℕ) (calls : List 
     pub rebuilds : glad H n t m z ≡ false → result ≡ rebuilt (underRoot H n t z (recovered (n - t) (present 1 sharesIn)))
     pub recodes : glad H n t m z ≡ false → (s : List ℕ) → List·Memᴰ s (recodedStrings H n t (recovered (n - t) (present 1 sharesIn)))
         → List·Memᴰ s (recoded H n t i m calls)
-    -- what the call that ended it found in its inbox
-    pub ended : glad H n t m z ≡ false → (e : Event) → firstOf H n t i m calls 5 ≡ some e → (e .before .seat ≡ seatOf n t i) × (e .before .root ≡ z)
-        × (recoveredBy H (e .before) (inboxIn (e .call)) ≡ recovered (n - t) (present 1 sharesIn))
+    -- the state that the call which ended it got, and what that call found in its inbox
+    pub ended : (e : Event) → firstOf H n t i m calls 5 ≡ some e → (e .before .seat ≡ seatOf n t i) × (e .before .root ≡ z)
+        × (happy H (e .before) ≡ glad H n t m z)
+        × (glad H n t m z ≡ false → recoveredBy H (e .before) (inboxIn (e .call)) ≡ recovered (n - t) (present 1 sharesIn))
 
 module _ (H : List ℕ → List ℕ) (n t i : ℕ) (m z : List ℕ) where
   abbrev X1 : Party
@@ -277,25 +293,42 @@ module _ (H : List ℕ → List ℕ) (n t i : ℕ) (m z : List ℕ) where
               ∙ ap (λ (l : List (List ℕ)). rebuilt (underRoot H n t z (recovered (n - t) (present 1 l)))) shares-is;
           recodes = λ u s h. r .in-again s (subst (List·Memᴰ s) (sym (recoded-is u (r .in4) (r .in5)
               ∙ ap (λ (l : List (List ℕ)). recodedStrings H n t (recovered (n - t) (present 1 l))) shares-is)) h);
-          ended = λ u e f. let k = r .ended e f in (
+          ended = λ e f. let k = r .ended e f in (
             ap (λ (x : Party). x .seat) (k .0),
             ap (λ (x : Party). x .root) (k .0),
-            ap₂ (recoveredBy H) (k .0) (k .1) ∙ recovered-is u (r .in4) (r .in5)
+            ap (happy H) (k .0) ∙ happy-second (heldOf H X2 (r .in4)),
+            λ u. ap₂ (recoveredBy H) (k .0) (k .1) ∙ recovered-is u (r .in4) (r .in5)
                 ∙ ap (λ (l : List (List ℕ)). recovered (n - t) (present 1 l)) shares-is,
           );
         }
 
+-- the bit that a good party put in, by its opening and its step 2; so where the bit is 1, some good party is happy
+module _ (H : List ℕ → List ℕ) (n t : ℕ) (good : List Good) (z : List ℕ)
+    (opened : Each H n t good (λ A. opening H n t (A .own) (A .message) .cause ≡ 0))
+    (told : Each H n t good (λ A. (e : Event) × (step H n t good 2 A ≡ some e) × (e .call ≡ agreeRoot z))) where
+  abbrev pub isGlad : Good → Bool
+  isGlad A = glad H n t (A .message) z
+
+  pub voted : Each H n t good (λ A. bitGiven (step H n t good 2 A) ≡ some (cond (isGlad A) 1 0))
+  voted A h =
+      let r = told A h in
+      bit-given H n t (A .own) (A .message) (A .calls) z (opened A h) (r .0) (r .1) (r .2)
+      ∙ ap {B = Option ℕ} (λ (g : Bool). some (cond g 1 0)) (happy-bit H n t (A .own) (A .message) z)
+
+  pub someone : (bit : ℕ) → Rule H n t good (λ A. bitGiven (step H n t good 2 A)) bit → bit ≡ 1
+      → (A : Good) × List·Memᴰ A good × (isGlad A ≡ true)
+  someone bit vote b1 = go (find isGlad good)
+    where
+      go : ((A : Good) × List·Memᴰ A good × (isGlad A ≡ true)) ⊎ ((A : Good) → List·Memᴰ A good → isGlad A ≡ false)
+          → (A : Good) × List·Memᴰ A good × (isGlad A ≡ true)
+      go (inl a) = a
+      go (inr f) =
+          let zero-bit : bit ≡ 0 = vote 0 (λ A h. voted A h ∙ ap {B = Option ℕ} (λ (g : Bool). some (cond g 1 0)) (f A h)) in
+          absurd (omega arith)
+
 -- every good party, by its number, message and calls
 module _ (H : List ℕ → List ℕ) (n t : ℕ) (good : List Good) (z : List ℕ) (bit : ℕ) (opened : OpenedAll H n t good)
     (called : CalledAll H n t good z bit) (A : Good) (h : List·Memᴰ A good) where
-  -- the bit that it put in
-  pub vote-given : bitGiven (step H n t good 2 A) ≡ some (cond (glad H n t (A .message) z) 1 0)
-  vote-given =
-      let r = called .step2 A h in
-      let b = called .step3 A h in
-      bit-given H n t (A .own) (A .message) (A .calls) z (opened .accepted A h) (r .0) (b .0) bit (b .1) (r .1) (r .2) (b .2) (b .3)
-      ∙ ap {B = Option ℕ} (λ (g : Bool). some (cond g 1 0)) (happy-bit H n t (A .own) (A .message) z)
-
   pub bit-low : bit ≤ 1
   bit-low =
       let r = called .step2 A h in

@@ -249,16 +249,23 @@ module _ (H : List ℕ → List ℕ) (n t i : ℕ) (m : List ℕ) (calls : List 
   did-chain = subst (λ (l : List Event). Chain H (atRoot (seatOf n t i) m) l (final H (atRoot (seatOf n t i) m) calls)) (sym did-is) (chain H (atRoot (seatOf n t i) m) calls)
 
 module _ (H : List ℕ → List ℕ) (n t i : ℕ) (m : List ℕ) (calls : List Call) (z : List ℕ) (o : opening H n t i m .cause ≡ 0) where
+  -- the bit that step 2 gave
+  pub bit-given : (e2 : Event) → firstOf H n t i m calls 2 ≡ some e2 → e2 .call ≡ agreeRoot z
+      → bitGiven (firstOf H n t i m calls 2) ≡ some (cond (happy H (atBit (seatOf n t i) m z)) 1 0)
+  unfolding first atRoot
+  bit-given e2 f2 c2 =
+      let x0 : Party = atRoot (seatOf n t i) m in
+      let h = did-chain H n t i m calls o in
+      let y2 = accepted-at H 2 x0 (fin H n t i m calls o) (did H n t i m calls) e2 (agreeRoot z) refl h f2 c2 in
+      let a = advance H 2 x0 (fin H n t i m calls o) (did H n t i m calls) e2 (agreeRoot z) (reply2 H n t i m z) refl h f2 c2
+      (did2 H x0 z y2 .1 ∙ is2 H n t i m z) in
+      ap (λ (l : List Event). bitGiven (first 2 l)) (a .1)
+
   module _ (e2 e3 : Event) (bit : ℕ) (out : List ℕ) (f2 : firstOf H n t i m calls 2 ≡ some e2) (c2 : e2 .call ≡ agreeRoot z)
       (f3 : firstOf H n t i m calls 3 ≡ some e3) (c3 : e3 .call ≡ agreeBit bit out) where
     pub begun : (rest : List Event) × (did H n t i m calls ≡ ev2 H n t i m z ∷ ev3 H n t i m z bit out ∷ rest) × (bit ≤ 1)
         × Chain H (cond (eqb bit 0) (atEnd (seatOf n t i) nothing) (atFirst (seatOf n t i) m z)) rest (fin H n t i m calls o)
     begun = two H n t i m z (fin H n t i m calls o) (did H n t i m calls) e2 e3 bit out (did-chain H n t i m calls o) f2 c2 f3 c3
-
-    -- the bit that step 2 gave
-    pub bit-given : bitGiven (firstOf H n t i m calls 2) ≡ some (cond (happy H (atBit (seatOf n t i) m z)) 1 0)
-    unfolding first
-    bit-given = rw (begun .1)
 
     pub bit-small : bit ≤ 1
     bit-small = begun .2
