@@ -7,4 +7,5 @@ pub mod Needed
 pub mod Conduct
 pub mod Depends
 pub mod Agreement
+pub mod AgreedRoot
 pub mod Instances
