@@ -1,7 +1,7 @@
 -- Every value fits the lower half of an answer: what a step writes, a message, the shares of one, what is asked of a state. By the limits.
 -- Assumes nothing.
 use mathlib.Core.Path.{_≡_, refl, sym, subst}
-use mathlib.Core.Bool.{Bool, true, false, cond, not}
+use mathlib.Core.Bool.{Bool, true, false, cond}
 use mathlib.Core.List.{List, []}
 use Prim.Native.Nat.{ℕ, _-_, _*_, _/_, _%_, _^_, _<_, _≤_}
 use native.Mathlib.Nat.{mul-le-mul-right, mul-le-mul-left}
@@ -13,11 +13,10 @@ use lib.ListN.{length, length-take}
 use Rattle.limits.specs.Limits.{maxParties, maxMessage, maxShare, groupCause}
 use Rattle.limits.proofs.Group.{group-of}
 use Rattle.buffer.specs.Splice.{spliced}
-use Rattle.buffer.specs.Entries.{fills, bodies}
-use Rattle.buffer.specs.Given.{gave, written}
+use Rattle.buffer.specs.Given.{Given, gave, written}
 use Rattle.buffer.specs.declared.Written.the-variants as given
 use Rattle.erasure.specs.Coding.{shareLength, shares, encodeOf}
-use Rattle.erasure.specs.Rebuild.{Recovered, cause, message, present, recovered, answered, rebuildOf}
+use Rattle.erasure.specs.Rebuild.{Recovered, cause, message, answered, rebuildOf}
 use Rattle.erasure.proofs.Frame.{share-most}
 use Rattle.commitment.specs.Private.{Coded}
 use Rattle.commitment.specs.Rooms.{maxPacket, maxOutbox}
@@ -34,7 +33,10 @@ use Rattle.party.proofs.Kept.{take-padded}
 use Rattle.party.proofs.Outcomes.{root-refused, root-given}
 use Rattle.party.proofs.Progress.{result-short}
 use Rattle.party.proofs.Rooms.{outbox-fits, relay-fits}
-use Rattle.party.proofs.Taking.{Short, short-recovered}
+use Rattle.erasure.proofs.Outcomes.{rebuild-refused}
+use Rattle.commitment.specs.Rebuild.{underRoot, rebuildWithRootOf}
+use Rattle.commitment.proofs.Rebuild.{Short, short-under, entriesFound, short-entries, rebuild-entries}
+use Rattle.commitment.proofs.Rebuild.{with-root-refused, with-root-wide, with-root-entries}
 use Rattle.agreement.specs.Calls.{Call, agreeRoot, agreeBit, takeShares, takeRelays, made}
 use Rattle.capi.specs.Calls.{packed, valueShown, numberOf}
 use Rattle.capi.proofs.Answers.{value-fits}
@@ -201,21 +203,28 @@ encode-small n t m out = elim (ℕ-discrete (groupCause n t) 0) [
         omega (arith, value-of (shares n (n - t) m) out, fits e (ltb-false maxMessage (length m) q))
 
 -- a message rebuilt
+abbrev Below : Given → Type 0
+Below g = g .value < 2 ^ 32
+
 answered-small : (r : Recovered) (out : List ℕ) → Short r → answered r out .value < 2 ^ 32
 answered-small (cause k) out h = omega arith
 answered-small (message m) out h = omega (arith, value-of m out, h)
 
 pub rebuild-small : (n t : ℕ) (es out : List ℕ) → rebuildOf n t es out .value < 2 ^ 32
-unfolding rebuildOf
 rebuild-small n t es out = elim (ℕ-discrete (groupCause n t) 0) [
-  | yes e ↦ rw (eq-eqb (groupCause n t) 0 e) (go (fills n es))
-  | no e ↦ rw (ne-eqb (groupCause n t) 0 e) (omega arith)
+  | yes e ↦ subst Below (sym (rebuild-entries n t es out e)) (answered-small (entriesFound n t es) out (short-entries n t es))
+  | no e ↦ subst Below (sym (rebuild-refused n t es out e)) (omega arith)
 ]
-  where
-    go : (b : Bool) → cond (not b) (gave (given.Refused 8) out) (answered (recovered (n - t) (present 1 (bodies n es))) out) .value < 2 ^ 32
-    go false = omega arith
-    go true =
-        answered-small (recovered (n - t) (present 1 (bodies n es))) out (short-recovered (n - t) (present 1 (bodies n es)))
+
+pub with-root-small : (H : List ℕ → List ℕ) (n t : ℕ) (z es out : List ℕ) → rebuildWithRootOf H n t z es out .value < 2 ^ 32
+with-root-small H n t z es out = elim (ℕ-discrete (groupCause n t) 0) [
+  | yes e ↦ elim (ℕ-discrete (length z) 32) [
+    | yes w ↦ subst Below (sym (with-root-entries n t es out H z e w))
+        (answered-small (underRoot H n t z (entriesFound n t es)) out (short-under H n t z (entriesFound n t es) (short-entries n t es)))
+    | no w ↦ subst Below (sym (with-root-wide n t es out H z e w)) (omega arith)
+  ]
+  | no e ↦ subst Below (sym (with-root-refused n t es out H z e)) (omega arith)
+]
 
 -- a digest
 pub digest-small : (d out : List ℕ) → length d ≡ 32 → written d out .value < 2 ^ 32
