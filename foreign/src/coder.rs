@@ -13,7 +13,7 @@ pub enum Answer {
 }
 
 /// Cause 1 or 2, if one applies.
-fn bad_parties(n: usize, t: usize) -> Option<u32> {
+pub(crate) fn bad_parties(n: usize, t: usize) -> Option<u32> {
     if !(1..=MOST_PARTIES).contains(&n) {
         return Some(1);
     }
@@ -67,7 +67,7 @@ pub fn encode(n: usize, t: usize, message: &[u8], out: &mut [u8]) -> Answer {
 }
 
 /// Copies `bytes` to the start of `out`, if they have room there.
-fn place(bytes: &[u8], out: &mut [u8]) -> Answer {
+pub(crate) fn place(bytes: &[u8], out: &mut [u8]) -> Answer {
     if out.len() < bytes.len() {
         return Answer::Short(bytes.len());
     }
@@ -83,7 +83,8 @@ pub fn rebuild(n: usize, t: usize, entries: &[u8], out: &mut [u8]) -> Answer {
     }
 }
 
-fn find_message(n: usize, t: usize, entries: &[u8]) -> Result<Vec<u8>, u32> {
+/// That message, or why there is none: causes 1, 2, 8, 11 and 12.
+pub fn find_message(n: usize, t: usize, entries: &[u8]) -> Result<Vec<u8>, u32> {
     if let Some(cause) = bad_parties(n, t) {
         return Err(cause);
     }

@@ -87,7 +87,7 @@ impl Lie {
 /// No lie has more bytes: a huge one may stand behind a good packet.
 pub const LONGEST_LIE: usize = 3 * LONGEST_PACKET;
 
-/// The shares of a message, or of any frame, and the root over them.
+/// The shares of a message, of any frame or of none, and the root over them.
 pub struct Sharing {
     pub shares: Vec<Vec<u8>>,
     pub root: Hash,
@@ -99,9 +99,26 @@ impl Sharing {
     }
 
     pub fn of_frame(n: usize, t: usize, frame: &[u8]) -> Sharing {
-        let shares = shares_of(n, n - t, frame);
+        Sharing::over(shares_of(n, n - t, frame))
+    }
+
+    pub fn over(shares: Vec<Vec<u8>>) -> Sharing {
         let root = tree::root(&shares);
         Sharing { shares, root }
+    }
+
+    /// Shares that no message has, though any b of them give one: of a message's shares one to t
+    /// have their last byte changed, where the frame holds neither its length nor filling. t is
+    /// over 0.
+    pub fn no_codeword(n: usize, t: usize, random: &mut Random) -> Sharing {
+        let s = 3 + random.below(4);
+        let mut shares = Sharing::of(n, t, &random.bytes((n - t) * s - 2)).shares;
+        let count = 1 + random.below(t);
+        let changed = random.choice(n, count);
+        for place in (0..n).filter(|place| changed >> place & 1 == 1) {
+            shares[place][s - 1] ^= 1 + random.below(255) as u8;
+        }
+        Sharing::over(shares)
     }
 
     fn share(&self, j: usize) -> &[u8] {
@@ -281,6 +298,9 @@ pub fn flip(bytes: &mut [u8], random: &mut Random) {
 #[cfg(test)]
 mod tests {
     use super::*;
+    use crate::coder::find_message;
+    use crate::commitment;
+    use crate::inbox::lay_out;
     use crate::packet::{classify, Standing};
 
     /// Whether what came this way is taken as a valid share.
@@ -311,6 +331,23 @@ mod tests {
                         assert_eq!(packet.len() > LONGEST_PACKET, lie == Lie::Huge);
                     }
                 }
+            }
+        }
+    }
+
+    #[test]
+    fn any_b_shares_of_no_codeword_give_a_message_with_another_root() {
+        let mut random = Random::new(2);
+        for (n, t) in [(3, 1), (4, 1), (5, 2), (7, 3), (9, 4), (12, 1)] {
+            let sharing = Sharing::no_codeword(n, t, &mut random);
+            for map in (0..1u32 << n).filter(|map| map.count_ones() as usize == n - t) {
+                let kept = (0..n).map(|place| match map >> place & 1 {
+                    1 => &sharing.shares[place][..],
+                    _ => &[],
+                });
+                let message = find_message(n, t, &lay_out(&kept.collect::<Vec<_>>()));
+                let message = message.expect("a message");
+                assert_ne!(commitment::root(n, t, &message), sharing.root);
             }
         }
     }

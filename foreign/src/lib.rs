@@ -3,6 +3,7 @@
 //! proved implementation is compared. docs/REFERENCE.md tells the same; its examples are run here.
 
 pub mod coder;
+pub mod commitment;
 pub mod examples;
 pub mod field;
 pub mod inbox;

@@ -1,7 +1,8 @@
 //! One party: its state, its opening and steps 2 to 5. A step takes the state apart into
 //! lawful values, works on those, and builds the next state anew.
 
-use crate::coder::{frame_of, rebuild, shares_of, Answer};
+use crate::coder::{find_message, frame_of, shares_of};
+use crate::commitment;
 use crate::inbox::{entries, lay_out};
 use crate::limits::{LONGEST_MESSAGE, LONGEST_SHARE, MOST_PARTIES};
 use crate::packet::{self, classify, Standing};
@@ -23,6 +24,17 @@ pub enum Stage {
     First,
     Second,
     Ended(Outcome),
+}
+
+/// What the shares that an unhappy party gathered for step 5 give.
+#[derive(Clone, Debug, PartialEq, Eq)]
+pub enum Rebuilt {
+    /// A message with the agreed root, with which the party ends.
+    Message(Vec<u8>),
+    /// A message with another root; the party ends with nothing.
+    OtherRoot(Vec<u8>),
+    /// No message, by cause 11 or 12.
+    Refused(u32),
 }
 
 /// The state that a caller keeps between the steps; anything at all may stand in it.
@@ -196,8 +208,10 @@ impl State {
             let senders = entries(party.n, inbox)?;
             let found = if party.happy() {
                 Some(party.message.clone())
+            } else if let Rebuilt::Message(message) = party.rebuilt(&senders) {
+                Some(message)
             } else {
-                party.rebuilt(&senders)
+                None
             };
             party.end(found, out)
         })
@@ -226,6 +240,12 @@ impl State {
     pub fn gathered(&self, inbox: &[u8]) -> Option<Vec<Vec<u8>>> {
         let (party, senders) = self.unhappy(inbox)?;
         Some(party.gathered(&senders))
+    }
+
+    /// What step 5 rebuilds from them; none for a happy party, which codes nothing again.
+    pub fn rebuilt(&self, inbox: &[u8]) -> Option<Rebuilt> {
+        let (party, senders) = self.unhappy(inbox)?;
+        Some(party.rebuilt(&senders))
     }
 
     /// The values of a lawful, unhappy state, with the packets in its inbox.
@@ -281,7 +301,7 @@ impl Party {
     }
 
     fn own_root(&self) -> Hash {
-        tree::root(&self.shares())
+        commitment::root(self.n, self.t, &self.message)
     }
 
     fn happy(&self) -> bool {
@@ -321,14 +341,16 @@ impl Party {
             .collect()
     }
 
-    /// The message in what was gathered.
-    fn rebuilt(&self, senders: &[&[u8]]) -> Option<Vec<u8>> {
-        let present = self.gathered(senders);
-        let mut message = vec![0; LONGEST_MESSAGE];
-        match rebuild(self.n, self.t, &lay_out(&present), &mut message) {
-            Answer::Done(length) => Some(message[..length].to_vec()),
-            Answer::Refused(11 | 12) => None,
-            other => panic!("a lawful rebuild answers {other:?}"),
+    /// The message in what was gathered, held to the agreed root.
+    fn rebuilt(&self, senders: &[&[u8]]) -> Rebuilt {
+        let entries = lay_out(&self.gathered(senders));
+        match find_message(self.n, self.t, &entries) {
+            Ok(message) if commitment::root(self.n, self.t, &message) == self.root => {
+                Rebuilt::Message(message)
+            }
+            Ok(message) => Rebuilt::OtherRoot(message),
+            Err(cause @ (11 | 12)) => Rebuilt::Refused(cause),
+            Err(other) => panic!("a lawful rebuild has cause {other}"),
         }
     }
 
@@ -389,7 +411,10 @@ impl Party {
 #[cfg(test)]
 mod tests {
     use super::*;
+    use crate::liars::Sharing;
     use crate::limits::{LONGEST_OUTBOX, MOST_FAULTS};
+    use crate::random::Random;
+    use std::collections::BTreeSet;
 
     const LENT: u8 = 0xA5;
 
@@ -661,5 +686,87 @@ mod tests {
             assert_eq!(state.held, if taken { 2 } else { 0 });
             assert_eq!(state.share[..2], if taken { [0x82, 0x86] } else { [0, 0] });
         }
+    }
+
+    /// An unhappy party before step 5, which the next one has sent its share.
+    fn unhappy((n, t): (usize, usize), own: usize, agreed: &Sharing) -> State {
+        let (state, _) = State::open(n as u64, t as u64, own as u64, b"no");
+        let (state, bit) = state.agree_root(&agreed.root);
+        assert_eq!(bit, Ok(false));
+        let (state, _) = wrote(|out| state.agree_bit(1, out));
+        let mut inbox = vec![Vec::new(); n];
+        inbox[own % n] = agreed.packet(own);
+        wrote(|out| state.take_shares(&lay_out(&inbox), out)).0
+    }
+
+    /// Every such party with every inbox that has just enough relays.
+    fn before_step_5((n, t): (usize, usize), agreed: &Sharing) -> Vec<(State, Vec<u8>)> {
+        let mut found = Vec::new();
+        for own in 1..=n {
+            let others = (0..1u32 << n).filter(|map| map >> (own - 1) & 1 == 0);
+            for map in others.filter(|map| map.count_ones() as usize == n - t - 1) {
+                let packets = (1..=n).map(|j| match map >> (j - 1) & 1 {
+                    1 => agreed.packet(j),
+                    _ => Vec::new(),
+                });
+                let inbox = lay_out(&packets.collect::<Vec<_>>());
+                found.push((unhappy((n, t), own, agreed), inbox));
+            }
+        }
+        found
+    }
+
+    #[test]
+    fn a_message_is_rebuilt_under_its_root() {
+        for group in [(2, 0), (3, 1), (5, 2), (6, 2)] {
+            let agreed = Sharing::of(group.0, group.1, b"message");
+            for (state, inbox) in before_step_5(group, &agreed) {
+                let message = Rebuilt::Message(b"message".to_vec());
+                assert_eq!(state.rebuilt(&inbox), Some(message));
+                let short_of_room = state.clone().take_relays(&inbox, &mut [LENT; 6]);
+                assert_eq!(short(short_of_room), (9, 7));
+                assert_eq!(result(state, &inbox), Some(b"message".to_vec()));
+            }
+        }
+    }
+
+    /// The shares under the agreed root are no message's, so that from each b of them another one is
+    /// rebuilt: parties who took these would not end alike. They end with nothing, with any room.
+    #[test]
+    fn a_message_with_another_root_is_not_taken() {
+        let mut random = Random::new(5);
+        for group in [(3, 1), (4, 1), (5, 2), (6, 2)] {
+            let agreed = Sharing::no_codeword(group.0, group.1, &mut random);
+            let mut messages = BTreeSet::new();
+            for (state, inbox) in before_step_5(group, &agreed) {
+                let Some(Rebuilt::OtherRoot(message)) = state.rebuilt(&inbox) else {
+                    panic!("no message with another root");
+                };
+                for room in [0, message.len() - 1, message.len()] {
+                    let mut out = vec![LENT; room];
+                    let (ended, answer) = state.clone().take_relays(&inbox, &mut out);
+                    assert_eq!(answer, Ok(None));
+                    assert_eq!(ended.stage, Stage::Ended(Outcome::Nothing));
+                    assert_eq!(out, vec![LENT; room]);
+                }
+                assert_eq!(result(state, &inbox), None);
+                messages.insert(message);
+            }
+            assert!(messages.len() > 1);
+        }
+    }
+
+    /// Fewer relays than are needed, and shares of no frame.
+    #[test]
+    fn what_gives_no_message_is_told() {
+        let agreed = Sharing::of_frame(5, 2, &[0; 9]);
+        for (state, inbox) in before_step_5((5, 2), &agreed) {
+            assert_eq!(state.rebuilt(&inbox), Some(Rebuilt::Refused(12)));
+            assert_eq!(state.rebuilt(&[0; 10]), Some(Rebuilt::Refused(11)));
+            assert_eq!(result(state, &inbox), None);
+        }
+        let (state, root) = State::open(3, 1, 1, b"A");
+        let happy = state.agree_root(&root.unwrap()).0;
+        assert_eq!(happy.rebuilt(&[0; 6]), None);
     }
 }

@@ -5,7 +5,7 @@
 
 use crate::inbox::{entries, lay_out};
 use crate::limits::{LONGEST_MESSAGE, LONGEST_OUTBOX, LONGEST_PLAN, MOST_NAMED, MOST_PARTIES};
-use crate::party::{Given, Outcome, Stage, State};
+use crate::party::{Given, Outcome, Rebuilt, Stage, State};
 use crate::sha256::{hex, Hash};
 
 /// The option that a root is given, and the option that a bit is.
@@ -105,6 +105,8 @@ pub struct Takings {
     pub sources: Vec<Option<usize>>,
     /// The shares an unhappy party rebuilt from, by number, with no bytes for missing ones.
     pub gathered: Vec<Option<Vec<Vec<u8>>>>,
+    /// What these gave.
+    pub rebuilt: Vec<Option<Rebuilt>>,
 }
 
 /// What the rehearsal prints for a plan.
@@ -355,10 +357,17 @@ fn exchanged(states: Vec<State>, plan: &mut Plan) -> (Vec<State>, Takings) {
     let places = with_inboxes(states, &plan.good, &plan.second);
     let gathered = places.iter().map(|(state, inbox)| state.gathered(inbox));
     let gathered = gathered.collect();
+    let rebuilt = places.iter().map(|(state, inbox)| state.rebuilt(inbox));
+    let rebuilt = rebuilt.collect();
     let (states, _) = each(places, |(state, inbox)| {
         state.take_relays(&inbox, &mut [0; LONGEST_MESSAGE])
     });
-    (states, Takings { sources, gathered })
+    let takings = Takings {
+        sources,
+        gathered,
+        rebuilt,
+    };
+    (states, takings)
 }
 
 /// Does one step of each party, none of which is refused.
@@ -711,6 +720,8 @@ mod tests {
         let gathered = takings.gathered[1].as_ref().expect("unhappy");
         let present = gathered.iter().map(|share| !share.is_empty());
         assert!(present.eq([false, true, true, true, true]));
+        let message = Some(Rebuilt::Message(b"A".to_vec()));
+        assert_eq!(takings.rebuilt, [None, message.clone(), message, None]);
         assert_eq!(takings.gathered[0], None);
     }
 
