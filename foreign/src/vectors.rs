@@ -7,6 +7,7 @@
 //! what the parts of each kind are.
 
 pub mod coder;
+pub mod commitment;
 pub mod packet;
 pub mod party;
 pub mod plans;
@@ -14,6 +15,7 @@ pub mod tree;
 
 use std::io::{Result, Write};
 
+use crate::coder::Answer as Written;
 use crate::limits::{MOST_FAULTS, MOST_PARTIES};
 
 #[derive(Clone, Copy, Debug, PartialEq, Eq, PartialOrd, Ord)]
@@ -24,6 +26,7 @@ pub enum Kind {
     Powers,
     Encode,
     Rebuild,
+    RebuildWithRoot,
     Hashes,
     Trees,
     Checks,
@@ -121,10 +124,23 @@ pub enum Answer {
     Refused(u32),
 }
 
+/// What comes of a call that was lent a buffer: the answer, and the buffer, in which every byte past
+/// those written is untouched.
+fn lent(answer: Written, out: &[u8]) -> Part {
+    let (told, written) = match answer {
+        Written::Refused(cause) => (Answer::Refused(cause), 0),
+        Written::Short(length) => (Answer::Short(length), 0),
+        Written::Done(length) => (Answer::Done(length), length),
+    };
+    assert!(out[written..].iter().all(|&x| x == UNTOUCHED));
+    Part::new().answer(told).bytes(out)
+}
+
 /// The whole stream's cases.
 pub fn all() -> impl Iterator<Item = Case> {
     coder::cases()
         .into_iter()
+        .chain(commitment::cases())
         .chain(tree::cases())
         .chain(packet::cases())
         .chain(party::cases())
@@ -138,9 +154,10 @@ const CALLS: std::ops::RangeInclusive<u8> = Kind::Openings as u8..=Kind::BytesCh
 fn around(number: u8) -> Vec<Case> {
     match number {
         1..=5 => coder::cases(),
-        6..=9 => tree::cases(),
-        10..=13 => packet::cases(),
-        14..=21 => party::cases(),
+        6 => commitment::cases(),
+        7..=10 => tree::cases(),
+        11..=14 => packet::cases(),
+        15..=22 => party::cases(),
         _ => plans::cases(Some(3), 1).collect(),
     }
 }
@@ -187,7 +204,7 @@ mod tests {
 
     #[test]
     fn one_case_is_wrong() {
-        for numbers in [1..=5, 6..=9, 10..=13, 14..=21, 22..=22] {
+        for numbers in [1..=5, 6..=6, 7..=10, 11..=14, 15..=22, 23..=23] {
             let cases = around(*numbers.start());
             for number in numbers {
                 let right = |case: &Case| cases.contains(case);

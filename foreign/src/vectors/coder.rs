@@ -9,18 +9,18 @@
 //! Messages and entries are at most twice as long as an entry may be, buffers twice as long as all
 //! shares of a message.
 
-use super::{Case, Kind, Part, FAR, GREATEST, UNTOUCHED};
+use super::{lent, Case, Kind, Part, FAR, GREATEST, UNTOUCHED};
 use crate::coder::{self, frame_of, share_length, shares_of, Answer, Answer::*};
 use crate::field;
 use crate::limits::{INSIDE, LONGEST_ENTRY, LONGEST_MESSAGE, LONGEST_SHARE, LONGEST_SHARES};
 use crate::limits::{MOST_FAULTS, MOST_PARTIES};
 use crate::random::Random;
 
-const MOST_INPUT: usize = 2 * LONGEST_ENTRY;
-const MOST_ROOM: usize = 2 * LONGEST_SHARES;
+pub(super) const MOST_INPUT: usize = 2 * LONGEST_ENTRY;
+pub(super) const MOST_ROOM: usize = 2 * LONGEST_SHARES;
 
 /// Pairs n, t on which wrongly made frames are tried.
-const CHOSEN: [(usize, usize); 10] = [
+pub(super) const CHOSEN: [(usize, usize); 10] = [
     (1, 0),
     (2, 0),
     (3, 0),
@@ -33,7 +33,7 @@ const CHOSEN: [(usize, usize); 10] = [
     GREATEST,
 ];
 
-type Shares = Vec<Vec<u8>>;
+pub(super) type Shares = Vec<Vec<u8>>;
 type Call = fn(usize, usize, &[u8], &mut [u8]) -> Answer;
 
 /// The cases so far, and the source of randomness.
@@ -59,18 +59,15 @@ impl File {
         };
         let mut out = vec![UNTOUCHED; room];
         let answer = call(n, t, input, &mut out);
-        let (told, written) = match answer {
-            Refused(cause) => (super::Answer::Refused(cause), 0),
-            Short(length) => (super::Answer::Short(length), 0),
-            Done(length) => (super::Answer::Done(length), length),
-        };
-        assert!(out[written..].iter().all(|&x| x == UNTOUCHED));
         self.out.push(Case {
             kind,
             given: Part::new().two(n).two(t).four(room).bytes(input),
-            expected: Part::new().answer(told).bytes(&out),
+            expected: lent(answer, &out),
         });
-        out.truncate(written);
+        out.truncate(match answer {
+            Done(length) => length,
+            _ => 0,
+        });
         (answer, out)
     }
 
@@ -114,7 +111,7 @@ impl File {
 }
 
 /// The entries of n shares, an empty one standing for a missing one.
-fn join(shares: &Shares) -> Vec<u8> {
+pub(super) fn join(shares: &Shares) -> Vec<u8> {
     let mut entries = Vec::new();
     for share in shares {
         entries.extend((share.len() as u16).to_be_bytes());
@@ -124,7 +121,7 @@ fn join(shares: &Shares) -> Vec<u8> {
 }
 
 /// The shares whose bit stands in `map`, the others missing.
-fn keep(shares: &Shares, map: u32) -> Shares {
+pub(super) fn keep(shares: &Shares, map: u32) -> Shares {
     let there = |place: usize| (map >> place) & 1 == 1;
     let pick =
         |(place, share): (usize, &Vec<u8>)| if there(place) { share.clone() } else { vec![] };
@@ -132,12 +129,12 @@ fn keep(shares: &Shares, map: u32) -> Shares {
 }
 
 /// The shares of a message.
-fn coded((n, t): (usize, usize), message: &[u8]) -> Shares {
+pub(super) fn coded((n, t): (usize, usize), message: &[u8]) -> Shares {
     shares_of(n, n - t, &frame_of(n - t, message))
 }
 
 /// A frame of `size` bytes saying `length`, whatever the body has.
-fn framed(length: usize, body: &[u8], size: usize) -> Vec<u8> {
+pub(super) fn framed(length: usize, body: &[u8], size: usize) -> Vec<u8> {
     let mut frame = (length as u16).to_be_bytes().to_vec();
     frame.extend(body);
     frame.resize(size, 0);
@@ -145,7 +142,7 @@ fn framed(length: usize, body: &[u8], size: usize) -> Vec<u8> {
 }
 
 /// Every n and t within the limits, n from `first` to `last`.
-fn pairs(first: usize, last: usize) -> Vec<(usize, usize)> {
+pub(super) fn pairs(first: usize, last: usize) -> Vec<(usize, usize)> {
     (first..=last)
         .flat_map(|n| (0..n.div_ceil(2)).map(move |t| (n, t)))
         .collect()
