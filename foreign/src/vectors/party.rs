@@ -28,6 +28,7 @@ use std::collections::BTreeMap;
 use super::{Answer, Answer::*, Case, Kind, Part, GREATEST, UNTOUCHED};
 use crate::coder::{frame_of, share_length, shares_of};
 use crate::inbox::lay_out;
+use crate::liars::Sharing;
 use crate::limits::{INSIDE, LONGEST_MESSAGE, LONGEST_OUTBOX, LONGEST_SHARE, MOST_PARTIES};
 use crate::packet;
 use crate::party::{Given, Outcome, Refusal, Stage, State};
@@ -69,23 +70,6 @@ enum Place {
     Root,
     Share,
     Inbox,
-}
-
-/// Shares that stand under one root, whether they come from a message or not.
-struct Sharing {
-    shares: Vec<Vec<u8>>,
-    root: Hash,
-}
-
-impl Sharing {
-    fn of(shares: Vec<Vec<u8>>) -> Sharing {
-        let root = tree::root(&shares);
-        Sharing { shares, root }
-    }
-
-    fn packet(&self, j: usize) -> Vec<u8> {
-        packet::write(j, &self.shares[j - 1], &tree::path(&self.shares, j))
-    }
 }
 
 /// Number of a stage, and the length of the message that it ended with.
@@ -583,7 +567,7 @@ impl File {
             Making::SpoiltLast => shares[n - 1][0] ^= 1,
             _ => {}
         }
-        Sharing::of(shares)
+        Sharing::over(shares)
     }
 
     /// A set of this many of the other parties, or of all there are.
@@ -690,7 +674,7 @@ fn forge(file: &mut File, plan: &Plan) {
 /// Agreed roots that differ from the own one in a single bit, each byte's turn: not happy.
 fn near_roots(file: &mut File) {
     file.open(3, 1, 2, b"AB");
-    let own = Sharing::of(shares_of(3, 2, &frame_of(2, b"AB"))).root;
+    let own = Sharing::of(3, 1, b"AB").root;
     for place in 0..own.len() {
         let mut root = own;
         root[place] ^= 1 << file.random.below(8);
@@ -713,7 +697,7 @@ fn end_with(file: &mut File, length: Option<usize>, bit: u8) {
     let message = file.random.bytes(length.unwrap_or(4));
     file.open(n as u64, t as u64, own as u64, &message);
     let root = match length {
-        Some(_) => Sharing::of(shares_of(n, n - t, &frame_of(n - t, &message))).root,
+        Some(_) => Sharing::of(n, t, &message).root,
         None => [7; 32],
     };
     file.call(&Call::Root(root.to_vec()), 0);
@@ -771,8 +755,7 @@ fn soil(file: &mut File, stale: Stale, other: &Sharing) {
         }
         Stale::Happy => {
             let length = (result + 3).min(LONGEST_MESSAGE - 1);
-            let frame = frame_of(n - t, &file.state.message[..length]);
-            let root = Sharing::of(shares_of(n, n - t, &frame)).root;
+            let root = Sharing::of(n, t, &file.state.message[..length]).root;
             file.put(Place::Root, 0, &root);
             file.set(Number::Len, length as u64);
         }
@@ -873,7 +856,7 @@ fn happy(file: &mut File) {
     for (place, (n, t)) in groups().enumerate() {
         let length = some_length(file, n - t);
         let message = file.random.bytes(length);
-        let agreed = Sharing::of(shares_of(n, n - t, &frame_of(n - t, &message)));
+        let agreed = Sharing::of(n, t, &message);
         let own = 1 + file.random.below(n);
         let few = file.random.below(3);
         let plan = Plan {
@@ -1139,10 +1122,8 @@ fn wander(file: &mut File) {
         let message = file.random.bytes(length);
         let own = 1 + file.random.below(n);
         file.open(n as u64, t as u64, own as u64, &message);
-        let frame = frame_of(n - t, &message);
-        let happy = Sharing::of(shares_of(n, n - t, &frame));
         let sharing = match file.once_in(2) {
-            true => happy,
+            true => Sharing::of(n, t, &message),
             false => file.sharing(n, n - t, 7, Making::Honest),
         };
         let count = file.random.below(n + 1);
@@ -1189,7 +1170,7 @@ fn wander_once(file: &mut File, sharing: &Sharing, first: &[u8], second: &[u8]) 
 
 /// The worked cases: two of three parties, whose third is silent, and a party alone.
 fn worked(file: &mut File) {
-    let lowest = Sharing::of(shares_of(3, 2, &frame_of(2, b"A")));
+    let lowest = Sharing::of(3, 1, b"A");
     for (own, message) in [(1, b"A"), (2, b"B")] {
         file.open(3, 1, own, message);
         file.call(&Call::Root(lowest.root.to_vec()), 0);
@@ -1202,8 +1183,7 @@ fn worked(file: &mut File) {
     }
     for message in [&b"AB"[..], b"", &[9; LONGEST_MESSAGE]] {
         file.open(1, 0, 1, message);
-        let frame = frame_of(1, message);
-        let root = Sharing::of(vec![frame]).root;
+        let root = Sharing::of(1, 0, message).root;
         file.call(&Call::Root(root.to_vec()), 0);
         file.short_then_enough(&Call::Bit(1));
         file.short_then_enough(&Call::Shares(vec![0, 0]));
