@@ -31,7 +31,7 @@ use crate::inbox::lay_out;
 use crate::liars::Sharing;
 use crate::limits::{INSIDE, LONGEST_MESSAGE, LONGEST_OUTBOX, LONGEST_SHARE, MOST_PARTIES};
 use crate::packet;
-use crate::party::{Given, Outcome, Refusal, Stage, State};
+use crate::party::{Given, Outcome, Rebuilt, Refusal, Stage, State};
 use crate::random::Random;
 use crate::sha256::{hash, Hash};
 use crate::tree;
@@ -957,6 +957,67 @@ fn no_message(file: &mut File) {
     }
 }
 
+/// Takes an unhappy party up to step 5, with as many senders and, beyond what is just enough with
+/// their shares, so many more relays. Gives its second inbox.
+fn before_relays(
+    file: &mut File,
+    (n, t): (usize, usize),
+    agreed: &Sharing,
+    senders: usize,
+    more: usize,
+) -> Vec<u8> {
+    let own = 1 + file.random.below(n);
+    file.open(n as u64, t as u64, own as u64, b"no");
+    file.call(&Call::Root(agreed.root.to_vec()), 0);
+    file.short_then_enough(&Call::Bit(1));
+    let map = file.others(n, own, senders);
+    let first = file.packets(agreed, own, map, bearing_own);
+    file.short_then_enough(&Call::Shares(lay_out(&first)));
+    let enough = n - t - usize::from(senders > 0);
+    let map = file.others(n, own, enough + more);
+    let second = file.packets(agreed, own, map, bearing_theirs);
+    lay_out(&second)
+}
+
+/// Agreed roots over shares that no message has, though any b of them give one: what is rebuilt has
+/// another root. The party ends with nothing, also where the message would have no room.
+fn other_root(file: &mut File) {
+    for (place, (n, t)) in groups().filter(|it| it.1 > 0).enumerate() {
+        for round in 0..4 {
+            let agreed = Sharing::no_codeword(n, t, &mut file.random);
+            let (senders, more) = [(1, 0), (0, 0), (2, 1), (1, n)][(place + round) % 4];
+            let inbox = before_relays(file, (n, t), &agreed, senders, more);
+            let Some(Rebuilt::OtherRoot(message)) = file.state.rebuilt(&inbox) else {
+                panic!("no message with another root");
+            };
+            let length = message.len();
+            let room = [0, length - 1, length, length + 9][round];
+            file.call(&Call::Relays(inbox), room);
+            assert_eq!(file.state.stage, Stage::Ended(Outcome::Nothing));
+            file.short_then_enough(&Call::Relays(Vec::new()));
+        }
+    }
+}
+
+/// A party whose agreed root is changed before step 5 by a bit, in each byte: the share that it holds
+/// still counts, and is enough with n 1 alone, where what it gives has another root.
+fn changed_root(file: &mut File) {
+    let agreed = Sharing::of(1, 0, b"AB");
+    for place in 0..agreed.root.len() {
+        file.open(1, 0, 1, b"no");
+        file.call(&Call::Root(agreed.root.to_vec()), 0);
+        file.call(&Call::Bit(1), 2);
+        file.call(&Call::Shares(vec![0, 0]), 0);
+        file.put(Place::Share, 0, &agreed.shares[0]);
+        file.set(Number::Held, agreed.shares[0].len() as u64);
+        let byte = agreed.root[place] ^ 1 << file.random.below(8);
+        file.put(Place::Root, place, &[byte]);
+        let room = file.pick(&[0, 1, 2]);
+        file.call(&Call::Relays(vec![0, 0]), room);
+        assert_eq!(file.state.stage, Stage::Ended(Outcome::Nothing));
+    }
+}
+
 /// Packets that are good, but bear another number than is demanded: those that senders are to
 /// relay in the first inbox, and one another's in the second. None of them counts.
 fn swapped(file: &mut File) {
@@ -997,9 +1058,11 @@ fn forged(file: &mut File) {
     }
 }
 
-/// A party alone that was given a stage, a root and a share: the share is the frame itself.
+/// A party alone that was given a stage, a root and a share: the share is the frame itself. The root
+/// is that over the share, or another.
 fn alone(file: &mut File) {
     let over = (LONG as u16).to_be_bytes();
+    let longest = frame_of(1, &file.random.bytes(LONGEST_MESSAGE));
     for share in [
         &[0, 2, 0x41, 0x42][..],
         &[0, 0],
@@ -1007,23 +1070,21 @@ fn alone(file: &mut File) {
         &[0, 1, 7, 0],
         &over,
         &[],
+        &longest,
     ] {
-        file.open(1, 0, 1, b"AB");
-        let root = file.random.bytes(32);
-        file.put(Place::Root, 0, &root);
-        file.put(Place::Share, 0, share);
-        file.set(Number::Held, share.len() as u64);
-        file.set_stage(Stage::Second);
-        file.short_then_enough(&Call::Relays(vec![0, 3, 7, 1, 0]));
-        file.out_of_turn();
+        let right = Sharing::over(vec![share.to_vec()]).root;
+        let mut near = right;
+        near[31] ^= 1;
+        for root in [right, near] {
+            file.open(1, 0, 1, b"no");
+            file.put(Place::Root, 0, &root);
+            file.put(Place::Share, 0, share);
+            file.set(Number::Held, share.len() as u64);
+            file.set_stage(Stage::Second);
+            file.short_then_enough(&Call::Relays(vec![0, 3, 7, 1, 0]));
+            file.out_of_turn();
+        }
     }
-    file.open(1, 0, 1, b"");
-    let frame = frame_of(1, &file.random.bytes(LONGEST_MESSAGE));
-    file.put(Place::Root, 0, &[1]);
-    file.put(Place::Share, 0, &frame);
-    file.set(Number::Held, frame.len() as u64);
-    file.set_stage(Stage::Second);
-    file.short_then_enough(&Call::Relays(vec![0, 0]));
 }
 
 /// Openings refused for each cause alone and with the next ones; every state that they give
@@ -1245,6 +1306,8 @@ pub fn cases() -> Vec<Case> {
     happy(&mut file);
     unhappy(&mut file);
     no_message(&mut file);
+    other_root(&mut file);
+    changed_root(&mut file);
     swapped(&mut file);
     forged(&mut file);
     ended(&mut file);
