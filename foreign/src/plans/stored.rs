@@ -34,6 +34,7 @@ pub fn stored() -> impl Iterator<Item = Made> {
         .chain(KEPT.map(|bytes| laid_out(bytes.to_vec(), vec![])))
         .chain(longest())
         .chain(lengths())
+        .chain(no_codewords())
         .chain(small().map(|bytes| laid_out(bytes, vec![])))
         .chain(small().into_iter().flat_map(damaged))
 }
@@ -198,6 +199,43 @@ fn lengths() -> impl Iterator<Item = Made> {
     })
 }
 
+/// The agreed root is that over shares that no message has, though any b of them give one. The bad
+/// parties hand them out, and relay theirs to some good ones only, who would rebuild other messages
+/// than the rest. Nobody is happy, so that by the rule the bit is 0, and bit 1 is refused.
+fn no_codewords() -> impl Iterator<Item = Made> {
+    let groups = [(3, 1), (4, 1), (5, 2), (7, 3), (9, 4)];
+    groups.into_iter().flat_map(|(n, t)| {
+        [
+            (None, vec![]),
+            (Some(0), vec![]),
+            (Some(1), vec![Damage::BitAgainst]),
+        ]
+        .map(|(bit, damages)| no_codeword((n, t), bit).made(Size::Small, damages))
+    })
+}
+
+fn no_codeword((n, t): (usize, usize), bit: Option<u8>) -> Draft {
+    let mut random = seeded(n, t);
+    let sharing = Sharing::no_codeword(n, t, &mut random);
+    let mut draft = Draft::of(n, t, (1 << t) - 1);
+    draft.messages = (0..n - t).map(|_| random.bytes(5)).collect();
+    draft.root = Some(sharing.root);
+    draft.bit = bit;
+    for (place, &sender) in draft.bad.iter().enumerate() {
+        let mut blocks = [Block::default(), Block::default()];
+        for &receiver in &draft.good {
+            blocks[0].packets.insert(receiver, sharing.packet(receiver));
+        }
+        for &receiver in draft.good.iter().skip(1 + place) {
+            blocks[1].packets.insert(receiver, sharing.packet(sender));
+        }
+        for (exchange, block) in draft.exchanges.iter_mut().zip(blocks) {
+            exchange.push(block);
+        }
+    }
+    draft
+}
+
 /// The sound plans that are damaged in every way: the first worked one, one with root and bit,
 /// and one whose bad party sends the packets that a good one would send.
 fn small() -> [Vec<u8>; 3] {
@@ -322,6 +360,18 @@ mod tests {
         assert_eq!((over.len(), within.len()), (2, 8));
         assert!(over.iter().all(|it| it.damages == [Damage::LongMessage]));
         assert!(within.iter().all(|it| play(&it.bytes).is_ok()));
+    }
+
+    #[test]
+    fn no_message_is_taken_from_shares_that_none_has() {
+        for made in no_codewords() {
+            let output = rehearse(&made.bytes);
+            match made.damages.is_empty() {
+                true => assert_eq!(outcome(&output), "nothing"),
+                false => assert_eq!(output, b"refused 14\n"),
+            }
+        }
+        assert_eq!(no_codewords().count(), 15);
     }
 
     #[test]
