@@ -1,6 +1,7 @@
 //! Field, shares and tree.
 
 use foreign::coder::{self, frame_of, share_length, shares_of, Answer};
+use foreign::commitment::rebuild_with_root;
 use foreign::examples::{bytes, Example};
 use foreign::field::{inv, mul, pow};
 use foreign::limits::{LONGEST_MESSAGE, LONGEST_OUTBOX, LONGEST_STRING, MOST_HASHES};
@@ -62,24 +63,28 @@ pub fn shares(example: &Example) -> Told {
     told
 }
 
-/// The buffer has all room, unless the example says how much.
+/// Rebuilding, with a root if the example has one. The buffer has all room, unless it says how much.
 pub fn rebuilt(example: &Example) -> Told {
     let mut told = Told::default();
+    let has = |name| example.fields.iter().any(|field| field.name == name);
     let (n, t) = (example.number("n"), example.number("t"));
     let entries = example.bytes("entries");
+    let root = has("root").then(|| example.bytes("root"));
+    let room = has("room").then(|| example.number("room"));
     told.add("n", n);
     told.add("t", t);
+    if let Some(root) = &root {
+        told.bytes("root", root);
+    }
     told.add("entries", example.value("entries"));
-    let limited = example.fields.iter().any(|field| field.name == "room");
-    let room = match limited {
-        true => example.number("room"),
-        false => LONGEST_MESSAGE,
-    };
-    if limited {
+    if let Some(room) = room {
         told.add("room", room);
     }
-    let mut out = vec![0; room];
-    let answer = coder::rebuild(n, t, &entries, &mut out);
+    let mut out = vec![0; room.unwrap_or(LONGEST_MESSAGE)];
+    let answer = match root {
+        Some(root) => rebuild_with_root(n, t, &root, &entries, &mut out),
+        None => coder::rebuild(n, t, &entries, &mut out),
+    };
     answered(answer, "book", &out, &mut told);
     told
 }
