@@ -1,5 +1,5 @@
-/* Checks of what the header itself defines, and of second readers, for the tests: a failed one ends the program with its line. Prints the causes in
- * words. */
+/* Checks of what the header itself defines, of second readers, and of rebuilding under a root, for the tests: a failed one ends the program with its
+ * line. Prints the causes in words. */
 #include <stdio.h>
 #include <stdlib.h>
 #include <string.h>
@@ -132,12 +132,65 @@ static void check_party(void) {
     }
 }
 
+/* A message is rebuilt, with its first share missing, under its own root and no other. Another root comes before a short buffer, and with it no byte is
+ * written. */
+static void check_rebuild(void) {
+    uint8_t entries[10], found[3] = {7, 7, 7};
+    size_t used = 0;
+    cipangohu_answer answer = cipangohu_open(3, 1, 1, (const uint8_t *)"AB", 2, state, sizeof state, root, sizeof root);
+    CHECK(answer.cause == CIPANGOHU_ACCEPTED && cipangohu_shares(3, 1, (const uint8_t *)"AB", 2, out, sizeof out).value == 6);
+    for (size_t j = 0; j < 3; j++) used = cipangohu_append(entries, sizeof entries, used, out + 2 * j, j == 0 ? 0 : 2).value;
+    root[31] ^= 1;
+    answer = cipangohu_rebuild_with_root(3, 1, root, sizeof root, entries, used, found, sizeof found);
+    CHECK(answer.cause == CIPANGOHU_CAUSE_OTHER_ROOT && answer.value == 0 && memcmp(found, "\7\7\7", 3) == 0);
+    CHECK(cipangohu_rebuild_with_root(3, 1, root, sizeof root, entries, used, NULL, 0).cause == CIPANGOHU_CAUSE_OTHER_ROOT);
+    CHECK(cipangohu_rebuild_with_root(3, 1, root, 31, NULL, 0, NULL, 0).cause == CIPANGOHU_CAUSE_ROOT_OR_BIT);
+    root[31] ^= 1;
+    answer = cipangohu_rebuild_with_root(3, 1, root, sizeof root, entries, used, found, 1);
+    CHECK(answer.cause == CIPANGOHU_CAUSE_ROOM && answer.value == 2 && memcmp(found, "\7\7\7", 3) == 0);
+    answer = cipangohu_rebuild_with_root(3, 1, root, sizeof root, entries, used, found, 2);
+    CHECK(answer.cause == CIPANGOHU_ACCEPTED && answer.value == 2 && memcmp(found, "AB\7", 3) == 0);
+}
+
+/* The agreed root is that of three shares which no message has together. Party 3 gets the first two, which are those of "AB", with paths that pass; but
+ * "AB" has another root, so it ends with nothing, which needs no room. */
+static void check_no_other_root(void) {
+    const uint8_t leaves[3][4] = {{0, 1, 0x41, 0x40}, {0, 2, 0x82, 0x86}, {0, 3, 0xFF, 0xFF}}, silence[6] = {0};
+    uint8_t hashes[3][CIPANGOHU_ROOT], node[1 + 2 * CIPANGOHU_ROOT] = {1}, packet[6 + 2 * CIPANGOHU_ROOT] = {7, 0, 0, 2}, inbox[200];
+    size_t used = 0;
+    cipangohu_answer answer = cipangohu_open(3, 1, 3, (const uint8_t *)"C", 1, state, sizeof state, out, sizeof out);
+    CHECK(answer.cause == CIPANGOHU_ACCEPTED);
+    for (size_t j = 0; j < 3; j++) CHECK(cipangohu_hash(leaves[j], 4, hashes[j], CIPANGOHU_ROOT).cause == CIPANGOHU_ACCEPTED);
+    memcpy(node + 1, hashes, 2 * CIPANGOHU_ROOT);
+    CHECK(cipangohu_hash(node, sizeof node, root, sizeof root).cause == CIPANGOHU_ACCEPTED);
+    memcpy(node + 1, root, CIPANGOHU_ROOT);
+    memcpy(node + 1 + CIPANGOHU_ROOT, hashes[2], CIPANGOHU_ROOT);
+    CHECK(cipangohu_hash(node, sizeof node, root, sizeof root).cause == CIPANGOHU_ACCEPTED);
+    CHECK(cipangohu_agree_root(state, sizeof state, root, sizeof root).cause == CIPANGOHU_ACCEPTED);
+    CHECK(cipangohu_agree_bit(state, sizeof state, 1, out, sizeof out).value == 6);
+    CHECK(cipangohu_take_shares(state, sizeof state, silence, sizeof silence, out, sizeof out).cause == CIPANGOHU_ACCEPTED);
+    for (size_t j = 0; j < 2; j++) {
+        packet[1] = (uint8_t)(j + 1);
+        memcpy(packet + 4, leaves[j] + 2, 2);
+        memcpy(packet + 6, hashes[1 - j], CIPANGOHU_ROOT);
+        memcpy(packet + 6 + CIPANGOHU_ROOT, hashes[2], CIPANGOHU_ROOT);
+        CHECK(cipangohu_check_path(3, j + 1, packet + 4, 2, packet + 6, 2 * CIPANGOHU_ROOT, root, sizeof root).value == 1);
+        used = cipangohu_append(inbox, sizeof inbox, used, packet, sizeof packet).value;
+    }
+    used = cipangohu_append(inbox, sizeof inbox, used, NULL, 0).value;
+    answer = cipangohu_take_relays(state, sizeof state, inbox, used, NULL, 0);
+    CHECK(answer.cause == CIPANGOHU_ACCEPTED && answer.value == CIPANGOHU_NOTHING);
+    CHECK(cipangohu_stage(state, sizeof state).value == CIPANGOHU_ENDED_WITH_NOTHING);
+}
+
 int main(void) {
     CHECK(cipangohu_version() == CIPANGOHU_VERSION && cipangohu_state_size() == CIPANGOHU_STATE);
     check_any_bytes();
     check_append();
     check_party();
     check_nothing();
-    for (uint32_t cause = 0; cause <= CIPANGOHU_CAUSE_NO_MESSAGE + 1; cause++) printf("%u %s\n", (unsigned)cause, cipangohu_cause_text(cause));
+    check_rebuild();
+    check_no_other_root();
+    for (uint32_t cause = 0; cause <= CIPANGOHU_CAUSE_OTHER_ROOT + 1; cause++) printf("%u %s\n", (unsigned)cause, cipangohu_cause_text(cause));
     return 0;
 }

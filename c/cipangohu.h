@@ -41,9 +41,10 @@
 extern "C" {
 #endif
 
-/* The version of this header, and as one number, which cipangohu_version gives of the library. */
+/* The version of this header, and as one number, which cipangohu_version gives of the library. New in 2.1: step 5 takes a message that it rebuilt only
+ * under the agreed root; cipangohu_rebuild_with_root; cause 15. */
 #define CIPANGOHU_VERSION_MAJOR 2
-#define CIPANGOHU_VERSION_MINOR 0
+#define CIPANGOHU_VERSION_MINOR 1
 #define CIPANGOHU_VERSION_PATCH 0
 #define CIPANGOHU_VERSION ((CIPANGOHU_VERSION_MAJOR << 16) | (CIPANGOHU_VERSION_MINOR << 8) | CIPANGOHU_VERSION_PATCH)
 
@@ -67,7 +68,7 @@ extern "C" {
 #define CIPANGOHU_OUTBOX (CIPANGOHU_SHARES + CIPANGOHU_PARTIES * (6 + CIPANGOHU_PATH * CIPANGOHU_ROOT))
 #define CIPANGOHU_INBOX (CIPANGOHU_PARTIES * (2 + CIPANGOHU_ENTRY))
 
-/* The causes. */
+/* The causes. 13 and 14 are those of a plan that is rehearsed, and no call here gives them. */
 enum cipangohu_causes {
     CIPANGOHU_ACCEPTED = 0,
     CIPANGOHU_CAUSE_PARTIES = 1,     /* n is not 1 to CIPANGOHU_PARTIES */
@@ -81,7 +82,8 @@ enum cipangohu_causes {
     CIPANGOHU_CAUSE_ROOM = 9,        /* a buffer too short for what is written */
     CIPANGOHU_CAUSE_PACKET = 10,     /* a packet that is neither silence nor readable */
     CIPANGOHU_CAUSE_FEW_SHARES = 11, /* fewer than n - t shares */
-    CIPANGOHU_CAUSE_NO_MESSAGE = 12  /* shares of no message */
+    CIPANGOHU_CAUSE_NO_MESSAGE = 12, /* shares of no message */
+    CIPANGOHU_CAUSE_OTHER_ROOT = 15  /* a rebuilt message whose root is not the one given */
 };
 
 /* The stages: what a party waits for, or how it ended. */
@@ -143,10 +145,11 @@ CIPANGOHU_MUST_USE cipangohu_answer cipangohu_take_shares(uint8_t *state, size_t
                                                           uint8_t *out, size_t out_len);
 
 /* Step 5, the second inbox: writes the message, if the result is one. Value: CIPANGOHU_SETTLED for a message of any length, which
- * cipangohu_result_length tells, or CIPANGOHU_NOTHING; it is no length itself. A party that has ended, at this step or on bit 0,
- * gives its result to every further reader in the same way, and writes its state anew. It does not look at the inbox. Readers hand in none (NULL and
- * 0): a party that has not ended yet refuses that, and would take entries for its second inbox. Causes 5, 6, 8, and 9 where there is a message (of a
- * party that has ended: 5, and 9 where its result is a message). */
+ * cipangohu_result_length tells, or CIPANGOHU_NOTHING; it is no length itself. A happy party ends with its own message. Another one rebuilds a
+ * message from the shares that were relayed, its own among them, codes it again, and ends with it only if its root is the agreed one; else with
+ * nothing. A party that has ended, at this step or on bit 0, gives its result to every further reader in the same way, and writes its state anew. It
+ * does not look at the inbox. Readers hand in none (NULL and 0): a party that has not ended yet refuses that, and would take entries for its second
+ * inbox. Causes 5, 6, 8, and 9 where there is a message (of a party that has ended: 5, and 9 where its result is a message). */
 CIPANGOHU_MUST_USE cipangohu_answer cipangohu_take_relays(uint8_t *state, size_t state_len, const uint8_t *inbox, size_t inbox_len,
                                                           uint8_t *out, size_t out_len);
 
@@ -173,10 +176,15 @@ CIPANGOHU_MUST_USE cipangohu_answer cipangohu_check_path(size_t n, size_t j, con
 CIPANGOHU_MUST_USE cipangohu_answer cipangohu_shares(size_t n, size_t t, const uint8_t *message, size_t message_len,
                                                      uint8_t *out, size_t out_len);
 
-/* Rebuilds the message from n entries, each a share, of length 0 if it is missing; of those present the n - t lowest-numbered are used. Value:
- * the bytes written. Causes 1, 2, 8, 11, 12, and 9 where a message was found. */
+/* Rebuilds the message from n entries, each a share, of length 0 if it is missing; of those present the n - t lowest-numbered are used, and none is
+ * checked. Value: the bytes written. Causes 1, 2, 8, 11, 12, and 9 where a message was found. */
 CIPANGOHU_MUST_USE cipangohu_answer cipangohu_rebuild(size_t n, size_t t, const uint8_t *entries, size_t entries_len,
                                                       uint8_t *out, size_t out_len);
+
+/* Rebuilds as cipangohu_rebuild does, codes the message again, and writes it only if its root is the one given; a message has the root that
+ * cipangohu_open gives with this n and t. Value: the bytes written. Causes 1, 2, 7, 8, 11, 12, 15, and 9 where a message with this root was found. */
+CIPANGOHU_MUST_USE cipangohu_answer cipangohu_rebuild_with_root(size_t n, size_t t, const uint8_t *root, size_t root_len,
+                                                                const uint8_t *entries, size_t entries_len, uint8_t *out, size_t out_len);
 
 /* SHA-256 of up to CIPANGOHU_HASHED bytes. Value: CIPANGOHU_ROOT. Causes 4, 9. */
 CIPANGOHU_MUST_USE cipangohu_answer cipangohu_hash(const uint8_t *message, size_t message_len, uint8_t *out, size_t out_len);
@@ -204,6 +212,7 @@ static inline const char *cipangohu_cause_text(uint32_t cause) {
     case CIPANGOHU_CAUSE_PACKET: return "the packet is neither silence nor readable";
     case CIPANGOHU_CAUSE_FEW_SHARES: return "too few shares are present";
     case CIPANGOHU_CAUSE_NO_MESSAGE: return "the shares are of no message";
+    case CIPANGOHU_CAUSE_OTHER_ROOT: return "the rebuilt message has another root";
     default: return "an unknown cause";
     }
 }
