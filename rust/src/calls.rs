@@ -99,6 +99,16 @@ mod archive {
             out: *mut u8,
             out_len: usize,
         ) -> Answer;
+        pub fn cipangohu_rebuild_with_root(
+            n: usize,
+            t: usize,
+            root: *const u8,
+            root_len: usize,
+            entries: *const u8,
+            entries_len: usize,
+            out: *mut u8,
+            out_len: usize,
+        ) -> Answer;
         pub fn cipangohu_hash(
             message: *const u8,
             message_len: usize,
@@ -230,6 +240,27 @@ pub fn shares(group: (usize, usize), message: &[u8], out: &mut [u8]) -> Answer {
 
 pub fn rebuild(group: (usize, usize), entries: &[u8], out: &mut [u8]) -> Answer {
     code(archive::cipangohu_rebuild, group, entries, out)
+}
+
+pub fn rebuild_with_root(
+    (n, t): (usize, usize),
+    root: &[u8],
+    entries: &[u8],
+    out: &mut [u8],
+) -> Answer {
+    // SAFETY: each pointer comes with its slice's length; the buffer overlaps no other slice.
+    unsafe {
+        archive::cipangohu_rebuild_with_root(
+            n,
+            t,
+            root.as_ptr(),
+            root.len(),
+            entries.as_ptr(),
+            entries.len(),
+            out.as_mut_ptr(),
+            out.len(),
+        )
+    }
 }
 
 pub fn hash(message: &[u8], out: &mut [u8]) -> Answer {

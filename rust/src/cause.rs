@@ -46,6 +46,8 @@ pub enum Cause {
     FewShares,
     /// Cause 12: shares of no message.
     NoMessage,
+    /// Cause 15: a rebuilt message whose root is not the one given.
+    OtherRoot,
     /// A number that this crate does not know.
     Unknown(u32),
 }
@@ -66,6 +68,7 @@ impl Cause {
             10 => Cause::Packet,
             11 => Cause::FewShares,
             12 => Cause::NoMessage,
+            15 => Cause::OtherRoot,
             unknown => Cause::Unknown(unknown),
         }
     }
@@ -85,6 +88,7 @@ impl Cause {
             Cause::Packet => 10,
             Cause::FewShares => 11,
             Cause::NoMessage => 12,
+            Cause::OtherRoot => 15,
             Cause::Unknown(number) => number,
         }
     }
@@ -104,6 +108,7 @@ impl Cause {
             Cause::Packet => "the packet is neither silence nor readable",
             Cause::FewShares => "too few shares are present",
             Cause::NoMessage => "the shares are of no message",
+            Cause::OtherRoot => "the rebuilt message has another root",
             Cause::Unknown(_) => "an unknown cause",
         }
     }

@@ -7,6 +7,7 @@ use crate::calls;
 use crate::cause::Cause;
 use crate::entries::lay_out;
 use crate::limits::{MAX_MESSAGE, MAX_SHARES};
+use crate::Hash;
 
 /// The n shares of a message, of which any n − t give it back. With the feature `alloc`. Causes:
 /// [`Cause::Parties`], [`Cause::Faults`], [`Cause::Length`].
@@ -34,13 +35,49 @@ pub fn shares(n: usize, t: usize, message: &[u8]) -> Result<Vec<Vec<u8>>, Cause>
 /// one of more than [`MAX_ENTRY`](crate::MAX_ENTRY) bytes. With the feature `alloc`.
 ///
 /// Of the shares present the first n − t are used, and none is checked: with an altered one another
-/// message may come out. [`check_path`](crate::check_path) tells whether a share is a root's own.
+/// message may come out. [`check_path`](crate::check_path) tells whether a share is a root's own, and
+/// [`rebuild_with_root`] takes a message only if it is.
 ///
 /// Causes: [`Cause::Parties`], [`Cause::Faults`], [`Cause::Entries`], [`Cause::FewShares`],
 /// [`Cause::NoMessage`].
 pub fn rebuild<S: AsRef<[u8]>>(n: usize, t: usize, shares: &[S]) -> Result<Vec<u8>, Cause> {
     let mut out = vec![0; MAX_MESSAGE];
     let length = calls::rebuild((n, t), &lay_out(shares), &mut out).accepted()?;
+    out.truncate(length as usize);
+    Ok(out)
+}
+
+/// The message that the shares of parties 1 to n give, if its root is this one. The root of a message is
+/// the one that [`Party::open`](crate::Party::open) gives, with this n and t. With the feature `alloc`.
+///
+/// Shares are used as by [`rebuild`], and what they give is coded again.
+///
+/// Causes: [`Cause::Parties`], [`Cause::Faults`], [`Cause::Entries`], [`Cause::FewShares`],
+/// [`Cause::NoMessage`], [`Cause::OtherRoot`].
+///
+/// ```
+/// use cipangohu::{rebuild, rebuild_with_root, shares, Cause, Party};
+///
+/// # fn main() -> Result<(), Cause> {
+/// let (_, root) = Party::open(3, 1, 1, b"Unit 7")?;
+/// let mut shares = shares(3, 1, b"Unit 7")?;
+/// assert_eq!(rebuild_with_root(3, 1, &root, &shares)?, b"Unit 7");
+/// shares[0][3] ^= 1;
+/// assert_ne!(rebuild(3, 1, &shares)?, b"Unit 7");
+/// assert_eq!(rebuild_with_root(3, 1, &root, &shares), Err(Cause::OtherRoot));
+/// shares[0].clear();
+/// assert_eq!(rebuild_with_root(3, 1, &root, &shares)?, b"Unit 7");
+/// # Ok(())
+/// # }
+/// ```
+pub fn rebuild_with_root<S: AsRef<[u8]>>(
+    n: usize,
+    t: usize,
+    root: &Hash,
+    shares: &[S],
+) -> Result<Vec<u8>, Cause> {
+    let mut out = vec![0; MAX_MESSAGE];
+    let length = calls::rebuild_with_root((n, t), root, &lay_out(shares), &mut out).accepted()?;
     out.truncate(length as usize);
     Ok(out)
 }

@@ -4,8 +4,8 @@
 //!
 //! A call is accepted, or turned away with a [`Cause`] and nothing changed; none panics. What the
 //! host owes is told in docs/HOSTING.md. The crate needs no standard library; what needs an
-//! allocator, `lay_out`, `shares` and `rebuild`, stands behind the feature `alloc`, which is on
-//! unless it is switched off.
+//! allocator, `lay_out`, `shares`, `rebuild` and `rebuild_with_root`, stands behind the feature
+//! `alloc`, which is on unless it is switched off.
 //!
 //! ```
 //! use cipangohu::{lay_out_in, Outcome, Party, Stage, MAX_OUTBOX};
@@ -50,7 +50,7 @@ pub mod calls;
 
 pub use cause::Cause;
 #[cfg(feature = "alloc")]
-pub use code::{rebuild, shares};
+pub use code::{rebuild, rebuild_with_root, shares};
 #[cfg(feature = "alloc")]
 pub use entries::lay_out;
 pub use entries::{entries, lay_out_in, Entries};

@@ -154,9 +154,13 @@ impl Party {
     }
 
     /// Step 5: takes the second inbox; the answer is the result, which [`Party::result`] gives from
-    /// then on. A party that has ended, at this step or on the bit `false`, gives its result to every
-    /// further reader and does not look at the inbox. Readers hand in none: a party that has not ended
-    /// yet refuses that, and would take entries for its second inbox. Causes: [`Cause::Step`],
+    /// then on. A happy party ends with its own message. Another one rebuilds a message from the shares
+    /// that were relayed, codes it again, and ends with it only if its root is the agreed one; else with
+    /// nothing.
+    ///
+    /// A party that has ended, at this step or on the bit `false`, gives its result to every further
+    /// reader and does not look at the inbox. Readers hand in none: a party that has not ended yet
+    /// refuses that, and would take entries for its second inbox. Causes: [`Cause::Step`],
     /// [`Cause::Entries`], and none once the party has ended.
     ///
     /// ```
