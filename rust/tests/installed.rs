@@ -105,7 +105,7 @@ fn causes() -> String {
         Ok(_) => String::from("accepted"),
         Err(cause) => cause.to_string(),
     };
-    let lines = (0..=13).map(|cause| {
+    let lines = (0..=16).map(|cause| {
         let words = words(cause);
         let words = words.trim_start_matches(&format!("cause {cause}: "));
         format!("{cause} {}\n", words.trim_end_matches(" and needs 0 bytes"))

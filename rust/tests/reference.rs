@@ -14,12 +14,13 @@ const AT_STAGE: usize = 4;
 const OF_CALLS: [&str; 4] = ["box", "state", "opening", "calls"];
 
 /// The calls that stand there.
-const CALLS: [&str; 10] = [
+const CALLS: [&str; 11] = [
     "agree_bit",
     "agree_root",
     "hash",
     "open",
     "own",
+    "rebuild_with_root",
     "result_length",
     "shares",
     "stage",
@@ -132,6 +133,10 @@ fn answer(call: &Field, state: &mut Vec<u8>, out: &mut Vec<u8>) -> Answer {
         "stage" => calls::stage(state),
         "own" => calls::own(state),
         "shares" => calls::shares((number("n"), number("t")), &bytes("book"), out),
+        "rebuild_with_root" => {
+            let group = (number("n"), number("t"));
+            calls::rebuild_with_root(group, &bytes("root"), &bytes("entries"), out)
+        }
         "hash" => calls::hash(&bytes("string"), out),
         other => panic!("{other}: no call"),
     }

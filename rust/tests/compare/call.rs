@@ -20,6 +20,7 @@ pub enum Call {
     CheckPath((usize, usize), Vec<u8>, Vec<u8>, Vec<u8>),
     Shares((usize, usize), Vec<u8>),
     Rebuild((usize, usize), Vec<u8>),
+    RebuildWithRoot((usize, usize), Vec<u8>, Vec<u8>),
     Hash(Vec<u8>),
 }
 
@@ -46,6 +47,7 @@ impl Call {
             Call::CheckPath(..) => "check_path",
             Call::Shares(..) => "shares",
             Call::Rebuild(..) => "rebuild",
+            Call::RebuildWithRoot(..) => "rebuild_with_root",
             Call::Hash(_) => "hash",
         }
     }
@@ -66,6 +68,9 @@ pub fn answered(call: &Call, state: &mut [u8], out: &mut [u8]) -> Answer {
         Call::CheckPath(place, share, path, root) => calls::check_path(*place, share, path, root),
         Call::Shares(group, message) => calls::shares(*group, message, out),
         Call::Rebuild(group, entries) => calls::rebuild(*group, entries, out),
+        Call::RebuildWithRoot(group, root, entries) => {
+            calls::rebuild_with_root(*group, root, entries, out)
+        }
         Call::Hash(message) => calls::hash(message, out),
     }
 }

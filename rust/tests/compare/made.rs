@@ -48,11 +48,13 @@ pub fn message(random: &mut Random) -> Vec<u8> {
     random.bytes(length)
 }
 
-/// Shares under one root: of a message, or of a frame that holds none, which may give shares as long
-/// as a packet may have.
+/// Shares under one root: of a message; such as no message has, though some of them give one; or of a
+/// frame that holds none, which may give shares as long as a packet may have.
 fn sharing(n: usize, t: usize, random: &mut Random) -> Sharing {
-    if random.below(6) > 0 {
-        return Sharing::of(n, t, &message(random));
+    match random.below(6) {
+        0 => {}
+        1 if t > 0 => return Sharing::no_codeword(n, t, random),
+        _ => return Sharing::of(n, t, &message(random)),
     }
     let size = match random.below(8) {
         0 => 1 + random.below(MAX_SHARE),

@@ -8,6 +8,7 @@ mod again;
 mod call;
 mod made;
 mod reference;
+mod root;
 mod safe;
 mod tally;
 

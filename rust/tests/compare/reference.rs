@@ -2,6 +2,7 @@
 
 use cipangohu::{HASH, LAYOUT, MAX_MESSAGE, STATE};
 use foreign::coder::{self, encode, rebuild};
+use foreign::commitment::rebuild_with_root;
 use foreign::limits::{LONGEST_STRING, MOST_HASHES};
 use foreign::packet::{self, Reading};
 use foreign::party::{Given, Outcome, Stage, State};
@@ -56,6 +57,9 @@ pub fn answer(call: &Call, lent: &mut Lent) -> Answer {
         Call::CheckPath(place, share, path, root) => check(*place, share, path, root),
         Call::Shares((n, t), message) => coded(encode(*n, *t, message, out)),
         Call::Rebuild((n, t), entries) => coded(rebuild(*n, *t, entries, out)),
+        Call::RebuildWithRoot((n, t), root, entries) => {
+            coded(rebuild_with_root(*n, *t, root, entries, out))
+        }
         Call::Hash(message) => hash(message, out),
     }
 }

@@ -2,16 +2,17 @@
 //! shares, rebuilding.
 
 use cipangohu::{
-    calls, check_path, entries, hash, lay_out, lay_out_in, read_packet, rebuild, shares, version,
-    Cause, Hash, Outcome, Party, Stage, HASH, MAX_ENTRY, MAX_OUTBOX, MAX_PACKET, MAX_PARTIES,
-    STATE,
+    calls, check_path, entries, hash, lay_out, lay_out_in, read_packet, rebuild, rebuild_with_root,
+    shares, version, Cause, Hash, Outcome, Party, Stage, HASH, MAX_ENTRY, MAX_OUTBOX, MAX_PACKET,
+    MAX_PARTIES, STATE,
 };
 use foreign::coder::{self, frame_of, shares_of};
+use foreign::liars::flip;
 use foreign::limits::LONGEST_MESSAGE;
 use foreign::packet::Reading;
 use foreign::party::{Refusal, State};
 use foreign::random::Random;
-use foreign::{inbox, packet, sha256};
+use foreign::{commitment, inbox, packet, sha256};
 
 use crate::call::{Answer, Call, Lent};
 use crate::made::{group, message, spoil, Play};
@@ -180,9 +181,19 @@ fn packets_read() {
     }
 }
 
+/// What a foreign call wrote with room for any message, or its cause.
+fn joined(call: impl FnOnce(&mut [u8]) -> coder::Answer) -> Result<Vec<u8>, Cause> {
+    let mut out = vec![0; LONGEST_MESSAGE];
+    match call(&mut out) {
+        coder::Answer::Done(length) => Ok(out[..length].to_vec()),
+        coder::Answer::Refused(number) => Err(cause(number, 0)),
+        coder::Answer::Short(needed) => Err(cause(9, needed)),
+    }
+}
+
 #[test]
 fn shares_made_and_joined() {
-    let mut random = Random::new(9);
+    let (mut random, mut other_roots) = (Random::new(9), 0);
     for _ in 0..times(600) {
         let (n, t) = group(&mut random);
         let message = message(&mut random);
@@ -194,14 +205,20 @@ fn shares_made_and_joined() {
         (0..n)
             .filter(|place| (missing >> place) & 1 == 1)
             .for_each(|place| made[place].clear());
-        let mut out = vec![0; LONGEST_MESSAGE];
-        let expected = match coder::rebuild(n, t, &lay_out(&made), &mut out) {
-            coder::Answer::Done(length) => Ok(out[..length].to_vec()),
-            coder::Answer::Refused(number) => Err(cause(number, 0)),
-            coder::Answer::Short(needed) => Err(cause(9, needed)),
-        };
+        let place = random.below(n);
+        if !made[place].is_empty() && random.once_in(3) {
+            flip(&mut made[place], &mut random);
+        }
+        let entries = lay_out(&made);
+        let expected = joined(|out| coder::rebuild(n, t, &entries, out));
         assert_eq!(rebuild(n, t, &made), expected);
+        let root = commitment::root(n, t, &message);
+        let expected = joined(|out| commitment::rebuild_with_root(n, t, &root, &entries, out));
+        assert_eq!(rebuild_with_root(n, t, &root, &made), expected);
+        other_roots += usize::from(expected == Err(Cause::OtherRoot));
     }
+    println!("shares: {other_roots} messages had another root");
+    assert!(other_roots >= 10);
 }
 
 #[test]
