@@ -6,7 +6,7 @@ use std::sync::atomic::{AtomicU64, Ordering::Relaxed};
 use crate::call::{answered, beside, Answer, Call, Lent};
 
 /// Each function with the causes that the header lists for it, 0 for accepted.
-const LISTED: [(&str, &[u32]); 13] = [
+const LISTED: [(&str, &[u32]); 14] = [
     ("open", &[0, 1, 2, 3, 4, 9]),
     ("agree_root", &[0, 5, 6, 7]),
     ("agree_bit", &[0, 5, 6, 7, 9]),
@@ -19,12 +19,16 @@ const LISTED: [(&str, &[u32]); 13] = [
     ("check_path", &[0, 1, 3, 4, 7]),
     ("shares", &[0, 1, 2, 4, 9]),
     ("rebuild", &[0, 1, 2, 8, 9, 11, 12]),
+    ("rebuild_with_root", &[0, 1, 2, 7, 8, 9, 11, 12, 15]),
     ("hash", &[0, 4, 9]),
 ];
 
+/// The causes that there are, with 0.
+const CAUSES: usize = 16;
+
 /// How often each function had each cause.
-static TIMES: [[AtomicU64; 13]; LISTED.len()] =
-    [const { [const { AtomicU64::new(0) }; 13] }; LISTED.len()];
+static TIMES: [[AtomicU64; CAUSES]; LISTED.len()] =
+    [const { [const { AtomicU64::new(0) }; CAUSES] }; LISTED.len()];
 
 /// The library's answer. A clone's allocations have no room to spare, and an empty one has none.
 fn library(call: &Call, lent: &mut Lent) -> Answer {

@@ -85,7 +85,7 @@ fn put(bytes: &mut [u8], at: usize, new: &[u8]) {
 impl Session<'_> {
     /// The numbers of the turns are those of fuzz/seeds.
     fn turn(&mut self) {
-        let (kind, party) = (self.input.below(14), self.input.below(PARTIES));
+        let (kind, party) = (self.input.below(15), self.input.below(PARTIES));
         match kind {
             0 => self.open(party),
             1 => self.agree_root(party),
@@ -100,7 +100,8 @@ impl Session<'_> {
             10 => self.spoil(party),
             11 => self.parties[party] = self.parties[self.input.below(PARTIES)].clone(),
             12 => self.forge(party),
-            _ => self.ask(party),
+            13 => self.ask(party),
+            _ => self.rebuild_with_root(),
         }
     }
 
@@ -285,9 +286,8 @@ impl Session<'_> {
         }
     }
 
-    fn rebuild(&mut self) {
-        let n = self.input.number(self.group.0);
-        let t = self.input.number(self.group.1);
+    /// The shares as entries, some missing or changed.
+    fn entries(&mut self) -> Vec<u8> {
         let mut shares = self.shares.clone();
         for share in &mut shares {
             match self.input.below(8) {
@@ -301,7 +301,22 @@ impl Session<'_> {
         if self.input.byte() > 191 {
             self.input.bend(&mut entries);
         }
-        self.made(0, &Call::Rebuild((n, t), entries));
+        entries
+    }
+
+    fn rebuild(&mut self) {
+        let n = self.input.number(self.group.0);
+        let t = self.input.number(self.group.1);
+        let call = Call::Rebuild((n, t), self.entries());
+        self.made(0, &call);
+    }
+
+    fn rebuild_with_root(&mut self) {
+        let n = self.input.number(self.group.0);
+        let t = self.input.number(self.group.1);
+        let entries = self.entries();
+        let call = Call::RebuildWithRoot((n, t), self.root(), entries);
+        self.made(0, &call);
     }
 
     fn hash(&mut self) {
@@ -344,13 +359,19 @@ impl Session<'_> {
     }
 
     /// Gives a party the root and the packets of a frame that need not hold a message, as bad
-    /// parties may make them.
+    /// parties may make them, or of shares among which one was changed.
     fn forge(&mut self, party: usize) {
         let (n, t) = self.group;
         let mut frame = self.input.bytes();
         let blocks = frame.len().div_ceil(n - t).max(1);
         frame.resize(blocks * (n - t), 0);
-        let sharing = Sharing::of_frame(n, t, &frame);
+        let mut sharing = Sharing::of_frame(n, t, &frame);
+        let choice = self.input.byte();
+        if choice >= 128 {
+            let share = &mut sharing.shares[usize::from(choice) % n];
+            self.input.bend(share);
+            sharing = Sharing::over(sharing.shares);
+        }
         self.parties[party].root = sharing.root.to_vec();
         (1..=n).for_each(|number| self.keep(party, number, &sharing.packet(number)));
     }
