@@ -46,7 +46,7 @@ fn session(setting: Setting, visit: Visit) {
     }
     no_state(&at, visit);
     told(&at, visit);
-    code(setting, visit);
+    code(setting, &at, visit);
     read(setting.n, &at, visit);
 }
 
@@ -142,7 +142,7 @@ fn told(at: &Moments<Proved>, visit: Visit) {
 }
 
 /// The coder.
-fn code(setting: Setting, visit: Visit) {
+fn code(setting: Setting, at: &Moments<Proved>, visit: Visit) {
     let group = (setting.n, setting.t);
     let message = setting.message(1);
     let mut out = vec![0; MAX_OUTBOX];
@@ -153,6 +153,10 @@ fn code(setting: Setting, visit: Visit) {
     let shares = lay_out(&shares);
     visit("rebuild", &mut || {
         accepted(calls::rebuild(group, &shares, &mut out));
+    });
+    visit("rebuild_with_root", &mut || {
+        let rebuilt = calls::rebuild_with_root(group, &at.root, &shares, &mut out);
+        accepted(rebuilt);
     });
 }
 
