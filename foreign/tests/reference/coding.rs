@@ -126,6 +126,10 @@ pub fn calls(example: &Example) -> Told {
         let mut out = vec![0; call.number("room").unwrap_or(LONGEST_OUTBOX)];
         let answer = match call.name.as_str() {
             "shares" => coder::encode(number("n"), number("t"), &bytes("book"), &mut out),
+            "rebuild_with_root" => {
+                let (root, entries) = (bytes("root"), bytes("entries"));
+                rebuild_with_root(number("n"), number("t"), &root, &entries, &mut out)
+            }
             "hash" => hashed(&bytes("string"), &mut out),
             "out" | "cause" => continue,
             other => panic!("line {}: {other}", example.line),
