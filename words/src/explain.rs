@@ -11,9 +11,20 @@ use crate::view::View;
 
 pub fn explain(plan: &[u8], named: &[Named]) -> String {
     match View::new(plan, named) {
-        Ok(view) => view.told() + "\n" + &view.session.report(),
+        Ok(view) => {
+            let front = view.fault.map(|fault| preface(fault, plan) + "\n\n");
+            front.unwrap_or_default() + &view.told() + "\n" + &view.printed()
+        }
         Err(fault) => format!("{}\nrefused {}\n", refused(fault, plan), fault.cause()),
     }
+}
+
+/// What stands before the sitting of a plan that is refused.
+pub fn preface(fault: Fault, plan: &[u8]) -> String {
+    let refused = refused(fault, plan);
+    format!(
+        "{refused}\nThe rehearsal does not play this. The boxes would do their steps all the same:"
+    )
 }
 
 /// Why a plan is refused.
@@ -26,7 +37,7 @@ impl View {
     fn told(&self) -> String {
         let plan = &self.session.plan;
         let heading = format!(
-            "Sitting of {}, at most {} bad; {} of the shares give a book back.\n",
+            "Sitting of {}, of which {} may be bad; {} of the shares give a book back.\n",
             boxes(plan.n),
             plan.t,
             plan.n - plan.t

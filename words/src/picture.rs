@@ -3,7 +3,7 @@
 use foreign::rehearsal::{Fault, Takings};
 
 use crate::books::Named;
-use crate::explain::refused;
+use crate::explain::{preface, refused};
 use crate::phrases::{boxes, bytes, cut, short, EXCHANGES};
 use crate::svg::{wrapped, Svg};
 use crate::text::written;
@@ -23,7 +23,7 @@ const LEAST_WIDTH: i32 = 640;
 
 pub fn picture(plan: &[u8], named: &[Named]) -> String {
     match View::new(plan, named) {
-        Ok(view) => Picture::new(&view).drawn(),
+        Ok(view) => Picture::new(&view).drawn(plan),
         Err(fault) => refusal(fault, plan),
     }
 }
@@ -74,7 +74,12 @@ impl Picture<'_> {
         ((self.column - 12) / LETTER) as usize
     }
 
-    fn drawn(mut self) -> String {
+    fn drawn(mut self, plan: &[u8]) -> String {
+        if let Some(fault) = self.view.fault {
+            let told = preface(fault, plan);
+            let lines = told.lines().filter(|line| !line.is_empty());
+            lines.for_each(|line| self.paragraph("heading", line));
+        }
         self.titles();
         let top = self.y;
         self.heads();
@@ -107,7 +112,7 @@ impl Picture<'_> {
         let root_origin = view.origin(session.plan.root.is_some());
         let bit_origin = view.origin(session.plan.bit.is_some());
         self.y += 4;
-        let title = format!("Sitting of {}, at most {t} bad", boxes(n));
+        let title = format!("Sitting of {}, of which {t} may be bad", boxes(n));
         self.paragraph("title", &title);
         self.y += 4;
         self.paragraph("", &format!("Agreed root: {root} ({root_origin})"));

@@ -4,17 +4,21 @@
 
 use foreign::liars::Way;
 use foreign::packet::{classify, read, Reading, Standing};
+use foreign::party::Rebuilt;
 use foreign::rehearsal::{play, Fault, Session, Takings};
 
 use crate::books::{Books, Named};
 use crate::phrases::{cut, numbers};
 use crate::recognise::recognise;
+use crate::regardless;
 use crate::text::{known, named_root, written};
 
-/// The words for a packet are cut here.
+/// The words for a packet, and for a book that is not taken, are cut here.
 const SHOWN: usize = 72;
 
 pub struct View {
+    /// Why the rehearsal refuses the plan, if it does; the session is then what the boxes would do.
+    pub fault: Option<Fault>,
     pub session: Session,
     pub books: Books,
 }
@@ -57,11 +61,27 @@ impl Worth {
 }
 
 impl View {
-    /// Plays the plan; the named books are called by their names.
+    /// Plays the plan, also one that only breaks what is supposed of a sitting; the named books are
+    /// called by their names.
     pub fn new(plan: &[u8], named: &[Named]) -> Result<View, Fault> {
-        let session = play(plan)?;
+        let (fault, session) = match play(plan) {
+            Ok(session) => (None, session),
+            Err(fault) => (Some(fault), regardless::play(plan, fault).ok_or(fault)?),
+        };
         let books = known(&session.plan, named);
-        Ok(View { session, books })
+        Ok(View {
+            fault,
+            session,
+            books,
+        })
+    }
+
+    /// The lines that the rehearsal prints.
+    pub fn printed(&self) -> String {
+        match self.fault {
+            Some(fault) => format!("refused {}\n", fault.cause()),
+            None => self.session.report(),
+        }
     }
 
     pub fn n(&self) -> usize {
@@ -187,21 +207,36 @@ impl View {
         let present = (1..).zip(gathered).filter(|(_, share)| !share.is_empty());
         let present: Vec<usize> = present.map(|(number, _)| number).collect();
         let least = self.session.plan.n - self.session.plan.t;
-        let outcome = match (&self.session.results[place], present.get(..least)) {
-            (Some(_), Some(used)) => format!("rebuilds the book from {}", numbers(used)),
-            _ => "finds no book in them".to_string(),
-        };
-        format!("gathers shares {} and {outcome}", numbers(&present))
+        let (shares, used) = (
+            numbers(&present),
+            numbers(&present[..least.min(present.len())]),
+        );
+        match &takings.rebuilt[place] {
+            Some(Rebuilt::Message(_)) => {
+                format!("gathers shares {shares} and rebuilds the book from {used}")
+            }
+            Some(Rebuilt::OtherRoot(message)) => format!(
+                "gathers shares {shares}, rebuilds {} from {used} and does not take it, \
+                 since its root is not the agreed one",
+                cut(&self.called(message), SHOWN)
+            ),
+            _ if present.is_empty() => "gathers no share".to_string(),
+            Some(Rebuilt::Refused(11)) => format!("gathers shares {shares}, too few for a book"),
+            _ => format!("gathers shares {shares} and finds no book in them"),
+        }
+    }
+
+    /// A book by its name, or as it is.
+    fn called(&self, message: &[u8]) -> String {
+        let name = self.books.name_of(message).map(String::from);
+        name.unwrap_or_else(|| written(message))
     }
 
     /// How a good box ended.
     pub fn ending(&self, place: usize) -> String {
         match &self.session.results[place] {
             None => "ends with nothing".to_string(),
-            Some(message) => match self.books.name_of(message) {
-                Some(name) => format!("ends with {name}"),
-                None => format!("ends with {}", written(message)),
-            },
+            Some(message) => format!("ends with {}", self.called(message)),
         }
     }
 }

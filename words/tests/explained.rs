@@ -3,11 +3,12 @@
 
 use foreign::limits::LONGEST_MESSAGE;
 use foreign::plans::plan;
-use foreign::rehearsal::rehearse;
+use foreign::rehearsal::{play, read, rehearse, Takings};
 use words::explain::explain;
 use words::input::given;
 use words::phrases::grouped;
 use words::picture::picture;
+use words::regardless::played;
 use words::view::{Parcel, View, Worth};
 
 const COUNT: u64 = 2_000;
@@ -28,7 +29,7 @@ second exchange
 1 to 3: share 1 of A, number 9
 ";
 
-const TOLD: &str = "Sitting of 3 boxes, at most 1 bad; 2 of the shares give a book back.
+const TOLD: &str = "Sitting of 3 boxes, of which 1 may be bad; 2 of the shares give a book back.
 
 Books
   A, 1 byte: \"A\"
@@ -77,11 +78,12 @@ fn a_sitting_word_by_word() {
     assert_eq!(explain(&plan, &named), TOLD);
 }
 
-/// What is said of a plan in these words before the line that the rehearsal prints.
+/// Why a plan in these words is refused.
 fn refusal(words: &str) -> String {
     let (plan, named) = given(words.as_bytes()).expect("good words");
     let told = explain(&plan, &named);
-    let (before, _) = told.split_once("\n\nrefused ").expect("refused");
+    assert!(told.contains("\n\nrefused "), "{told}");
+    let (before, _) = told.split_once("\n\n").expect("more than that");
     before.to_string()
 }
 
@@ -141,6 +143,70 @@ fn the_last_lines_are_the_rehearsals() {
             assert!(before.starts_with(&cause), "{before}");
         }
     }
+}
+
+/// Boxes that are taken through their steps whatever is supposed do what the rehearsal's do.
+#[test]
+fn lawful_plans_are_played_alike() {
+    let mut lawful = 0;
+    for bytes in (1..=COUNT).step_by(4).map(|k| plan(k).bytes) {
+        let Ok(expected) = play(&bytes) else {
+            continue;
+        };
+        lawful += 1;
+        let found = played(read(&bytes).expect("a good layout")).expect("lawful steps");
+        assert_eq!(found.report(), expected.report());
+        assert_eq!((found.root, found.bit), (expected.root, expected.bit));
+        assert_eq!((found.roots, found.bits), (expected.roots, expected.bits));
+        assert_eq!(found.plan.first, expected.plan.first);
+        assert_eq!(found.plan.second, expected.plan.second);
+        let seen =
+            |takings: Option<Takings>| takings.map(|it| (it.sources, it.gathered, it.rebuilt));
+        assert_eq!(seen(found.takings), seen(expected.takings));
+    }
+    assert!(lawful > 200, "{lawful}");
+}
+
+/// Plans that break what is supposed are told to their end, others are not.
+#[test]
+fn refused_plans_are_told_regardless() {
+    let (mut regardless, mut others) = (0, 0);
+    for bytes in (1..=COUNT).map(|k| plan(k).bytes) {
+        let Err(fault) = play(&bytes) else {
+            continue;
+        };
+        let told = explain(&bytes, &[]);
+        let to_the_end = told.contains("\nSitting of ") && told.contains("\n  box ");
+        assert_eq!(to_the_end, View::new(&bytes, &[]).is_ok(), "{told}");
+        assert!(fault.cause() == 14 || !to_the_end, "{told}");
+        match to_the_end {
+            true => regardless += 1,
+            false => others += 1,
+        }
+    }
+    println!("{regardless} refused plans told to their end, {others} not");
+    assert!(regardless > 50 && others > 50);
+}
+
+/// What boxes 3 and 4 of four say of step 5, where boxes 1 and 2 are bad and send this in the second
+/// exchange, under the root of A.
+fn with_two_liars(second: &str) -> String {
+    let words = format!(
+        "boxes 4\nlimit 1\nbook A \"A\"\nroot of A\nbit 1\nbox 1 is bad\nbox 2 is bad\n\
+         box 3 has \"C\"\nbox 4 has \"D\"\nsecond exchange\n{second}\n"
+    );
+    let (plan, named) = given(words.as_bytes()).expect("good words");
+    let told = explain(&plan, &named);
+    let (_, told) = told.split_once("The second exchange\n").expect("bit 1");
+    let steps = told.lines().filter(|line| line.contains(" gathers "));
+    steps.collect::<Vec<_>>().join("\n")
+}
+
+#[test]
+fn boxes_without_a_book() {
+    let told = with_two_liars("1 to 3: share 1 of A\n2 to 3: share 2 of A\n1 to 4: hex 00");
+    let expected = "  box 3 gathers shares 1 2, too few for a book\n  box 4 gathers no share";
+    assert_eq!(told, expected);
 }
 
 /// The senders whose packets pass for a receiver.

@@ -80,6 +80,28 @@ fn the_liars_plan() {
     assert_eq!(printed(&["picture"], &plan), svg);
 }
 
+/// The rehearsal refuses it, and the explanation tells it to its end: with the lines that docs/PLANS.md
+/// shows.
+#[test]
+fn the_invented_plan() {
+    both("invented");
+    let told = printed(&["explain", "plans/invented.words"], b"");
+    let told = String::from_utf8(told).expect("a text");
+    let page = String::from_utf8(kept("docs/PLANS.md")).expect("a text");
+    let (_, shown) = page
+        .split_once("explain plans/invented.words\n")
+        .expect("shown");
+    let shown: Vec<&str> = shown
+        .lines()
+        .map_while(|it| it.strip_prefix("    "))
+        .collect();
+    assert!(shown.len() > 3);
+    for part in shown.split(|line| *line == "...") {
+        assert!(told.contains(&part.join("\n")), "{part:?}");
+    }
+    assert!(told.ends_with("\n\nrefused 14\n"));
+}
+
 #[test]
 fn words_and_bytes_are_told_apart() {
     let told = printed(&["explain", "plans/liar.words"], b"");
