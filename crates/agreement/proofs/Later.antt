@@ -1,7 +1,7 @@
 -- What a party's later calls can and cannot change. Every accepted step 5 gave the result that the state holds after the list; and once it holds one,
 -- whatever the party is called with, its result stays, no byte is sent and no string is hashed. By the laws of lists and of an ended party's calls.
 -- Assumes nothing.
-use mathlib.Core.Path.{_≡_, refl, sym, ap, ap₂, _∙_}
+use mathlib.Core.Path.{_≡_, refl, sym, ap, _∙_}
 use mathlib.Core.List.{List, [], _∷_, _++_, append-nil, append-assoc, List·Memᴰ}
 use mathlib.Core.Option.{some}
 use Prim.Native.Nat.{ℕ, _+_, _-_}
@@ -13,7 +13,7 @@ use Rattle.party.specs.State.{Result, resultIn}
 use Rattle.party.specs.declared.Party.{Party}
 use Rattle.party.proofs.Ways.{Way, on, off, way}
 use Rattle.agreement.specs.Calls.{Call, stepOf, Event, accepted, writtenBy, sentIn, sentOver, made, stringsOver, events, final, checkedIn, checkedOver, recodedIn, recodedOver}
-use Rattle.agreement.specs.Calls.{opening, did, resultAfter, openedAndChecked, recoded, hashed, sentBy}
+use Rattle.agreement.specs.Calls.{opening, did, resultAfter, openedAndChecked, recoded, sentBy}
 use Rattle.agreement.proofs.Run.{event, chain, Still, still, gave-held}
 
 accepted-both : (es fs : List Event) → accepted (es ++ fs) ≡ accepted es ++ accepted fs
@@ -92,12 +92,9 @@ module _ (H : List ℕ → List ℕ) where
           ∙ ap (λ (l : List (List ℕ)). checkedOver H (did H n t i m calls) ++ l) (stays .2)
           ∙ append-nil (checkedOver H (did H n t i m calls)))
 
-      later-recoded : recoded H n t i m (calls ++ more) ≡ recoded H n t i m calls
+      pub later-recoded : recoded H n t i m (calls ++ more) ≡ recoded H n t i m calls
       unfolding recoded
       later-recoded =
           ap (recodedOver H) (did-both n t i m calls more) ∙ strings-both (recodedIn H) (did H n t i m calls) rest
           ∙ ap (λ (l : List (List ℕ)). recodedOver H (did H n t i m calls) ++ l) (stays .3)
           ∙ append-nil (recodedOver H (did H n t i m calls))
-
-      pub later-hashed : hashed H n t i m (calls ++ more) ≡ hashed H n t i m calls
-      later-hashed = ap₂ (λ (k l : List (List ℕ)). k ++ l) later-checked later-recoded

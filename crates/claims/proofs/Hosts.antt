@@ -3,7 +3,7 @@
 use mathlib.Core.Path.{_≡_, refl, sym, ap, ap₂, _∙_, subst}
 use mathlib.Core.Logic.{_⊎_, inl, inr, _≢_}
 use mathlib.Core.Bool.{true, false, cond}
-use mathlib.Core.List.{List, [], _∷_, map}
+use mathlib.Core.List.{List, [], _∷_, map, List·Memᴰ}
 use mathlib.Core.Option.{Option, none, some}
 use Prim.Native.Nat.{ℕ, _-_, _/_, _^_, _≤_, _<_}
 use native.Mathlib.Decide.{ℕ-discrete, decLt}
@@ -268,28 +268,31 @@ box-same n t h e =
     (seen-all (q .state) (h .calls) ∙ ap (λ (y : Party). map view (accepted (events sha256 y (h .calls)))) says)
     (ap resultIn (calls-kept sha256 (q .state) (h .calls) ∙ ap (λ (y : Party). final sha256 y (h .calls)) says))
   where
-    boxes : {i : ℕ} {b : List ℕ} {k l : ℕ} {z y : List ℕ} {as1 as2 : List Act} {q r : Option Result} {ss : List (List ℕ)} → k ≡ l → z ≡ y
+    boxes : {i : ℕ} {b : List ℕ} {k l : ℕ} {z y : List ℕ} {as1 as2 : List Act} {q r : Option Result} {ss ts : List (List ℕ)} → k ≡ l → z ≡ y
         → as1 ≡ as2 → q ≡ r
-        → _≡_ {A = Box} (record { own = i; book = b; cause = k; root = z; acts = as1; result = q; hashed = ss })
-        (record { own = i; book = b; cause = l; root = y; acts = as2; result = r; hashed = ss })
+        → _≡_ {A = Box} (record { own = i; book = b; cause = k; root = z; acts = as1; result = q; openedAndChecked = ss; recoded = ts })
+        (record { own = i; book = b; cause = l; root = y; acts = as2; result = r; openedAndChecked = ss; recoded = ts })
     boxes a b c d = rw (a, b, c, d)
 
 -- every good box is a party, seen as one
-abbrev party : Good ⊎ Host → Good
+abbrev pub party : Good ⊎ Host → Good
 party (inl A) = A
 party (inr h) = partyOf h
 
-either-same : (n t : ℕ) (g : Good ⊎ Host) → boxOf n t g .cause ≡ 0 → boxOf n t g ≡ partyBox n t (party g)
+pub either-same : (n t : ℕ) (g : Good ⊎ Host) → boxOf n t g .cause ≡ 0 → boxOf n t g ≡ partyBox n t (party g)
 either-same n t (inl A) e = refl
 either-same n t (inr h) e = box-same n t h e
+
+pub boxes-same : (n t : ℕ) (good : List (Good ⊎ Host)) → ((g : Good ⊎ Host) → List·Memᴰ g good → boxOf n t g .cause ≡ 0)
+    → map (boxOf n t) good ≡ map (partyBox n t) (map party good)
+boxes-same n t good opened =
+    map-same (boxOf n t) (λ (g : Good ⊎ Host). partyBox n t (party g)) good (λ g i. either-same n t g (opened g i))
+    ∙ sym (map-map party (partyBox n t) good)
 
 pub hosts-read : (n t : ℕ) (good : List (Good ⊎ Host)) (z : List ℕ) (bit : ℕ) → Sitting n t (map (boxOf n t) good) z bit
     → EveryReaderGetsIt n t (map (boxOf n t) good) z bit
 hosts-read n t good z bit P =
-    let same : map (boxOf n t) good ≡ map (partyBox n t) (map party good) =
-    map-same (boxOf n t) (λ (g : Good ⊎ Host). partyBox n t (party g)) good
-    (λ g i. either-same n t g (P .opened (boxOf n t g) (in-map (boxOf n t) i) .0))
-    ∙ sym (map-map party (partyBox n t) good) in
+    let same = boxes-same n t good (λ g i. P .opened (boxOf n t g) (in-map (boxOf n t) i) .0) in
     subst (λ (boxes : List Box). EveryReaderGetsIt n t boxes z bit) (sym same)
     (every-reader-gets-it n t (map party good) z bit (subst (λ (boxes : List Box). Sitting n t boxes z bit) same P))
 

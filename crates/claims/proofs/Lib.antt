@@ -6,3 +6,4 @@ pub mod Parties
 pub mod Hosts
 pub mod ReadAgain
 pub mod LongestBook
+pub mod AgreedRoot

@@ -15,29 +15,32 @@ use Rattle.party.specs.Steps.{Stepped}
 use Rattle.agreement.specs.Calls.{Call, agreeRoot, agreeBit, takeShares, takeRelays, stepOf, Event, entry, inboxIn, heard, wrote, packetTo}
 use Rattle.agreement.specs.Calls.{bitGiven, sentIn, sentOver, did, sentBy}
 use Rattle.agreement.specs.Calls as calls
-use Rattle.agreement.specs.Agreement.{Good, sumOver, step, Premises, sent as allSent, Conclusions}
+use Rattle.agreement.specs.Agreement.{Good, sumOver, step, Clean as TheirClean, Premises, sent as allSent, Conclusions}
+use Rattle.agreement.specs.AgreedRoot.{Told as TheirTold}
 use Rattle.agreement.proofs.Lists.{same-some, first-in}
+use Rattle.agreement.proofs.Ran.{is-third}
 use Rattle.agreement.proofs.Agreement.{agreement-sha256}
 use Rattle.claims.specs.Terms.{Act, rooted, sent, relayed, ended, stepIn, first, bytesIn, Box, actOf, partyBox}
 use Rattle.claims.specs.Claims.{Sitting, OneResult, bytesSent, AllGoodBoxesEndWithOneResult}
 use Rattle.claims.specs.ReadAgain.{EveryReaderGetsIt}
+use Rattle.claims.specs.AgreedRoot.{Told, Clean}
 use Rattle.claims.proofs.Lists.{in-map, all-map, map-map, sum-map, join-map}
 
 -- what is seen of an event
 abbrev pub view : Event → Act
 view e = actOf (e .call) (e .reply)
 
-abbrev seen : Option Event → Option Act
+abbrev pub seen : Option Event → Option Act
 seen none = none
 seen (some e) = some (view e)
 
-view-step : (c : Call) (r : Stepped) → stepIn (actOf c r) ≡ stepOf c
+pub view-step : (c : Call) (r : Stepped) → stepIn (actOf c r) ≡ stepOf c
 view-step (agreeRoot z) r = refl
 view-step (agreeBit bit out) r = refl
 view-step (takeShares inbox out) r = refl
 view-step (takeRelays inbox out) r = refl
 
-view-first : (k : ℕ) (es : List Event) → first k (map view es) ≡ seen (calls.first k es)
+pub view-first : (k : ℕ) (es : List Event) → first k (map view es) ≡ seen (calls.first k es)
 unfolding first calls.first
 view-first k [] = refl
 view-first k (e ∷ es) = rw (view-step (e .call) (e .reply)) (go (eqb (stepOf (e .call)) k) (view-first k es))
@@ -72,7 +75,7 @@ was-relayed (agreeBit b out) r inbox w q = absurd (let k : _≡_ {A = ℕ} 0 1 =
 was-relayed (takeShares i out) r inbox w q = (cc, cc)
 was-relayed (takeRelays i out) r inbox w q = absurd (let k : _≡_ {A = ℕ} 0 1 = cc in omega arith)
 
-was-ended : (c : Call) (r : Stepped) (inbox : List ℕ) (R : Option Result) → actOf c r ≡ ended inbox R
+pub was-ended : (c : Call) (r : Stepped) (inbox : List ℕ) (R : Option Result) → actOf c r ≡ ended inbox R
     → (inboxIn c ≡ inbox) × (r .result ≡ R)
 was-ended (agreeRoot y) r inbox R q = absurd (let k : _≡_ {A = ℕ} 0 1 = cc in omega arith)
 was-ended (agreeBit b out) r inbox R q = absurd (let k : _≡_ {A = ℕ} 0 1 = cc in omega arith)
@@ -103,6 +106,19 @@ unfolding sumOver sentOver
 view-sent n [] = refl
 view-sent n (e ∷ es) = rw (view-bytes n (e .call) (e .reply), view-sent n es)
 
+-- demand 3 supposes that boxes are told so
+one-sent : {a b : ℕ} {x y : List ℕ} → _≡_ {A = Option Act} (some (sent a x)) (some (sent b y)) → a ≡ b
+one-sent e = cc
+
+pub sitting-tells : (n t : ℕ) (good : List Box) (z : List ℕ) (bit : ℕ) → Sitting n t good z bit → Told n t good z bit
+sitting-tells n t good z bit P =
+    record {
+      opened = P .opened;
+      root = P .step2;
+      same-bit = λ A h b out f. one-sent (sym f ∙ P .step3 A h .1);
+      bit-rule = P .bit-rule;
+    }
+
 module _ (n t : ℕ) (good : List Good) (z : List ℕ) (bit : ℕ) where
   abbrev box : Good → Box
   box = partyBox n t
@@ -115,6 +131,44 @@ module _ (n t : ℕ) (good : List Good) (z : List ℕ) (bit : ℕ) where
       → (e : Event) × (step sha256 n t good k A ≡ some e) × (view e ≡ d)
   event k A d q = unseen (step sha256 n t good k A) d (sym (view-first k (did sha256 n t (A .own) (A .message) (A .calls))) ∙ q)
 
+  -- boxes that are told one root and one bit
+  module _ (P : Told n t (map box good) z bit) where
+    pub told : TheirTold sha256 n t good z bit
+    told =
+        record {
+          bytes = λ A h. P .opened (box A) (in-map box h) .1;
+          root = second;
+          same-bit = third;
+          vote = λ v f. P .bit-rule v (all-map box (λ (B : Box). first 2 (B .acts) ≡ some (rooted z v)) good (voted v f));
+        }
+      where
+        second : (A : Good) → In A → (e : Event) × (step sha256 n t good 2 A ≡ some e) × (e .call ≡ agreeRoot z)
+        second A h =
+            let s = P .root (box A) (in-map box h) in
+            let e = event 2 A (rooted z (s .0)) (s .1) in
+            (e .0, e .1, was-rooted (e .0 .call) (e .0 .reply) z (s .0) (e .2) .0)
+
+        third : (A : Good) → In A → (e : Event) → step sha256 n t good 3 A ≡ some e → (out : List ℕ) × (e .call ≡ agreeBit bit out)
+        third A h e f =
+            let es = did sha256 n t (A .own) (A .message) (A .calls) in
+            let c = is-third (e .call) (first-in 3 es e f .1) in
+            let seen-is : first 3 (box A .acts) ≡ some (sent (c .0) (take (e .reply .value) (e .reply .buffer))) =
+            view-first 3 es ∙ ap seen f ∙ ap (λ (k : Call). some (actOf k (e .reply))) (c .2) in
+            (c .1, c .2 ∙ ap (λ (b : ℕ). agreeBit b (c .1)) (P .same-bit (box A) (in-map box h) (c .0) _ seen-is))
+
+        voted : (v : ℕ) → ((A : Good) → In A → bitGiven (step sha256 n t good 2 A) ≡ some v) → (A : Good) → In A
+            → first 2 (box A .acts) ≡ some (rooted z v)
+        voted v f A h =
+            let s = P .root (box A) (in-map box h) in
+            let e = event 2 A (rooted z (s .0)) (s .1) in
+            let b : e .0 .reply .value ≡ s .0 = was-rooted (e .0 .call) (e .0 .reply) z (s .0) (e .2) .1 in
+            let q : e .0 .reply .value ≡ v = same-some (sym (ap bitGiven (e .1)) ∙ f A h) in
+            s .1 ∙ ap (λ (k : ℕ). some (rooted z k)) (sym b ∙ q)
+
+    pub cleaned : Clean (map box good) → TheirClean sha256 n t good
+    cleaned c x y h k =
+        c x y (rw (join-map box (λ (B : Box). B .openedAndChecked) good) h) (rw (join-map box (λ (B : Box). B .openedAndChecked) good) k)
+
   module _ (P : Sitting n t (map box good) z bit) where
     premises : Premises sha256 n t good z bit
     premises =
@@ -126,25 +180,19 @@ module _ (n t : ℕ) (good : List Good) (z : List ℕ) (bit : ℕ) where
             bad = rw (sym (map-map box (λ (B : Box). B .own) good)) (P .bad);
           };
           called = record {
-            step2 = second;
+            step2 = told (sitting-tells n t (map box good) z bit P) .root;
             step3 = third;
             step4 = λ b1 A h. fourth b1 A h;
             step5 = λ b1 A h. fifth b1 A h;
           };
           ruled = record {
             root = λ v f. P .root-rule v (all-map box (λ (B : Box). B .root ≡ v) good (λ A h. same-some (f A h)));
-            vote = λ v f. P .bit-rule v (all-map box (λ (B : Box). first 2 (B .acts) ≡ some (rooted z v)) good (voted v f));
+            vote = told (sitting-tells n t (map box good) z bit P) .vote;
           };
           delivered = λ b1. record { firstInbox = came b1; secondInbox = relay-came b1 };
-          clean = λ x y h k. P .clean x y (rw (join-map box (λ (B : Box). B .hashed) good) h) (rw (join-map box (λ (B : Box). B .hashed) good) k);
+          clean = cleaned (sitting-tells n t (map box good) z bit P) (P .clean);
         }
       where
-        second : (A : Good) → In A → (e : Event) × (step sha256 n t good 2 A ≡ some e) × (e .call ≡ agreeRoot z)
-        second A h =
-            let s = P .step2 (box A) (in-map box h) in
-            let e = event 2 A (rooted z (s .0)) (s .1) in
-            (e .0, e .1, was-rooted (e .0 .call) (e .0 .reply) z (s .0) (e .2) .0)
-
         third : (A : Good) → In A → (e : Event) × (out : List ℕ) × (step sha256 n t good 3 A ≡ some e) × (e .call ≡ agreeBit bit out)
         third A h =
             let s = P .step3 (box A) (in-map box h) in
@@ -163,15 +211,6 @@ module _ (n t : ℕ) (good : List Good) (z : List ℕ) (bit : ℕ) where
             let s = P .step5 b1 (box A) (in-map box h) in
             let e = event 5 A (ended (s .0) (s .1)) (s .2) in
             (e .0, e .1)
-
-        voted : (v : ℕ) → ((A : Good) → In A → bitGiven (step sha256 n t good 2 A) ≡ some v) → (A : Good) → In A
-            → first 2 (box A .acts) ≡ some (rooted z v)
-        voted v f A h =
-            let s = P .step2 (box A) (in-map box h) in
-            let e = event 2 A (rooted z (s .0)) (s .1) in
-            let b : e .0 .reply .value ≡ s .0 = was-rooted (e .0 .call) (e .0 .reply) z (s .0) (e .2) .1 in
-            let q : e .0 .reply .value ≡ v = same-some (sym (ap bitGiven (e .1)) ∙ f A h) in
-            s .1 ∙ ap (λ (k : ℕ). some (rooted z k)) (sym b ∙ q)
 
         came : bit ≡ 1 → (A : Good) → In A → (B : Good) → In B → A .own ≢ B .own
             → heard n (B .own) (step sha256 n t good 4 A) ≡ packetTo n (A .own) (step sha256 n t good 3 B)

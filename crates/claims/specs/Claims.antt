@@ -167,9 +167,9 @@ module _ (n t : ℕ) (good : List Box) (z : List ℕ) (bit : ℕ) where
         → entry n (B .own) inbox ≡ entry n (A .own) outbox))
     pub second-inbox : bit ≡ 1 → All (λ A. All (λ B. A .own ≢ B .own → (inbox other relay : List ℕ) (r : Option Result)
         → first 5 (A .acts) ≡ some (ended inbox r) → first 4 (B .acts) ≡ some (relayed other relay) → entry n (B .own) inbox ≡ relay))
-    -- no two different strings that good boxes hashed, all taken together, have one hash
-    pub clean : (x y : List ℕ) → List·Memᴰ x (joinOver (λ (A : Box). A .hashed) good) → List·Memᴰ y (joinOver (λ (A : Box). A .hashed) good)
-        → sha256 x ≡ sha256 y → x ≡ y
+    -- no two different strings of the openings and path checks of good boxes, all taken together, have one hash
+    pub clean : (x y : List ℕ) → List·Memᴰ x (joinOver (λ (A : Box). A .openedAndChecked) good)
+        → List·Memᴰ y (joinOver (λ (A : Box). A .openedAndChecked) good) → sha256 x ≡ sha256 y → x ≡ y
 
   abbrev pub bytesSent : ℕ
   bytesSent = sumOver (λ (A : Box). sumOver (bytesIn n) (A .acts)) good

@@ -2,3 +2,4 @@ pub mod Terms
 pub mod Claims
 pub mod ReadAgain
 pub mod LongestBook
+pub mod AgreedRoot

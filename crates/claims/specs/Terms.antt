@@ -25,7 +25,7 @@ use Rattle.party.specs.declared.Outcome.the-variants.{Nothing, Message}
 use Rattle.party.specs.declared.Stage.{Stage}
 use Rattle.party.specs.declared.Stage.the-variants.{Root, Bit, First, Second, Ended}
 use Rattle.party.specs.declared.Party.{Party}
-use Rattle.agreement.specs.Calls.{Call, agreeRoot, agreeBit, takeShares, takeRelays, Event, did, hashed, lengths, resultAfter}
+use Rattle.agreement.specs.Calls.{Call, agreeRoot, agreeBit, takeShares, takeRelays, Event, did, openedAndChecked, recoded, lengths, resultAfter}
 use Rattle.agreement.specs.Agreement.{Good, sumOver}
 use Rattle.state_bytes.specs.Layout.{stateOf}
 use Rattle.capi.specs.Calls.{Replies, openCall, called, resultLengthCall}
@@ -168,7 +168,8 @@ bytesIn n (relayed inbox out) = (n - 1) * length out
 bytesIn n (ended inbox r) = 0
 
 -- a good box: its number and book, the cause of its opening and the root that it gave, its accepted calls in their order, the result that its state
--- holds after all calls, and the strings that it hashed, worked out from what it was given
+-- holds after all calls, and the strings that it hashed, worked out from what it was given: those of its opening and its path checks, and those of the book
+-- that it rebuilt and coded again
 pub record Box : Type 0 where
   pub own : ℕ
   pub book : List ℕ
@@ -176,7 +177,8 @@ pub record Box : Type 0 where
   pub root : List ℕ
   pub acts : List Act
   pub result : Option Result
-  pub hashed : List (List ℕ)
+  pub openedAndChecked : List (List ℕ)
+  pub recoded : List (List ℕ)
 
 -- a party with its list of calls, as a box
 abbrev pub actOf : Call → Stepped → Act
@@ -194,7 +196,8 @@ partyBox n t A =
       root = openOf sha256 n t (A .own) (A .message) .root;
       acts = map (λ (e : Event). actOf (e .call) (e .reply)) (did sha256 n t (A .own) (A .message) (A .calls));
       result = resultAfter sha256 n t (A .own) (A .message) (A .calls);
-      hashed = hashed sha256 n t (A .own) (A .message) (A .calls);
+      openedAndChecked = openedAndChecked sha256 n t (A .own) (A .message) (A .calls);
+      recoded = recoded sha256 n t (A .own) (A .message) (A .calls);
     }
 
 -- a host of the C interface: its number and book, the buffers that it lends to the opening, for the state and for the root, and the calls that it makes
@@ -230,7 +233,8 @@ hostBox n t h =
       root = take 32 (r .out);
       acts = actsSeen (r .state) (h .calls);
       result = resultIn (stateOf (left sha256 (r .state) (h .calls)));
-      hashed = hashed sha256 n t (h .own) (h .book) (h .calls);
+      openedAndChecked = openedAndChecked sha256 n t (h .own) (h .book) (h .calls);
+      recoded = recoded sha256 n t (h .own) (h .book) (h .calls);
     }
 
 -- either
@@ -243,9 +247,9 @@ abbrev pub further : List Call → Good ⊎ Host → Good ⊎ Host
 further more (inl A) = inl (record { own = A .own; message = A .message; calls = A .calls ++ more })
 further more (inr h) = inr (record { own = h .own; book = h .book; stateRoom = h .stateRoom; rootRoom = h .rootRoom; calls = h .calls ++ more })
 
--- the same result, held and given by every accepted step 5; the bytes sent and the list of strings hashed are those from before
+-- the same result, held and given by every accepted step 5; the bytes sent and the strings hashed are those from before
 pub record NothingMore (n : ℕ) (before after : Box) : Type 0 where
   pub held : after .result ≡ before .result
   pub readings : (inbox : List ℕ) (r : Option Result) → List·Memᴰ (ended inbox r) (after .acts) → r ≡ before .result
   pub sent : sumOver (bytesIn n) (after .acts) ≡ sumOver (bytesIn n) (before .acts)
-  pub hashed : after .hashed ≡ before .hashed
+  pub hashed : (after .openedAndChecked ≡ before .openedAndChecked) × (after .recoded ≡ before .recoded)

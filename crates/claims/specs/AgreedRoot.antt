@@ -1,0 +1,64 @@
+-- What request No. 4 of document 02 asks for, at SHA-256: a rebuilt book has the agreed root, or the result is nothing; no sitting ends differently for that;
+-- and no book is invented, however many boxes are bad. That none is invented where the bit's rule is broken as well is not claimed. Assumes nothing.
+use mathlib.Core.Path.{_≡_}
+use mathlib.Core.Logic.{_⊎_}
+use mathlib.Core.Bool.{false, cond, not}
+use mathlib.Core.List.{List, [], _∷_, _++_, map, List·Memᴰ}
+use mathlib.Core.Option.{some}
+use Prim.Native.Nat.{ℕ, _-_}
+use lib.Dec.{ltb, eqb}
+use lib.ListN.{length, take}
+use Rattle.buffer.specs.Bounds.{Bytes}
+use Rattle.buffer.specs.Entries.{fills, bodies}
+use Rattle.erasure.specs.Coding.{shares}
+use Rattle.erasure.specs.Rebuild.{present, point, joined, message}
+use Rattle.sha256.specs.Sha256.{sha256}
+use Rattle.merkle.specs.Strings.{Collision}
+use Rattle.merkle.specs.Shares.{same, codingStrings}
+use Rattle.commitment.specs.Commitment.{messageRoot}
+use Rattle.commitment.specs.Rebuild.{rebuildWithRootOf}
+use Rattle.party.specs.State.{Result, nothing, settled, hasEnded, happy}
+use Rattle.party.specs.Steps.{openOf, recoveredBy, resultOf}
+use Rattle.party.specs.declared.Party.{Party}
+use Rattle.agreement.specs.Calls.{events}
+use Rattle.agreement.specs.Agreement.{Good, joinOver}
+use Rattle.agreement.specs.AgreedRoot.{eventsUnchecked}
+use Rattle.claims.specs.Terms.{when, groupThen, unless, causeJoined, bookJoined, rooted, sent, ended, first, Box, partyBox, Host, boxOf}
+use Rattle.claims.specs.Claims.{All, Sitting}
+
+-- a box ends with a result: its state holds it, or an accepted step 5 gave it
+abbrev pub EndsWith : Box → Result → Type 0
+EndsWith A R = (A .result ≡ some R) ⊎ ((inbox : List ℕ) × List·Memᴰ (ended inbox (some R)) (A .acts))
+
+-- good boxes that are told one root and one bit, which is by its rule; how many are bad, and what they send, is not said
+pub record Told (n t : ℕ) (good : List Box) (z : List ℕ) (bit : ℕ) : Type 0 where
+  pub opened : All n t good z bit (λ A. (A .cause ≡ 0) × Bytes (A .book))
+  pub root : All n t good z bit (λ A. (b : ℕ) × (first 2 (A .acts) ≡ some (rooted z b)))
+  pub same-bit : All n t good z bit (λ A. (b : ℕ) (out : List ℕ) → first 3 (A .acts) ≡ some (sent b out) → b ≡ bit)
+  pub bit-rule : (v : ℕ) → All n t good z bit (λ A. first 2 (A .acts) ≡ some (rooted z v)) → bit ≡ v
+
+-- no two different strings of their openings and path checks have one hash: what demand 3 supposes
+abbrev pub Clean : List Box → Type 0
+Clean good = let ss = joinOver (λ (A : Box). A .openedAndChecked) good in (x y : List ℕ) → List·Memᴰ x ss → List·Memᴰ y ss → sha256 x ≡ sha256 y → x ≡ y
+
+pub record RebuiltBooksHaveTheAgreedRoot : Type 0 where
+  -- rebuilding under a root z: causes 15 and then 9 come last
+  pub tool : (n t : ℕ) (z es out : List ℕ) → let ps = present 1 (bodies n es) in let r = joined (n - t) (length (point ps 0 .share)) (take (n - t) ps) in
+      rebuildWithRootOf sha256 n t z es out ≡ unless (groupThen n t (when 7 (not (eqb (length z) 32)) ∷ when 8 (not (fills n es)) ∷ when 11 (ltb (length ps) (n - t))
+      ∷ causeJoined r ∷ when 15 (not (same (messageRoot sha256 n t (bookJoined r)) z)) ∷ [])) (bookJoined r) out
+  -- step 5 of an unhappy box that rebuilds the book m; and of any list of calls, whatever the other boxes are
+  pub step5 : (x : Party) (inbox m : List ℕ) → hasEnded (x .stage) ≡ false → happy sha256 x ≡ false → recoveredBy sha256 x inbox ≡ message m
+      → resultOf sha256 x inbox ≡ cond (same (messageRoot sha256 (x .seat .n) (x .seat .t) m) (x .root)) (settled m) nothing
+  pub agreed : (n t : ℕ) (g : Good ⊎ Host) (m : List ℕ) → boxOf n t g .cause ≡ 0 → EndsWith (boxOf n t g) (settled m)
+      → (z : List ℕ) × (b : ℕ) × (first 2 (boxOf n t g .acts) ≡ some (rooted z b)) × (messageRoot sha256 n t m ≡ z)
+  -- demand 3 supposes all this; then every call of every good box gives what it gave, and no other string is hashed
+  pub sitting : (n t : ℕ) (good : List Box) (z : List ℕ) (bit : ℕ) → Sitting n t good z bit → Told n t good z bit × Clean good
+  pub as-before : (n t : ℕ) (good : List Good) (z : List ℕ) (bit : ℕ) → Told n t (map (partyBox n t) good) z bit → Clean (map (partyBox n t) good)
+      → (A : Good) → List·Memᴰ A good → let x = openOf sha256 n t (A .own) (A .message) .state in
+      eventsUnchecked sha256 x (A .calls) ≡ events sha256 x (A .calls)
+  pub no-string-more : (n t : ℕ) (good : List (Good ⊎ Host)) (z : List ℕ) (bit : ℕ) → let boxes = map (boxOf n t) good in Told n t boxes z bit → Clean boxes
+      → (s : List ℕ) → List·Memᴰ s (joinOver (λ (A : Box). A .openedAndChecked ++ A .recoded) boxes) → List·Memᴰ s (joinOver (λ (A : Box). A .openedAndChecked) boxes)
+  -- a good box ends with nothing or with a good box's book, or a string of its second coding and one of a good box's opening collide
+  pub not-invented : (n t : ℕ) (good : List (Good ⊎ Host)) (z : List ℕ) (bit : ℕ) → let boxes = map (boxOf n t) good in Told n t boxes z bit
+      → All n t boxes z bit (λ A. (R : Result) → EndsWith A R → (R ≡ nothing) ⊎ ((B : Box) × List·Memᴰ B boxes
+      × ((R ≡ settled (B .book)) ⊎ Collision sha256 (A .recoded) (codingStrings sha256 n (shares n (n - t) (B .book))))))
