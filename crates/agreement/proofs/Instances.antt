@@ -5,7 +5,7 @@
 use mathlib.Core.Path.{_≡_, refl, sym, ap, _∙_, subst}
 use mathlib.Core.Logic.{_⊎_, inl, inr, _≢_}
 use mathlib.Core.Bool.{Bool, true, false, cond, false≢true}
-use mathlib.Core.List.{List, [], _∷_, map, List·Memᴰ, List·Memᴰ·head, List·Memᴰ·tail, List·Memᴰ·not-nil, List·Memᴰ·cases-cons}
+use mathlib.Core.List.{List, [], _∷_, map, List·Memᴰ, List·Memᴰ·head, List·Memᴰ·tail, List·Memᴰ·not-nil, List·Memᴰ·cases-cons, List·Memᴰ·eq-of-singleton}
 use mathlib.Core.Option.{Option, none, some}
 use Prim.Native.Nat.{ℕ, zero, suc, _+_, _*_, _/_, _%_, _^_, _<_}
 use native.Mathlib.Nat.{le-refl}
@@ -57,16 +57,16 @@ digest v =
 abbrev pub toy : List ℕ → List ℕ
 toy s = digest (mix s 0)
 
-wide : (s : List ℕ) → length (toy s) ≡ 32
+pub wide : (s : List ℕ) → length (toy s) ≡ 32
 unfolding digest
 wide s = refl
 
 -- strings of which no two different ones have one hash, tested pair by pair
-unfoldable cleanOf : List ℕ → List (List ℕ) → Bool
+unfoldable pub cleanOf : List ℕ → List (List ℕ) → Bool
 cleanOf x [] = true
 cleanOf x (y ∷ l) = cond (same (toy x) (toy y)) (cond (same x y) (cleanOf x l) false) (cleanOf x l)
 
-unfoldable clean : List (List ℕ) → List (List ℕ) → Bool
+unfoldable pub clean : List (List ℕ) → List (List ℕ) → Bool
 clean [] l = true
 clean (x ∷ xs) l = cond (cleanOf x l) (clean xs l) false
 
@@ -99,11 +99,11 @@ clean-sound x y (w ∷ xs) l c h k e = go (way (cleanOf w l)) (List·Memᴰ·cas
     go (off p) (inr q) r = absurd (false≢true (rw p at c))
 
 -- an event that is there
-unfoldable there : Option Event → Bool
+unfoldable pub there : Option Event → Bool
 there none = false
 there (some e) = true
 
-abbrev pick : (o : Option Event) → there o ≡ true → (e : Event) × (o ≡ some e)
+abbrev pub pick : (o : Option Event) → there o ≡ true → (e : Event) × (o ≡ some e)
 unfolding there
 pick none p = absurd (false≢true p)
 pick (some e) p = (e, refl)
@@ -112,7 +112,7 @@ zero-one : _≡_ {A = ℕ} 0 1 → ⊥
 zero-one e = omega arith
 
 -- short messages are bytes
-one-byte : (a : ℕ) → a < 256 → Bytes (a ∷ [])
+pub one-byte : (a : ℕ) → a < 256 → Bytes (a ∷ [])
 one-byte a h zero = h
 one-byte a h (suc i) = lit< tt
 
@@ -181,7 +181,10 @@ Q3 = record { own = 3; message = M; calls = agreeRoot z ∷ agreeBit 0 room ∷ 
 abbrev pub idle : List Good
 idle = Q2 ∷ Q3 ∷ []
 
--- what holds of both holds of all
+-- what holds of one holds of all, where there is but one; and what holds of both, where there are two
+pub only : (A : Good) (P : Good → Type 0) → P A → (D : Good) → List·Memᴰ D (A ∷ []) → P D
+only A P a D h = subst P (sym (List·Memᴰ·eq-of-singleton h)) a
+
 pub each : (A B : Good) (P : Good → Type 0) → P A → P B → (D : Good) → List·Memᴰ D (A ∷ B ∷ []) → P D
 each A B P a b D h = go (List·Memᴰ·cases-cons h)
   where

@@ -9,3 +9,4 @@ pub mod Depends
 pub mod Agreement
 pub mod AgreedRoot
 pub mod Instances
+pub mod Forged
