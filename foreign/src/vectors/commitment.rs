@@ -181,23 +181,22 @@ fn other_roots(file: &mut File) {
     }
 }
 
-/// The root that the message has in another group. It is the same one where n is and the shares
+/// The root that the message has under another t, or another n. It is the same where n and all shares
 /// are, as those of the empty message under any t of several parties.
 fn other_groups(file: &mut File) {
     let all = pairs(1, MOST_PARTIES);
     for &(n, t) in &all {
         let within = all.iter().filter(|it| it.0 == n && it.1 != t);
-        let beside = all.iter().filter(|it| it.0 + 1 == n || it.0 == n + 1);
-        for others in [within.collect::<Vec<_>>(), beside.collect()] {
+        let beside = all.iter().filter(|it| it.0.abs_diff(n) == 1);
+        let others: [Vec<_>; 2] = [within.collect(), beside.collect()];
+        for others in others.iter().filter(|it| !it.is_empty()) {
             for length in [0, 2, 30] {
                 let message = file.random.bytes(length);
                 let shares = coded((n, t), &message);
                 let entries = join(&file.some_of(&shares, n - t));
-                if !others.is_empty() {
-                    let &(n_there, t_there) = file.random.pick(&others);
-                    let given = root(n_there, t_there, &message);
-                    file.held_to((n, t), &given, &entries, &message);
-                }
+                let &(other_n, other_t) = file.random.pick(others);
+                let given = root(other_n, other_t, &message);
+                file.held_to((n, t), &given, &entries, &message);
             }
         }
     }
