@@ -1,9 +1,11 @@
-// The field and the erasure code.
+// The field, the erasure code, and rebuilding with a root.
 //
 // 1, products: a (1 byte). Its 256 products with 0 to 255, on which the four functions that make products have to agree.
 // 2, inverses: nothing. The 256 inverses of 0 to 255.
 // 3, powers: a (1), k (8). The power (1).
 // 4, encode, and 5, rebuild: n (2), t (2), the length of the buffer lent (4), the bytes. The answer, and the buffer.
+// 6, rebuild with root: n (2), t (2), the length of the buffer lent (4), the root's length (2), the root, the bytes. The answer, and the
+// buffer.
 use crate::KINDS;
 use crate::answer;
 use crate::answer::ANSWER;
@@ -17,8 +19,10 @@ use stream::Tally;
 // The greatest length of a buffer lent: about twice what all shares of the longest message need.
 const MAX_ROOM: usize = 4 * (MAX_SHARE + MAX_PARTIES);
 
-// The bytes in front of what is encoded or rebuilt.
+// The bytes in front of what is encoded or rebuilt, and of a root.
 const FRONT: usize = 8;
+
+const AT_ROOT: usize = 10;
 
 pub(crate) fn run(kind: usize, input: &[u8], out: &mut [u8]) -> usize {
     if kind == 1 {
@@ -29,6 +33,9 @@ pub(crate) fn run(kind: usize, input: &[u8], out: &mut [u8]) -> usize {
     }
     if kind == 3 {
         return power(number_at(input, 0, 1), number_at(input, 1, 8), out);
+    }
+    if kind == 6 {
+        return rooted(input, out);
     }
     coding(kind == 4, input, out)
 }
@@ -105,6 +112,32 @@ fn call(encodes: bool, n: usize, t: usize, input: &[u8], out: &mut [u8]) -> Writ
     }
 }
 
+// A rebuilding with a root.
+fn rooted(input: &[u8], out: &mut [u8]) -> usize {
+    let wide = number_at(input, 8, 2);
+    if input.len() < AT_ROOT {
+        return MALFORMED;
+    }
+    if input.len() - AT_ROOT < wide {
+        return MALFORMED;
+    }
+    let room = number_at(input, 4, 4);
+    if MAX_ROOM < room {
+        return MALFORMED;
+    }
+    let end = ANSWER + room;
+    if out.len() < end {
+        return MALFORMED;
+    }
+    let behind = AT_ROOT + wide;
+    let n = number_at(input, 0, 2);
+    let t = number_at(input, 2, 2);
+    let root = &input[AT_ROOT..behind];
+    let got = commitment::rebuild_with_root(n, t, root, &input[behind..], &mut out[ANSWER..end]);
+    answer::put(out, 0, answer::written(got));
+    end
+}
+
 // A line for each kind that had cases.
 pub(crate) fn print(tallies: [Tally; KINDS], before: u64) -> u64 {
     let mut failed = before;
@@ -112,5 +145,6 @@ pub(crate) fn print(tallies: [Tally; KINDS], before: u64) -> u64 {
     failed = stream::print_tally(b"inverses", tallies[1], failed);
     failed = stream::print_tally(b"powers", tallies[2], failed);
     failed = stream::print_tally(b"encode", tallies[3], failed);
-    stream::print_tally(b"rebuild", tallies[4], failed)
+    failed = stream::print_tally(b"rebuild", tallies[4], failed);
+    stream::print_tally(b"rebuild with root", tallies[5], failed)
 }

@@ -32,18 +32,18 @@ const MAX_OUTPUT: usize = plans::FRONT + MAX_TEXT;
 const UNTOUCHED: u8 = 0xA5;
 
 // The number of kinds of cases. Of the first ROWS each byte that comes of a case counts as a case of its own.
-const KINDS: usize = 22;
+const KINDS: usize = 23;
 
 const ROWS: usize = 2;
 
 // The last kind of each module; the plans have one, and come last. All but the calls on a party go by themselves.
-const CODER: usize = 5;
+const CODER: usize = 6;
 
-const TREE: usize = 9;
+const TREE: usize = 10;
 
-const PACKETS: usize = 13;
+const PACKETS: usize = 14;
 
-const STEPS: usize = 21;
+const STEPS: usize = 22;
 
 // What came of a stream: a tally for each kind, and whether the stream was whole.
 struct Outcome {
@@ -195,6 +195,6 @@ fn print(outcome: Outcome) {
     failed = tree::print(tallies, failed);
     failed = packets::print(tallies, failed);
     failed = steps::print(tallies, failed);
-    failed = stream::print_tally(b"plans", tallies[21], failed);
+    failed = stream::print_tally(b"plans", tallies[22], failed);
     stream::print_end(failed, outcome.whole);
 }

@@ -193,8 +193,8 @@ fn writing(input: &[u8], out: &mut [u8]) -> usize {
 // A line for each kind that had cases.
 pub(crate) fn print(tallies: [Tally; KINDS], before: u64) -> u64 {
     let mut failed = before;
-    failed = stream::print_tally(b"reads", tallies[9], failed);
-    failed = stream::print_tally(b"judgements", tallies[10], failed);
-    failed = stream::print_tally(b"inboxes", tallies[11], failed);
-    stream::print_tally(b"writes", tallies[12], failed)
+    failed = stream::print_tally(b"reads", tallies[10], failed);
+    failed = stream::print_tally(b"judgements", tallies[11], failed);
+    failed = stream::print_tally(b"inboxes", tallies[12], failed);
+    stream::print_tally(b"writes", tallies[13], failed)
 }

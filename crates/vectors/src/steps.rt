@@ -372,12 +372,12 @@ fn put_bytes(bytes: &mut [u8], input: &[u8]) -> usize {
 // A line for each kind that had cases.
 pub(crate) fn print(tallies: [Tally; KINDS], before: u64) -> u64 {
     let mut failed = before;
-    failed = stream::print_tally(b"openings", tallies[13], failed);
-    failed = stream::print_tally(b"agreed roots", tallies[14], failed);
-    failed = stream::print_tally(b"agreed bits", tallies[15], failed);
-    failed = stream::print_tally(b"first inboxes", tallies[16], failed);
-    failed = stream::print_tally(b"second inboxes", tallies[17], failed);
-    failed = stream::print_tally(b"numbers changed", tallies[18], failed);
-    failed = stream::print_tally(b"stages changed", tallies[19], failed);
-    stream::print_tally(b"bytes changed", tallies[20], failed)
+    failed = stream::print_tally(b"openings", tallies[14], failed);
+    failed = stream::print_tally(b"agreed roots", tallies[15], failed);
+    failed = stream::print_tally(b"agreed bits", tallies[16], failed);
+    failed = stream::print_tally(b"first inboxes", tallies[17], failed);
+    failed = stream::print_tally(b"second inboxes", tallies[18], failed);
+    failed = stream::print_tally(b"numbers changed", tallies[19], failed);
+    failed = stream::print_tally(b"stages changed", tallies[20], failed);
+    stream::print_tally(b"bytes changed", tallies[21], failed)
 }

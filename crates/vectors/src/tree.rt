@@ -151,8 +151,8 @@ fn path_lengths(n: usize, out: &mut [u8]) -> usize {
 // A line for each kind that had cases.
 pub(crate) fn print(tallies: [Tally; KINDS], before: u64) -> u64 {
     let mut failed = before;
-    failed = stream::print_tally(b"hashes", tallies[5], failed);
-    failed = stream::print_tally(b"trees", tallies[6], failed);
-    failed = stream::print_tally(b"checks", tallies[7], failed);
-    stream::print_tally(b"path lengths", tallies[8], failed)
+    failed = stream::print_tally(b"hashes", tallies[6], failed);
+    failed = stream::print_tally(b"trees", tallies[7], failed);
+    failed = stream::print_tally(b"checks", tallies[8], failed);
+    stream::print_tally(b"path lengths", tallies[9], failed)
 }
