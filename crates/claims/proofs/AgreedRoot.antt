@@ -29,8 +29,8 @@ use Rattle.agreement.specs.Agreement.{Good, joinOver}
 use Rattle.agreement.specs.AgreedRoot as theirs
 use Rattle.agreement.proofs.Ended.{waits-none}
 use Rattle.agreement.proofs.AgreedRoot.{ends-under-its-root, no-invented-message, no-string-more, no-other-ending}
-use Rattle.claims.specs.Terms.{when, foremost, groupThen, unless, causeJoined, bookJoined, rooted, stepIn, first, Box, actOf, partyBox, Host, boxOf}
-use Rattle.claims.specs.AgreedRoot.{EndsWith, Told, Clean, RebuiltBooksHaveTheAgreedRoot}
+use Rattle.claims.specs.Terms.{when, foremost, groupThen, unless, causeJoined, bookJoined, rooted, stepIn, first, Box, EndsWith, Clean, actOf, partyBox, Host, boxOf}
+use Rattle.claims.specs.AgreedRoot.{Told, RebuiltBooksHaveTheAgreedRoot}
 use Rattle.claims.proofs.Lists.{in-map, all-map, join-map}
 use Rattle.claims.proofs.Parties.{view, seen, view-step, view-first, was-ended, told, cleaned, sitting-tells}
 use Rattle.claims.proofs.Hosts.{party, either-same, boxes-same}

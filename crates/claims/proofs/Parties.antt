@@ -20,10 +20,10 @@ use Rattle.agreement.specs.AgreedRoot.{Told as TheirTold}
 use Rattle.agreement.proofs.Lists.{same-some, first-in}
 use Rattle.agreement.proofs.Ran.{is-third}
 use Rattle.agreement.proofs.Agreement.{agreement-sha256}
-use Rattle.claims.specs.Terms.{Act, rooted, sent, relayed, ended, stepIn, first, bytesIn, Box, actOf, partyBox}
+use Rattle.claims.specs.Terms.{Act, rooted, sent, relayed, ended, stepIn, first, bytesIn, Box, Clean, actOf, partyBox}
 use Rattle.claims.specs.Claims.{Sitting, OneResult, bytesSent, AllGoodBoxesEndWithOneResult}
 use Rattle.claims.specs.ReadAgain.{EveryReaderGetsIt}
-use Rattle.claims.specs.AgreedRoot.{Told, Clean}
+use Rattle.claims.specs.AgreedRoot.{Told}
 use Rattle.claims.proofs.Lists.{in-map, all-map, map-map, sum-map, join-map}
 
 -- what is seen of an event

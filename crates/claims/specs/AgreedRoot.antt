@@ -23,12 +23,8 @@ use Rattle.party.specs.declared.Party.{Party}
 use Rattle.agreement.specs.Calls.{events}
 use Rattle.agreement.specs.Agreement.{Good, joinOver}
 use Rattle.agreement.specs.AgreedRoot.{eventsUnchecked}
-use Rattle.claims.specs.Terms.{when, groupThen, unless, causeJoined, bookJoined, rooted, sent, ended, first, Box, partyBox, Host, boxOf}
+use Rattle.claims.specs.Terms.{when, groupThen, unless, causeJoined, bookJoined, rooted, sent, first, Box, Clean, EndsWith, partyBox, Host, boxOf}
 use Rattle.claims.specs.Claims.{All, Sitting}
-
--- a box ends with a result: its state holds it, or an accepted step 5 gave it
-abbrev pub EndsWith : Box → Result → Type 0
-EndsWith A R = (A .result ≡ some R) ⊎ ((inbox : List ℕ) × List·Memᴰ (ended inbox (some R)) (A .acts))
 
 -- good boxes that are told one root and one bit, which is by its rule; how many are bad, and what they send, is not said
 pub record Told (n t : ℕ) (good : List Box) (z : List ℕ) (bit : ℕ) : Type 0 where
@@ -36,10 +32,6 @@ pub record Told (n t : ℕ) (good : List Box) (z : List ℕ) (bit : ℕ) : Type 
   pub root : All n t good z bit (λ A. (b : ℕ) × (first 2 (A .acts) ≡ some (rooted z b)))
   pub same-bit : All n t good z bit (λ A. (b : ℕ) (out : List ℕ) → first 3 (A .acts) ≡ some (sent b out) → b ≡ bit)
   pub bit-rule : (v : ℕ) → All n t good z bit (λ A. first 2 (A .acts) ≡ some (rooted z v)) → bit ≡ v
-
--- no two different strings of their openings and path checks have one hash: what demand 3 supposes
-abbrev pub Clean : List Box → Type 0
-Clean good = let ss = joinOver (λ (A : Box). A .openedAndChecked) good in (x y : List ℕ) → List·Memᴰ x ss → List·Memᴰ y ss → sha256 x ≡ sha256 y → x ≡ y
 
 pub record RebuiltBooksHaveTheAgreedRoot : Type 0 where
   -- rebuilding under a root z: causes 15 and then 9 come last
@@ -51,7 +43,8 @@ pub record RebuiltBooksHaveTheAgreedRoot : Type 0 where
       → resultOf sha256 x inbox ≡ cond (same (messageRoot sha256 (x .seat .n) (x .seat .t) m) (x .root)) (settled m) nothing
   pub agreed : (n t : ℕ) (g : Good ⊎ Host) (m : List ℕ) → boxOf n t g .cause ≡ 0 → EndsWith (boxOf n t g) (settled m)
       → (z : List ℕ) × (b : ℕ) × (first 2 (boxOf n t g .acts) ≡ some (rooted z b)) × (messageRoot sha256 n t m ≡ z)
-  -- demand 3 supposes all this; then every call of every good box gives what it gave, and no other string is hashed
+  -- demand 3 supposes this and more. Then every call of every good box gives what it gave with step 5 as it was, which `eventsUnchecked` has: state, answer, result and
+  -- buffer; and no other string is hashed
   pub sitting : (n t : ℕ) (good : List Box) (z : List ℕ) (bit : ℕ) → Sitting n t good z bit → Told n t good z bit × Clean good
   pub as-before : (n t : ℕ) (good : List Good) (z : List ℕ) (bit : ℕ) → Told n t (map (partyBox n t) good) z bit → Clean (map (partyBox n t) good)
       → (A : Good) → List·Memᴰ A good → let x = openOf sha256 n t (A .own) (A .message) .state in

@@ -32,11 +32,11 @@ use Rattle.party.specs.Steps.{turnOf, openOf, Stepped, causeOf, valueOf, result
 use Rattle.party.specs.declared.Party.{Party}
 use Rattle.party.specs.declared.Opened.{Opened}
 use Rattle.agreement.specs.Calls.{Call, stepOf, made, entry}
-use Rattle.agreement.specs.Agreement.{Good, different, absent, sumOver, joinOver}
+use Rattle.agreement.specs.Agreement.{different, absent, sumOver}
 use Rattle.state_bytes.specs.Layout.{stateLength, stateBytes, stateOf}
 use Rattle.capi.specs.Calls.{packed, valueShown, Replies, openCall, called}
 use Rattle.claims.specs.Terms.{when, foremost, groupThen, lent, wrong, due, next, answered, outcome, unless, causeJoined, bookJoined, unread}
-use Rattle.claims.specs.Terms.{Leads, leaves, exampleMessages, exampleDigests, rooted, sent, relayed, ended, first, bytesIn, Box, partyBox, boxOf}
+use Rattle.claims.specs.Terms.{Leads, leaves, exampleMessages, exampleDigests, rooted, sent, relayed, ended, first, bytesIn, Box, Clean, partyBox, boxOf}
 
 -- DEMAND 1. The opening, a step on any state, and both on bytes: the cause, what a refusal keeps, what an accepted call gives, and that a lawful one is
 -- accepted. Cause 9 tells the length needed
@@ -167,9 +167,8 @@ module _ (n t : ℕ) (good : List Box) (z : List ℕ) (bit : ℕ) where
         → entry n (B .own) inbox ≡ entry n (A .own) outbox))
     pub second-inbox : bit ≡ 1 → All (λ A. All (λ B. A .own ≢ B .own → (inbox other relay : List ℕ) (r : Option Result)
         → first 5 (A .acts) ≡ some (ended inbox r) → first 4 (B .acts) ≡ some (relayed other relay) → entry n (B .own) inbox ≡ relay))
-    -- no two different strings of the openings and path checks of good boxes, all taken together, have one hash
-    pub clean : (x y : List ℕ) → List·Memᴰ x (joinOver (λ (A : Box). A .openedAndChecked) good)
-        → List·Memᴰ y (joinOver (λ (A : Box). A .openedAndChecked) good) → sha256 x ≡ sha256 y → x ≡ y
+    -- no two different strings of their openings and path checks have one hash
+    pub clean : Clean good
 
   abbrev pub bytesSent : ℕ
   bytesSent = sumOver (λ (A : Box). sumOver (bytesIn n) (A .acts)) good

@@ -26,7 +26,7 @@ use Rattle.party.specs.declared.Stage.{Stage}
 use Rattle.party.specs.declared.Stage.the-variants.{Root, Bit, First, Second, Ended}
 use Rattle.party.specs.declared.Party.{Party}
 use Rattle.agreement.specs.Calls.{Call, agreeRoot, agreeBit, takeShares, takeRelays, Event, did, openedAndChecked, recoded, lengths, resultAfter}
-use Rattle.agreement.specs.Agreement.{Good, sumOver}
+use Rattle.agreement.specs.Agreement.{Good, sumOver, joinOver}
 use Rattle.state_bytes.specs.Layout.{stateOf}
 use Rattle.capi.specs.Calls.{Replies, openCall, called, resultLengthCall}
 use Rattle.capi.specs.Lists.{left}
@@ -179,6 +179,16 @@ pub record Box : Type 0 where
   pub result : Option Result
   pub openedAndChecked : List (List ℕ)
   pub recoded : List (List ℕ)
+
+-- it ends with a result: its state holds it, or an accepted step 5 gave it
+abbrev pub EndsWith : Box → Result → Type 0
+EndsWith A R = (A .result ≡ some R) ⊎ ((inbox : List ℕ) × List·Memᴰ (ended inbox (some R)) (A .acts))
+
+-- no two different strings of the openings and path checks of these boxes, all taken together, have one hash
+abbrev pub Clean : List Box → Type 0
+Clean good =
+    let ss = joinOver (λ (A : Box). A .openedAndChecked) good in
+    (x y : List ℕ) → List·Memᴰ x ss → List·Memᴰ y ss → sha256 x ≡ sha256 y → x ≡ y
 
 -- a party with its list of calls, as a box
 abbrev pub actOf : Call → Stepped → Act
