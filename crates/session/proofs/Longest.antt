@@ -1,5 +1,5 @@
 -- A session with a liar whose good parties hold a message of any length up to the greatest. Its plan is taken, and both good parties end with the message, whatever
--- bytes the liar sends that a plan has room for: over every hash that gives no two strings which they hashed one value, and so with no premise on the hash over one that gives no two
+-- bytes the liar sends that a plan has room for: over every hash that gives no two strings of their openings and path checks one value, and so with no premise on the hash over one that gives no two
 -- strings at all one value, which is of 32 numbers and not of 32 bytes. The message stays a variable: nothing is worked out byte by byte. Assumes nothing.
 use mathlib.Core.Path.{_≡_, refl, sym, ap, ap₂, _∙_}
 use mathlib.Core.Bool.{true, false, and-false}

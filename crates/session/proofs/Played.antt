@@ -1,5 +1,5 @@
 -- A plan that is taken is a session as agreement supposes it: every opening and every step is accepted, the agreed root and bit keep the rule, and
--- packets between good parties arrive. So, unless two different strings that good parties hashed have one hash, all good parties' lines
+-- packets between good parties arrive. So, unless two different strings of their openings and path checks have one hash, all good parties' lines
 -- give one result, and the figure after `sent` is the theorem's own sum. By the laws of progress, step by step. Assumes nothing.
 use mathlib.Core.Path.{_≡_, refl, sym, ap, ap₂, _∙_, subst}
 use mathlib.Core.Logic.{_≢_}
