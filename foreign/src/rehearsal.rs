@@ -1,7 +1,7 @@
 //! The rehearsal: plays the good parties of a session against a plan of what the bad ones
 //! send, and tells how each good party ended and how many bytes they sent. A plan is read
-//! to its end, then judged, then played by the steps of party.rs. What was seen on the way is
-//! kept for whoever explains a session.
+//! to its end, then judged, then played by the steps of party.rs; it can also be played whatever
+//! is judged of it. What was seen on the way is kept for whoever explains a session.
 
 use crate::inbox::{entries, lay_out};
 use crate::limits::{LONGEST_MESSAGE, LONGEST_OUTBOX, LONGEST_PLAN, MOST_NAMED, MOST_PARTIES};
@@ -118,9 +118,21 @@ pub fn rehearse(plan: &[u8]) -> Vec<u8> {
     .into_bytes()
 }
 
-/// The session that the plan tells, or why it is refused.
+/// The session that the plan tells, or why it is refused: the first cause in the order of
+/// `formed`, `supposed` and `ruled`. Nothing is sent where the rule is broken.
 pub fn play(plan: &[u8]) -> Result<Session, Fault> {
-    judged(plan).and_then(played)
+    let plan = formed(plan)?;
+    supposed(&plan)?;
+    let (states, session) = agreed(plan).expect("a good party, as fewer than n are bad");
+    ruled(&session)?;
+    Ok(ended(states, session).expect("steps in turn, well called"))
+}
+
+/// The session of a plan whose form is fine, also where more than t parties are bad, or root or
+/// bit are against the rule; none without a good party, or where a step is refused.
+pub fn play_regardless(plan: &[u8]) -> Option<Session> {
+    let (states, session) = agreed(formed(plan).ok()?)?;
+    ended(states, session)
 }
 
 impl Session {
@@ -147,9 +159,8 @@ impl Session {
     }
 }
 
-/// The plan, or the first cause in the order 13 for under two bytes, 1, 2, 13, 4, 14. What
-/// the rule of the short agreement says of root and bit is left to the play.
-fn judged(bytes: &[u8]) -> Result<Plan, Fault> {
+/// The plan, or the first cause in the order 13 for under two bytes, 1, 2, 13, 4.
+fn formed(bytes: &[u8]) -> Result<Plan, Fault> {
     let &[n, t, ..] = bytes else {
         return read(bytes).map_err(Fault::Layout);
     };
@@ -168,13 +179,34 @@ fn judged(bytes: &[u8]) -> Result<Plan, Fault> {
     if let Some((&party, _)) = books.find(|it| it.1.len() > LONGEST_MESSAGE) {
         return Err(Fault::LongMessage(party));
     }
-    if n - plan.good.len() > t {
+    Ok(plan)
+}
+
+/// Cause 14 as far as the plan alone tells.
+fn supposed(plan: &Plan) -> Result<(), Fault> {
+    if plan.n - plan.good.len() > plan.t {
         return Err(Fault::TooManyBad);
     }
     if plan.bit.is_some_and(|bit| bit > 1) {
         return Err(Fault::BitAbove);
     }
-    Ok(plan)
+    Ok(())
+}
+
+/// Cause 14 by the rule of the short agreement, of the root and then of the bit.
+fn ruled(session: &Session) -> Result<(), Fault> {
+    if against(&session.root, &session.roots) {
+        return Err(Fault::RootAgainst);
+    }
+    if against(&session.bit, &session.bits) {
+        return Err(Fault::BitAgainst);
+    }
+    Ok(())
+}
+
+/// Whether all put in the same, and the agreement gave another.
+fn against<T: PartialEq>(value: &T, put_in: &[T]) -> bool {
+    put_in.windows(2).all(|pair| pair[0] == pair[1]) && !put_in.contains(value)
 }
 
 /// The plan whose bytes these are, whatever n and t, or where it is badly laid out.
@@ -299,58 +331,55 @@ impl<'a> Rest<'a> {
     }
 }
 
-/// The value of a short agreement: the one given, or else the lowest party's. Where all put
-/// in the same it can be no other.
-fn agreed<T: Copy + PartialEq>(given: Option<T>, put_in: &[T]) -> Option<T> {
-    let value = given.unwrap_or(put_in[0]);
-    let common = put_in.iter().all(|it| *it == put_in[0]);
-    (!common || value == put_in[0]).then_some(value)
-}
-
-/// Plays the good parties. There is at least one, since fewer than n parties are bad.
-fn played(mut plan: Plan) -> Result<Session, Fault> {
-    let (states, roots) = opened(&plan);
-    let root = agreed(plan.root, &roots).ok_or(Fault::RootAgainst)?;
-    let (states, bits) = each(states, |state| state.agree_root(&root));
-    let bits: Vec<u8> = bits.into_iter().map(u8::from).collect();
-    let bit = agreed(plan.bit, &bits).ok_or(Fault::BitAgainst)?;
-    let (mut states, outboxes) = each(states, |state| written(|out| state.agree_bit(bit, out)));
-    for (own, outbox) in plan.good.iter().zip(&outboxes) {
-        let packets = entries(plan.n, outbox).expect("an outbox is laid out like an inbox");
-        plan.first[own - 1] = packets.into_iter().map(sent).collect();
-    }
-    let mut takings = None;
-    if bit == 1 {
-        let (ended, taken) = exchanged(states, &mut plan);
-        (states, takings) = (ended, Some(taken));
-    }
-    Ok(Session {
-        results: states.iter().map(result).collect(),
+/// Steps 1 and 2: the good parties with the session as far as both short agreements, each of
+/// which gives the plan's value, or else the lowest party's.
+fn agreed(plan: Plan) -> Option<(Vec<State>, Session)> {
+    let (n, t) = (plan.n as u64, plan.t as u64);
+    let books = plan.good.iter().zip(&plan.messages).collect();
+    let (states, roots) = each(books, |(&own, message)| {
+        State::open(n, t, own as u64, message)
+    })?;
+    let root = plan.root.unwrap_or(*roots.first()?);
+    let (states, happy) = each(states, |state| state.agree_root(&root))?;
+    let bits: Vec<u8> = happy.into_iter().map(u8::from).collect();
+    let bit = plan.bit.unwrap_or(*bits.first()?);
+    let session = Session {
         plan,
         roots,
         root,
         bits,
         bit,
-        takings,
-    })
+        takings: None,
+        results: Vec::new(),
+    };
+    Some((states, session))
 }
 
-fn opened(plan: &Plan) -> (Vec<State>, Vec<Hash>) {
-    let books = plan.good.iter().zip(&plan.messages).collect();
-    each(books, |(&own, message)| {
-        State::open(plan.n as u64, plan.t as u64, own as u64, message)
-    })
+/// Step 3 and, on bit 1, steps 4 and 5: the session to its end.
+fn ended(states: Vec<State>, mut session: Session) -> Option<Session> {
+    let (bit, plan) = (session.bit, &mut session.plan);
+    let (mut states, outboxes) = each(states, |state| written(|out| state.agree_bit(bit, out)))?;
+    for (own, outbox) in plan.good.iter().zip(&outboxes) {
+        let packets = entries(plan.n, outbox).expect("an outbox is laid out like an inbox");
+        plan.first[own - 1] = packets.into_iter().map(sent).collect();
+    }
+    if bit == 1 {
+        let (ended, takings) = exchanged(states, plan)?;
+        (states, session.takings) = (ended, Some(takings));
+    }
+    session.results = states.iter().map(result).collect();
+    Some(session)
 }
 
 /// Steps 4 and 5: takes the first inboxes, puts the relays into the second exchange, and
 /// takes the second inboxes.
-fn exchanged(states: Vec<State>, plan: &mut Plan) -> (Vec<State>, Takings) {
+fn exchanged(states: Vec<State>, plan: &mut Plan) -> Option<(Vec<State>, Takings)> {
     let places = with_inboxes(states, &plan.good, &plan.first);
     let sources = places.iter().map(|(state, inbox)| state.source(inbox));
     let sources = sources.collect();
     let (states, relays) = each(places, |(state, inbox)| {
         written(|out| state.take_shares(&inbox, out))
-    });
+    })?;
     for (&own, relay) in plan.good.iter().zip(relays) {
         plan.second[own - 1] = to_all_others(plan.n, own, &relay);
     }
@@ -361,21 +390,21 @@ fn exchanged(states: Vec<State>, plan: &mut Plan) -> (Vec<State>, Takings) {
     let rebuilt = rebuilt.collect();
     let (states, _) = each(places, |(state, inbox)| {
         state.take_relays(&inbox, &mut [0; LONGEST_MESSAGE])
-    });
+    })?;
     let takings = Takings {
         sources,
         gathered,
         rebuilt,
     };
-    (states, takings)
+    Some((states, takings))
 }
 
-/// Does one step of each party, none of which is refused.
-fn each<S, T>(parties: Vec<S>, step: impl Fn(S) -> Given<T>) -> (Vec<State>, Vec<T>) {
+/// Does one step of each party; none if one is refused.
+fn each<S, T>(parties: Vec<S>, step: impl Fn(S) -> Given<T>) -> Option<(Vec<State>, Vec<T>)> {
     let given = parties.into_iter().map(step);
     given
-        .map(|(state, answer)| (state, answer.expect("a step in turn, well called")))
-        .unzip()
+        .map(|(state, answer)| Some((state, answer.ok()?)))
+        .collect()
 }
 
 /// The step with what it wrote as its answer; no step writes more than an outbox.
@@ -422,6 +451,7 @@ mod tests {
     use super::*;
     use crate::liars::Sharing;
     use crate::limits::{INSIDE, MOST_FAULTS};
+    use crate::plans;
 
     const MOST: u8 = MOST_PARTIES as u8;
 
@@ -723,6 +753,78 @@ mod tests {
         let message = Some(Rebuilt::Message(b"A".to_vec()));
         assert_eq!(takings.rebuilt, [None, message.clone(), message, None]);
         assert_eq!(takings.gathered[0], None);
+    }
+
+    /// Parties that are taken through their steps whatever is judged do what judged ones do.
+    #[test]
+    fn lawful_plans_are_played_alike() {
+        let mut lawful = 0;
+        for bytes in (1..=2_000).step_by(4).map(|k| plans::plan(k).bytes) {
+            let Ok(expected) = play(&bytes) else {
+                continue;
+            };
+            lawful += 1;
+            let found = play_regardless(&bytes).expect("lawful steps");
+            assert_eq!(found.report(), expected.report());
+            assert_eq!((found.root, found.bit), (expected.root, expected.bit));
+            assert_eq!((found.roots, found.bits), (expected.roots, expected.bits));
+            assert_eq!(found.plan.first, expected.plan.first);
+            assert_eq!(found.plan.second, expected.plan.second);
+            let seen =
+                |takings: Option<Takings>| takings.map(|it| (it.sources, it.gathered, it.rebuilt));
+            assert_eq!(seen(found.takings), seen(expected.takings));
+        }
+        assert!(lawful > 200, "{lawful}");
+    }
+
+    /// The fault, and what is printed of the plan all the same.
+    fn regardless(plan: &[u8]) -> (Option<Fault>, Option<String>) {
+        let session = play_regardless(plan);
+        (play(plan).err(), session.map(|it| it.report()))
+    }
+
+    #[test]
+    fn what_is_supposed_is_left_out() {
+        let other = [&[1][..], &[9; 32]].concat();
+        let other_with_bit = [&[3][..], &[9; 32], &[1]].concat();
+        let silent = [SILENT, SILENT].concat();
+        let equal: [&[u8]; 2] = [b"A", b"A"];
+        let nothing = "1 -\n2 -\nsent 0\n";
+        let expected = |fault, text: &str| (Some(fault), Some(text.to_string()));
+        let found = regardless(&plan(&[3, 1, 0], 1, &[b"A"], &silent));
+        assert_eq!(found, expected(Fault::TooManyBad, "1 = 41\nsent 248\n"));
+        let found = regardless(&of_three(&other, equal));
+        assert_eq!(found, expected(Fault::RootAgainst, nothing));
+        let found = regardless(&of_three(&other_with_bit, equal));
+        assert_eq!(found, expected(Fault::RootAgainst, nothing));
+        let found = regardless(&of_three(&other_with_bit, [b"A", b"B"]));
+        assert_eq!(found, expected(Fault::BitAgainst, nothing));
+        let found = regardless(&of_three(&[2, 0], equal));
+        assert_eq!(found, expected(Fault::BitAgainst, nothing));
+    }
+
+    /// Without a good party, with a bit that step 3 refuses, or in a bad form.
+    #[test]
+    fn what_is_not_played_at_all() {
+        let silent = SILENT.repeat(3);
+        let none = |fault| (Some(fault), None);
+        let found = regardless(&plan(&[3, 1, 0], 0, &[], &silent));
+        assert_eq!(found, none(Fault::TooManyBad));
+        let found = regardless(&plan(&[3, 1, 2, 2], 1, &[b"A"], &silent[4..]));
+        assert_eq!(found, none(Fault::TooManyBad));
+        let found = regardless(&of_three(&[2, 2], [b"A", b"B"]));
+        assert_eq!(found, none(Fault::BitAbove));
+        let long = vec![7; LONGEST_MESSAGE + 1];
+        let found = regardless(&of_three(&[0], [b"A", &long]));
+        assert_eq!(found, none(Fault::LongMessage(2)));
+        let sound = of_three(&[0], [b"A", b"A"]);
+        for length in 0..sound.len() {
+            assert!(play_regardless(&sound[..length]).is_none());
+        }
+        for (n, t) in [(0, 0), (MOST + 1, 0), (3, 2), (255, 255)] {
+            let found = play_regardless(&[&[n, t], &sound[2..]].concat());
+            assert!(found.is_none(), "{n} {t}");
+        }
     }
 
     #[test]
