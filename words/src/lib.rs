@@ -13,7 +13,6 @@ pub mod parse;
 pub mod phrases;
 pub mod picture;
 pub mod recognise;
-pub mod regardless;
 pub mod svg;
 pub mod text;
 pub mod view;

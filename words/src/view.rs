@@ -5,12 +5,11 @@
 use foreign::liars::Way;
 use foreign::packet::{classify, read, Reading, Standing};
 use foreign::party::Rebuilt;
-use foreign::rehearsal::{play, Fault, Session, Takings};
+use foreign::rehearsal::{play, play_regardless, Fault, Session, Takings};
 
 use crate::books::{Books, Named};
 use crate::phrases::{cut, numbers};
 use crate::recognise::recognise;
-use crate::regardless;
 use crate::text::{known, named_root, written};
 
 /// The words for a packet, and for a book that is not taken, are cut here.
@@ -66,7 +65,7 @@ impl View {
     pub fn new(plan: &[u8], named: &[Named]) -> Result<View, Fault> {
         let (fault, session) = match play(plan) {
             Ok(session) => (None, session),
-            Err(fault) => (Some(fault), regardless::play(plan, fault).ok_or(fault)?),
+            Err(fault) => (Some(fault), play_regardless(plan).ok_or(fault)?),
         };
         let books = known(&session.plan, named);
         Ok(View {

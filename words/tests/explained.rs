@@ -3,12 +3,11 @@
 
 use foreign::limits::LONGEST_MESSAGE;
 use foreign::plans::plan;
-use foreign::rehearsal::{play, read, rehearse, Takings};
+use foreign::rehearsal::{play, rehearse};
 use words::explain::explain;
 use words::input::given;
 use words::phrases::grouped;
 use words::picture::picture;
-use words::regardless::played;
 use words::view::{Parcel, View, Worth};
 
 const COUNT: u64 = 2_000;
@@ -143,28 +142,6 @@ fn the_last_lines_are_the_rehearsals() {
             assert!(before.starts_with(&cause), "{before}");
         }
     }
-}
-
-/// Boxes that are taken through their steps whatever is supposed do what the rehearsal's do.
-#[test]
-fn lawful_plans_are_played_alike() {
-    let mut lawful = 0;
-    for bytes in (1..=COUNT).step_by(4).map(|k| plan(k).bytes) {
-        let Ok(expected) = play(&bytes) else {
-            continue;
-        };
-        lawful += 1;
-        let found = played(read(&bytes).expect("a good layout")).expect("lawful steps");
-        assert_eq!(found.report(), expected.report());
-        assert_eq!((found.root, found.bit), (expected.root, expected.bit));
-        assert_eq!((found.roots, found.bits), (expected.roots, expected.bits));
-        assert_eq!(found.plan.first, expected.plan.first);
-        assert_eq!(found.plan.second, expected.plan.second);
-        let seen =
-            |takings: Option<Takings>| takings.map(|it| (it.sources, it.gathered, it.rebuilt));
-        assert_eq!(seen(found.takings), seen(expected.takings));
-    }
-    assert!(lawful > 200, "{lawful}");
 }
 
 /// Plans that break what is supposed are told to their end, others are not.
