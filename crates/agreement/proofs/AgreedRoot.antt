@@ -38,14 +38,14 @@ use Rattle.party.proofs.Outcomes.{holds-not, found-rebuilt}
 use Rattle.party.proofs.Ways.{Way, on, off, way, clash}
 use Rattle.agreement.specs.Calls.{Call, agreeRoot, agreeBit, takeShares, takeRelays, stepOf, inboxIn, Event, accepted, stringsOver, made, events, recodedIn}
 use Rattle.agreement.specs.Calls.{opening, did, firstOf, resultAfter, openedAndChecked, recoded, hashed}
-use Rattle.agreement.specs.Agreement.{Good, joinOver, allOpenedAndChecked, Clean, Premises}
+use Rattle.agreement.specs.Agreement.{Good, joinOver, allOpenedAndChecked, allHashed, Clean, Premises}
 use Rattle.agreement.specs.AgreedRoot.{foundUnchecked, takeRelaysUnchecked, madeUnchecked, eventsUnchecked}
-use Rattle.agreement.specs.AgreedRoot.{EndsWith, EndsUnderItsRoot, Told, NoInventedMessage, NoStringMore, NoOtherEnding}
+use Rattle.agreement.specs.AgreedRoot.{EndsWith, EndsUnderItsRoot, Told, Somebodys, NoInventedMessage, NoStringMore, NoOtherEnding}
 use Rattle.agreement.proofs.Lists.{same-some, in-join, first-in}
 use Rattle.agreement.proofs.Run.{event}
 use Rattle.agreement.proofs.Ran.{opened-is, Ran, did-chain, ends-is}
 use Rattle.agreement.proofs.Ended.{waits-none, held-after, opened-did, Went, went, ended-by}
-use Rattle.agreement.proofs.Needed.{glad, relayFrom, check}
+use Rattle.agreement.proofs.Needed.{glad, isGlad, relayFrom, check}
 use Rattle.agreement.proofs.Conduct.{Conduct, sharesIn, shares-or, conduct, someone}
 
 -- a result is not another
@@ -284,7 +284,7 @@ module _ (H : List ℕ → List ℕ) (wide : (s : List ℕ) → length (H s) ≡
   codes : (A : Good) → List·Memᴰ A good → Coded n t (A .message)
   codes A h = open-coded n t (A .own) (A .message) (opened-is H n t (A .own) (A .message) (opened A h) .0)
 
-  -- one that ended on bit 1 was told z, and the bit is 1
+  -- one that ended was told z and the agreed bit
   module _ (A : Good) (h : List·Memᴰ A good) (R : Result) (w : Went H n t (A .own) (A .message) (A .calls) R) where
     told-root : w .z ≡ z
     told-root =
@@ -298,7 +298,7 @@ module _ (H : List ℕ → List ℕ) (wide : (s : List ℕ) → length (H s) ≡
     conducts r =
         conduct H n t (A .own) (A .message) z (A .calls) (subst (λ (y : List ℕ). Ran H n t (A .own) (A .message) (A .calls) y) told-root r)
 
-  happy-one : bit ≡ 1 → (B : Good) × List·Memᴰ B good × (glad H n t (B .message) z ≡ true)
+  happy-one : bit ≡ 1 → (B : Good) × List·Memᴰ B good × (isGlad H n t z B ≡ true)
   happy-one = someone H n t good z opened (T .root) bit (T .vote)
 
   -- what is rebuilt is of bytes and within the limits
@@ -314,16 +314,11 @@ module _ (H : List ℕ → List ℕ) (wide : (s : List ℕ) → length (H s) ≡
       )
 
   -- the message that a good party ends with
-  abbrev Somebodys : Good → Result → Type 0
-  Somebodys A R =
-      (R ≡ nothing) ⊎ ((B : Good) × List·Memᴰ B good
-      × ((R ≡ settled (B .message)) ⊎ Collision H (recoded H n t (A .own) (A .message) (A .calls)) (codingStrings H n (shares n (n - t) (B .message)))))
-
   module _ (A : Good) (h : List·Memᴰ A good) (m : List ℕ) (f : resultAfter H n t (A .own) (A .message) (A .calls) ≡ some (settled m)) where
-    message-is : (c : Conduct H n t (A .own) (A .message) (A .calls) z) → bit ≡ 1 → Somebodys A (settled m)
+    message-is : (c : Conduct H n t (A .own) (A .message) (A .calls) z) → bit ≡ 1 → Somebodys H n t good A (settled m)
     message-is c b1 = go (known H n t A z m f c .0)
       where
-        go : Known H n t A z m → Somebodys A (settled m)
+        go : Known H n t A z m → Somebodys H n t good A (settled m)
         go (kept e) = inr (A, h, inl (ap settled (sym e)))
         go (coded u e) =
             let b = happy-one b1 in
@@ -343,17 +338,17 @@ module _ (H : List ℕ → List ℕ) (wide : (s : List ℕ) → length (H s) ≡
             pick B in-list (inl k) = inl (ap settled k)
             pick B in-list (inr k) = inr (collision-in H in-list k)
 
-    settled-is : Somebodys A (settled m)
+    settled-is : Somebodys H n t good A (settled m)
     settled-is = go (w .rest)
       where
         w : Went H n t (A .own) (A .message) (A .calls) (settled m)
         w = went H n t (A .own) (A .message) (A .calls) (settled m) f
 
-        go : ((w .bit ≡ 0) × (settled m ≡ nothing)) ⊎ ((w .bit ≡ 1) × Ran H n t (A .own) (A .message) (A .calls) (w .z)) → Somebodys A (settled m)
+        go : ((w .bit ≡ 0) × (settled m ≡ nothing)) ⊎ ((w .bit ≡ 1) × Ran H n t (A .own) (A .message) (A .calls) (w .z)) → Somebodys H n t good A (settled m)
         go (inl q) = absurd (not-settled (sym (q .1)))
         go (inr q) = message-is (conducts A h (settled m) w (q .1)) (sym (told-bit A h (settled m) w) ∙ q .0)
 
-  no-invented : (A : Good) → List·Memᴰ A good → (R : Result) → EndsWith H n t A R → Somebodys A R
+  no-invented : (A : Good) → List·Memᴰ A good → (R : Result) → EndsWith H n t A R → Somebodys H n t good A R
   no-invented A h nothing k = inl refl
   no-invented A h (settled m) k = settled-is A h m (ends-after H n t A (settled m) k)
 
@@ -403,7 +398,7 @@ module _ (H : List ℕ → List ℕ) (wide : (s : List ℕ) → length (H s) ≡
     finds A h e k five waits unhappy =
         let b = ended-by H n t (A .own) (A .message) (A .calls) e k five waits in
         let c = conducts A h (b .0) (b .1) (b .3) in
-        let d = c .ended e (b .4) in
+        let d = c .last-call e (b .4) in
         let u = sym (d .2) ∙ unhappy in
         let o = happy-one (sym (told-bit A h (b .0) (b .1)) ∙ b .2) in
         record {
@@ -478,7 +473,7 @@ module _ (H : List ℕ → List ℕ) (wide : (s : List ℕ) → length (H s) ≡
       lists-same H (opening H n t (A .own) (A .message) .state) (A .calls) (never-differs H wide n t good z bit T clean A h)
 
 -- what agreement supposes is more
-pub premises-tell : (H : List ℕ → List ℕ) (n t : ℕ) (good : List Good) (z : List ℕ) (bit : ℕ) → Premises H n t good z bit → Told H n t good z bit
+premises-tell : (H : List ℕ → List ℕ) (n t : ℕ) (good : List Good) (z : List ℕ) (bit : ℕ) → Premises H n t good z bit → Told H n t good z bit
 premises-tell H n t good z bit P =
     record {
       bytes = P .opened .bytes;
@@ -486,3 +481,10 @@ premises-tell H n t good z bit P =
       same-bit = λ A h e f. let r = P .called .step3 A h in (r .1, ap (λ (v : Event). v .call) (same-some (sym f ∙ r .2)) ∙ r .3);
       vote = P .ruled .vote;
     }
+
+-- so no two different strings of all that good parties hashed have one hash, where none of openings and path checks do
+pub all-clean : (H : List ℕ → List ℕ) → ((s : List ℕ) → length (H s) ≡ 32) → (n t : ℕ) (good : List Good) (z : List ℕ) (bit : ℕ) → Premises H n t good z bit
+    → (x y : List ℕ) → List·Memᴰ x (allHashed H n t good) → List·Memᴰ y (allHashed H n t good) → H x ≡ H y → x ≡ y
+all-clean H wide n t good z bit P x y h k =
+    let covered = no-string-more H wide n t good z bit (premises-tell H n t good z bit P) (P .clean) in
+    P .clean x y (covered x h) (covered y k)

@@ -40,7 +40,7 @@ use Rattle.agreement.specs.Calls.{heard, wrote, entry, lengths, opening,
 use Rattle.agreement.specs.Agreement.{Good, among, absent, Each, owns, step, OpenedAll, CalledAll, Ruled, DeliveredAll, sent, Conclusions, Agreement}
 use Rattle.agreement.proofs.Ran.{opened-is}
 use Rattle.agreement.proofs.Lists.{lengths-none, lengths-others, sum-below, sum-none, among-out, one-each, present-borne}
-use Rattle.agreement.proofs.Needed.{glad, relayFrom, coding, check, Needed}
+use Rattle.agreement.proofs.Needed.{isGlad, relayFrom, coding, check, Needed}
 use Rattle.agreement.proofs.Later.{gave}
 use Rattle.agreement.proofs.Conduct.{Conduct, sharesIn, shares-or, voted, someone, bit-low, ended, conducts, needed-hashed}
 
@@ -74,9 +74,6 @@ module _ (H : List ℕ → List ℕ) (wide : (s : List ℕ) → length (H s) ≡
   root-given : (A : Good) → In A → opening H n t (A .own) (A .message) .root ≡ messageRoot H n t (A .message)
   root-given A h = ap (λ (o : Opened). o .root) (opened-is H n t (A .own) (A .message) (opened .accepted A h) .1)
 
-  abbrev isGlad : Good → Bool
-  isGlad A = glad H n t (A .message) z
-
   -- on bit 0
   module _ (b0 : bit ≡ 0) where
     -- all opened with one message: then all were happy, and the bit was 1
@@ -109,7 +106,7 @@ module _ (H : List ℕ → List ℕ) (wide : (s : List ℕ) → length (H s) ≡
     does A h = conducts H n t good z bit opened called A h b1
 
     module _ (delivered : DeliveredAll H n t good) (free : CollisionFree H (Needed H n t good z)) (A : Good) (hA : In A)
-        (eA : isGlad A ≡ true) where
+        (eA : isGlad H n t z A ≡ true) where
       abbrev M : List ℕ
       M = A .message
 
@@ -125,7 +122,7 @@ module _ (H : List ℕ → List ℕ) (wide : (s : List ℕ) → length (H s) ≡
       packetM j first last = packet-valid H wide n t M codedM j first last z root-M
 
       -- a happy party has M
-      glad-M : (B : Good) → In B → isGlad B ≡ true → B .message ≡ M
+      glad-M : (B : Good) → In B → isGlad H n t z B ≡ true → B .message ≡ M
       glad-M B hB e =
           no-collision H (Needed H n t good z) free (λ s h. (B, hB, coding e h)) (λ s h. (A, hA, coding eA h))
           (one-root H wide n t (B .message) M (admitted B hB .coded) codedM (opened .bytes B hB) (opened .bytes A hA)
@@ -135,17 +132,17 @@ module _ (H : List ℕ → List ℕ) (wide : (s : List ℕ) → length (H s) ≡
       abbrev has : Good → ℕ → List ℕ
       has B j = relayFrom H n t (B .own) (B .message) (B .calls) j
 
-      valid-M : (B : Good) → In B → isGlad B ≡ false → (j : ℕ) (x : List ℕ) (p : List (List ℕ)) → classOf H n j z (has B j) ≡ valid x p
+      valid-M : (B : Good) → In B → isGlad H n t z B ≡ false → (j : ℕ) (x : List ℕ) (p : List (List ℕ)) → classOf H n j z (has B j) ≡ valid x p
           → x ≡ share (n - t) j M
       valid-M B hB u j x p v =
           no-collision H (Needed H n t good z) free (λ s h. (B, hB, check u j x p v h)) (λ s h. (A, hA, coding eA h))
           (valid-share H wide n t M codedM z root-M j (has B j) x p v)
 
       -- an unhappy party is not A, and A's packet for it came
-      other : (B : Good) → In B → isGlad B ≡ false → A .own ≢ B .own
-      other B hB u e = clash eA (ap isGlad (one-each (λ (C : Good). C .own) good (opened .apart) hA hB e) ∙ u)
+      other : (B : Good) → In B → isGlad H n t z B ≡ false → A .own ≢ B .own
+      other B hB u e = clash eA (ap (isGlad H n t z) (one-each (λ (C : Good). C .own) good (opened .apart) hA hB e) ∙ u)
 
-      came : (B : Good) → In B → isGlad B ≡ false → heard n (A .own) (step H n t good 4 B) ≡ packetWith H n t M (B .own)
+      came : (B : Good) → In B → isGlad H n t z B ≡ false → heard n (A .own) (step H n t good 4 B) ≡ packetWith H n t M (B .own)
       unfolding entry
       came B hB u =
           let b = admitted B hB in
@@ -161,13 +158,13 @@ module _ (H : List ℕ → List ℕ) (wide : (s : List ℕ) → length (H s) ≡
       abbrev Relays : Good → Type 0
       Relays C = (p : List (List ℕ)) × (classOf H n (C .own) z (wrote (step H n t good 4 C)) ≡ valid (share (n - t) (C .own) M) p)
 
-      relay-happy : (C : Good) → In C → n ≢ 1 → isGlad C ≡ true → wrote (step H n t good 4 C) ≡ packetWith H n t M (C .own)
+      relay-happy : (C : Good) → In C → n ≢ 1 → isGlad H n t z C ≡ true → wrote (step H n t good 4 C) ≡ packetWith H n t M (C .own)
       relay-happy C hC d e = does C hC .relay e ∙ ap (relayWith H n t (C .own)) (glad-M C hC e) ∙ rw (ne-eqb n 1 d)
 
       relays : (C : Good) → In C → n ≢ 1 → Relays C
-      relays C hC d = go (way (isGlad C))
+      relays C hC d = go (way (isGlad H n t z C))
         where
-          go : Way (isGlad C) → Relays C
+          go : Way (isGlad H n t z C) → Relays C
           go (on e) =
               let c = admitted C hC in (
                 pathTo H wide n t M codedM (C .own) (c .first) (c .last),
@@ -186,7 +183,7 @@ module _ (H : List ℕ → List ℕ) (wide : (s : List ℕ) → length (H s) ≡
               )
 
       -- an unhappy party has M's shares, of every good party, and no others
-      module _ (B : Good) (hB : In B) (uB : isGlad B ≡ false) where
+      module _ (B : Good) (hB : In B) (uB : isGlad H n t z B ≡ false) where
         abbrev gs : List (List ℕ)
         gs = sharesIn H n t (B .own) (B .message) (B .calls) z
 
@@ -235,9 +232,9 @@ module _ (H : List ℕ → List ℕ) (wide : (s : List ℕ) → length (H s) ≡
             ∙ rw (ap (same (messageRoot H n t M)) (sym root-M) ∙ same-refl (messageRoot H n t M))
 
       results : (B : Good) (hB : In B) → does B hB .result ≡ settled M
-      results B hB = go (way (isGlad B))
+      results B hB = go (way (isGlad H n t z B))
         where
-          go : Way (isGlad B) → does B hB .result ≡ settled M
+          go : Way (isGlad H n t z B) → does B hB .result ≡ settled M
           go (on e) = does B hB .keeps e ∙ ap settled (glad-M B hB e)
           go (off u) = unhappy-result B hB u
 
@@ -246,14 +243,14 @@ module _ (H : List ℕ → List ℕ) (wide : (s : List ℕ) → length (H s) ≡
       K = 4 + shareLength (n - t) (length M) + 32 * height n
 
       packets-small : (B : Good) → In B → lengths (bodies n (wrote (step H n t good 3 B))) ≤ (n - 1) * K
-      packets-small B hB = go (way (isGlad B))
+      packets-small B hB = go (way (isGlad H n t z B))
         where
           each : (k : ℕ) → k < n → (b : Bool) → length (cond b [] (packetWith H n t M (k + 1))) ≤ K
           each k l true = omega arith
           each k l false =
               valid-length H n t M (k + 1) z (packetWith H n t M (k + 1)) _ (packetM (k + 1) (omega arith) (omega arith))
 
-          go : Way (isGlad B) → lengths (bodies n (wrote (step H n t good 3 B))) ≤ (n - 1) * K
+          go : Way (isGlad H n t z B) → lengths (bodies n (wrote (step H n t good 3 B))) ≤ (n - 1) * K
           go (on e) =
               let b = admitted B hB in
               let one : B .own - 1 + 1 ≡ B .own = omega (arith, b .first) in
@@ -309,10 +306,11 @@ module _ (H : List ℕ → List ℕ) (wide : (s : List ℕ) → length (H s) ≡
     where
       go : Dec (bit ≡ 1) → (R : Result) × Conclusions H n t good bit R
       go (yes b1) =
-          let a = someone H n t good z (opened .accepted) (called .step2) bit (ruled .vote) b1 in (settled (a .0 .message), on-one b1 (delivered b1) (free b1) (a .0) (a .1) (a .2))
+          let a = someone H n t good z (opened .accepted) (called .step2) bit (ruled .vote) b1 in
+          (settled (a .0 .message), on-one b1 (delivered b1) (free b1) (a .0) (a .1) (a .2))
       go (no d) = (nothing, on-zero (bit-zero d good refl))
 
--- so it holds where no two different strings have one hash of any list that has the needed ones; all that were hashed is such a list
+-- so it holds where no two different strings have one hash of any list that has the needed ones; that of all openings and path checks is such a list
 pub agreement : (H : List ℕ → List ℕ) → ((s : List ℕ) → length (H s) ≡ 32) → Agreement H
 agreement H wide n t good z bit P =
     let in-list = needed-hashed H n t good z bit (P .opened) (P .called) in

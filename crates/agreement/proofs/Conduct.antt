@@ -1,4 +1,4 @@
--- What a good party does on bit 1, told by what it heard and wrote, with no state left. A happy one sends its message's packets, relays its own share
+-- What a good party does on bit 1, told by what it heard and wrote, and by the call that ended it. A happy one sends its message's packets, relays its own share
 -- and ends with its message; another relays a packet that passes if it heard one, and rebuilds from the relays that pass. By the laws of the party's
 -- steps. Assumes nothing.
 use mathlib.Core.Path.{_≡_, refl, sym, ap, ap₂, _∙_, subst}
@@ -39,7 +39,7 @@ use Rattle.agreement.specs.Calls.{opening, firstOf, resultAfter, openedA
 use Rattle.agreement.specs.Agreement.{Good, Each, step, Rule, OpenedAll, CalledAll, allOpenedAndChecked}
 use Rattle.agreement.proofs.Ran.{Ran, ran-none, ran-through, bit-given, bit-small}
 use Rattle.agreement.proofs.Lists.{lengths-none, in-join, find}
-use Rattle.agreement.proofs.Needed.{glad, relayFrom, Needs, coding, check, Needed}
+use Rattle.agreement.proofs.Needed.{glad, isGlad, relayFrom, Needs, coding, check, Needed}
 
 module _ (H : List ℕ → List ℕ) (n t i : ℕ) (m : List ℕ) (calls : List Call) (z : List ℕ) where
   abbrev done : ℕ → Option Event
@@ -81,7 +81,7 @@ module _ (H : List ℕ → List ℕ) (n t i : ℕ) (m : List ℕ) (calls : List 
     pub recodes : glad H n t m z ≡ false → (s : List ℕ) → List·Memᴰ s (recodedStrings H n t (recovered (n - t) (present 1 sharesIn)))
         → List·Memᴰ s (recoded H n t i m calls)
     -- the state that the call which ended it got, and what that call found in its inbox
-    pub ended : (e : Event) → firstOf H n t i m calls 5 ≡ some e → (e .before .seat ≡ seatOf n t i) × (e .before .root ≡ z)
+    pub last-call : (e : Event) → firstOf H n t i m calls 5 ≡ some e → (e .before .seat ≡ seatOf n t i) × (e .before .root ≡ z)
         × (happy H (e .before) ≡ glad H n t m z)
         × (glad H n t m z ≡ false → recoveredBy H (e .before) (inboxIn (e .call)) ≡ recovered (n - t) (present 1 sharesIn))
 
@@ -293,7 +293,7 @@ module _ (H : List ℕ → List ℕ) (n t i : ℕ) (m z : List ℕ) where
               ∙ ap (λ (l : List (List ℕ)). rebuilt (underRoot H n t z (recovered (n - t) (present 1 l)))) shares-is;
           recodes = λ u s h. r .in-again s (subst (List·Memᴰ s) (sym (recoded-is u (r .in4) (r .in5)
               ∙ ap (λ (l : List (List ℕ)). recodedStrings H n t (recovered (n - t) (present 1 l))) shares-is)) h);
-          ended = λ e f. let k = r .ended e f in (
+          last-call = λ e f. let k = r .last-call e f in (
             ap (λ (x : Party). x .seat) (k .0),
             ap (λ (x : Party). x .root) (k .0),
             ap (happy H) (k .0) ∙ happy-second (heldOf H X2 (r .in4)),
@@ -306,21 +306,18 @@ module _ (H : List ℕ → List ℕ) (n t i : ℕ) (m z : List ℕ) where
 module _ (H : List ℕ → List ℕ) (n t : ℕ) (good : List Good) (z : List ℕ)
     (opened : Each H n t good (λ A. opening H n t (A .own) (A .message) .cause ≡ 0))
     (told : Each H n t good (λ A. (e : Event) × (step H n t good 2 A ≡ some e) × (e .call ≡ agreeRoot z))) where
-  abbrev pub isGlad : Good → Bool
-  isGlad A = glad H n t (A .message) z
-
-  pub voted : Each H n t good (λ A. bitGiven (step H n t good 2 A) ≡ some (cond (isGlad A) 1 0))
+  pub voted : Each H n t good (λ A. bitGiven (step H n t good 2 A) ≡ some (cond (isGlad H n t z A) 1 0))
   voted A h =
       let r = told A h in
       bit-given H n t (A .own) (A .message) (A .calls) z (opened A h) (r .0) (r .1) (r .2)
       ∙ ap {B = Option ℕ} (λ (g : Bool). some (cond g 1 0)) (happy-bit H n t (A .own) (A .message) z)
 
   pub someone : (bit : ℕ) → Rule H n t good (λ A. bitGiven (step H n t good 2 A)) bit → bit ≡ 1
-      → (A : Good) × List·Memᴰ A good × (isGlad A ≡ true)
-  someone bit vote b1 = go (find isGlad good)
+      → (A : Good) × List·Memᴰ A good × (isGlad H n t z A ≡ true)
+  someone bit vote b1 = go (find (isGlad H n t z) good)
     where
-      go : ((A : Good) × List·Memᴰ A good × (isGlad A ≡ true)) ⊎ ((A : Good) → List·Memᴰ A good → isGlad A ≡ false)
-          → (A : Good) × List·Memᴰ A good × (isGlad A ≡ true)
+      go : ((A : Good) × List·Memᴰ A good × (isGlad H n t z A ≡ true)) ⊎ ((A : Good) → List·Memᴰ A good → isGlad H n t z A ≡ false)
+          → (A : Good) × List·Memᴰ A good × (isGlad H n t z A ≡ true)
       go (inl a) = a
       go (inr f) =
           let zero-bit : bit ≡ 0 = vote 0 (λ A h. voted A h ∙ ap {B = Option ℕ} (λ (g : Bool). some (cond g 1 0)) (f A h)) in

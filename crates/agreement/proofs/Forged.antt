@@ -1,10 +1,10 @@
--- More liars than t, computed over the small hash of `Instances`. In the first session the two liars of three have a tree made over shares that are no message's,
--- and the agreement gave its root and the bit 1 though no good party was happy: the bit's rule is broken there, and no two strings collide. Without the root's
--- check the good party ends with a message that nobody opened with; with it, with nothing. In the second, of four, the rule is kept: the good parties end with
--- the message of one of them and with nothing, and with no other. Assumes nothing.
+-- Sessions in which the root's check tells, computed over the small hash of `Instances`. In the first the two liars of three have a tree made over shares that are
+-- no message's, and the agreement gave its root and the bit 1 though no good party was happy: the bit's rule is broken there, and no two strings collide. Without
+-- the check the good party ends with a message that nobody opened with; with it, with nothing. In the second, of four with two liars, the rule is kept: the good
+-- parties end with the message of one of them and with nothing, and with no other. In the third, with one liar of three, two strings collide, and a forged inbox
+-- comes first with a short buffer: refused without the check, it is an accepted nothing with it. Assumes nothing.
 use mathlib.Core.Path.{_≡_, refl, sym, ap, _∙_}
-use mathlib.Core.Logic.{_⊎_}
-use mathlib.Core.Bool.{true, false}
+use mathlib.Core.Bool.{true, false, cond}
 use mathlib.Core.List.{List, [], _∷_, _++_, map, List·Memᴰ, List·Memᴰ·head}
 use mathlib.Core.Option.{Option, none, some}
 use Prim.Native.Nat.{ℕ, _+_, _-_, _*_, _<_}
@@ -21,7 +21,7 @@ use Rattle.erasure.specs.Coding.{shareLength, headed, frame, block, shareByte, 
 use Rattle.erasure.specs.Rebuild.{present, point, framed, other, unframed, joined, recovered}
 use Rattle.erasure.proofs.Instances.{two-bytes}
 use Rattle.merkle.specs.Tree.{splitFrom, split, shapeOf, shape, size as leaves, nodeString, sides, beside, root, path, folded}
-use Rattle.merkle.specs.Strings.{Collision, treeStrings, foldStrings, checkStrings}
+use Rattle.merkle.specs.Strings.{treeStrings, foldStrings, checkStrings}
 use Rattle.merkle.specs.Hashes.{topHash, pathHashes}
 use Rattle.merkle.specs.Shares.{leafString, leafStrings, sharesCause, same, leavesOf, rootOf, sidesOf, pathOf, passes, codingStrings, stringsOf}
 use Rattle.packet.specs.Format.{chained, hashes, packetOf, entryOf, shareIn, readOf}
@@ -32,13 +32,13 @@ use Rattle.party.specs.Steps.{stateCause, openCause, openOf, rootCause, agreeRo
 use Rattle.party.specs.Steps.{shareFrom, relayOf, heldOf, takeSharesOf, gathered, resultFound, resultOf, relaysCause, takeRelaysOf}
 use Rattle.party.specs.declared.Answer.the-variants as answer
 use Rattle.party.specs.Strings.{shareStrings, relayStrings}
-use Rattle.agreement.specs.Calls.{agreeRoot, agreeBit, takeShares, takeRelays, Event, accepted, first, entry, lengths, sentOver, made, events, final}
+use Rattle.agreement.specs.Calls.{Call, agreeRoot, agreeBit, takeShares, takeRelays, Event, accepted, first, entry, lengths, sentOver, made, events, final}
 use Rattle.agreement.specs.Calls.{stringsOver, checkedIn, recodedIn, did, openedAndChecked, recoded, hashed, sentBy, bitGiven, opening, resultAfter}
 use Rattle.agreement.specs.Agreement.{Good, owns, among, different, absent, sumOver, joinOver, step, Rule, allHashed}
 use Rattle.agreement.proofs.Lists.{same-some}
-use Rattle.agreement.specs.AgreedRoot.{foundUnchecked, takeRelaysUnchecked, madeUnchecked, eventsUnchecked, EndsWith, Told}
+use Rattle.agreement.specs.AgreedRoot.{foundUnchecked, takeRelaysUnchecked, madeUnchecked, eventsUnchecked, EndsWith, Told, Somebodys}
 use Rattle.agreement.proofs.AgreedRoot.{no-invented-message}
-use Rattle.agreement.proofs.Instances.{mix, digest, toy, wide, clean, cleanOf, there, pick, one-byte, M, room, forged, rubbish, each, only}
+use Rattle.agreement.proofs.Instances.{mix, digest, toy, wide, clean, cleanOf, there, pick, one-byte, M, room, forged, rubbish, calls, each, only}
 
 -- n 3, t 1: parties 1 and 2 lie. Shares 1 and 2 of a message, and a third that is not its own; the tree over the three, and the packets that pass under its root
 abbrev F : List ℕ
@@ -62,9 +62,9 @@ firstInbox = inboxOf (ck 3 ∷ [] ∷ [] ∷ [])
 abbrev secondInbox : List ℕ
 secondInbox = inboxOf (ck 1 ∷ ck 2 ∷ [] ∷ [])
 
--- party 3 opens with another message; its step 5 is lent no buffer
+-- party 3 opens with another message
 abbrev C3 : Good
-C3 = record { own = 3; message = 0x43 ∷ []; calls = agreeRoot y ∷ agreeBit 1 room ∷ takeShares firstInbox room ∷ takeRelays secondInbox [] ∷ takeRelays rubbish room ∷ [] }
+C3 = record { own = 3; message = 0x43 ∷ []; calls = calls y firstInbox secondInbox }
 
 abbrev one : List Good
 one = C3 ∷ []
@@ -95,6 +95,30 @@ D4 = record {
 abbrev few : List Good
 few = D3 ∷ D4 ∷ []
 
+-- n 3, t 1: party 1 lies, 2 is unhappy, 3 is happy. Its message and a shorter one have the same share 2. The hash gives the leaf string of the shorter one's
+-- share 1 the value of the leaf string of the message's own
+abbrev N : List ℕ
+N = 0x41 ∷ 0x8c ∷ []
+
+abbrev falseShare : List ℕ
+falseShare = share 2 1 (0x41 ∷ [])
+
+unfoldable pub bent : List ℕ → List ℕ
+bent s = cond (same s (leafString 1 falseShare)) (toy (leafString 1 (share 2 1 N))) (toy s)
+
+abbrev w : List ℕ
+w = messageRoot bent 3 1 N
+
+abbrev bk : ℕ → List ℕ
+bk j = packetFor bent (atBit (seatOf 3 1 3) N w) j
+
+-- the liar's share with the path of the message's own; it comes first, and with no buffer; then, with one, what good parties sent
+abbrev falseInbox : List ℕ
+falseInbox = inboxOf (packetOf 1 falseShare (take (length (sidesOf 3 1)) (pathOf bent 3 1 (leavesOf bent 3 (shares 3 2 N)))) ∷ [] ∷ [] ∷ [])
+
+abbrev E2 : List Call
+E2 = agreeRoot w ∷ agreeBit 1 room ∷ takeShares (inboxOf ([] ∷ [] ∷ bk 2 ∷ [])) room ∷ takeRelays falseInbox [] ∷ takeRelays (inboxOf ([] ∷ [] ∷ bk 3 ∷ [])) room ∷ []
+
 -- the result of each call of a list
 abbrev results : List Event → List (Option Result)
 results es = map (λ (e : Event). e .reply .result) es
@@ -112,13 +136,9 @@ pub record Computed : Type 0 where
   pub no-collision : clean (allHashed toy 3 1 one) (allHashed toy 3 1 one) ≡ true
   -- what it rebuilds has another root
   pub other-root : same (messageRoot toy 3 1 F) y ≡ false
-  -- without the check, a short buffer is cause 9 and the next call, whatever its inbox, has no result; with it, the same call ends with nothing
-  pub causes-before : causes (eventsUnchecked toy (opening toy 3 1 3 (0x43 ∷ []) .state) (C3 .calls)) ≡ 0 ∷ 0 ∷ 0 ∷ 9 ∷ 8 ∷ []
-  pub causes-now : causes (events toy (opening toy 3 1 3 (0x43 ∷ []) .state) (C3 .calls)) ≡ 0 ∷ 0 ∷ 0 ∷ 0 ∷ 0 ∷ []
-  pub results-now : results (events toy (opening toy 3 1 3 (0x43 ∷ []) .state) (C3 .calls)) ≡ none ∷ none ∷ none ∷ some nothing ∷ some nothing ∷ []
-  -- and with room for it, the invented message was the result
-  pub invented : takeRelaysUnchecked toy (atSecond (seatOf 3 1 3) (0x43 ∷ []) y (1 ∷ 77 ∷ [])) secondInbox room .result ≡ some (settled F)
-  pub refused : takeRelaysOf toy (atSecond (seatOf 3 1 3) (0x43 ∷ []) y (1 ∷ 77 ∷ [])) secondInbox room .result ≡ some nothing
+  -- without the check it ends with that, with the check with nothing
+  pub invented : results (eventsUnchecked toy (opening toy 3 1 3 (0x43 ∷ []) .state) (C3 .calls)) ≡ none ∷ none ∷ none ∷ some (settled F) ∷ []
+  pub not-taken : results (events toy (opening toy 3 1 3 (0x43 ∷ []) .state) (C3 .calls)) ≡ none ∷ none ∷ none ∷ some nothing ∷ []
   -- it hashed the five strings of its own message's tree, two for the share that it took, three for each relay, and the five of the message coded again, though
   -- that was not taken
   pub hashes : length (hashed toy 3 1 3 (0x43 ∷ []) (C3 .calls)) ≡ 5 + 2 + 3 + 3 + 5
@@ -127,20 +147,22 @@ pub record Computed : Type 0 where
   pub told : Told toy 4 1 few z4 1
   pub party-3 : resultAfter toy 4 1 3 M (D3 .calls) ≡ some (settled M)
   pub party-4 : resultAfter toy 4 1 4 (0x43 ∷ []) (D4 .calls) ≡ some nothing
+  -- a forged inbox with a short buffer, and then the true one: refused and then accepted without the check; with it accepted at once, with nothing
+  pub causes-before : causes (eventsUnchecked bent (opening bent 3 1 2 (0x43 ∷ []) .state) E2) ≡ 0 ∷ 0 ∷ 0 ∷ 9 ∷ 0 ∷ []
+  pub results-before : results (eventsUnchecked bent (opening bent 3 1 2 (0x43 ∷ []) .state) E2) ≡ none ∷ none ∷ none ∷ none ∷ some (settled N) ∷ []
+  pub causes-now : causes (events bent (opening bent 3 1 2 (0x43 ∷ []) .state) E2) ≡ 0 ∷ 0 ∷ 0 ∷ 0 ∷ 0 ∷ []
+  pub results-now : results (events bent (opening bent 3 1 2 (0x43 ∷ []) .state) E2) ≡ none ∷ none ∷ none ∷ some nothing ∷ some nothing ∷ []
 
 pub computed : Computed
-unfolding size body rest fills bodies spliced tabulate parties numbered groupCause timesX productOf product power inverse sum pow value factor unit numerator denominator basis through shareLength headed frame block shareByte shareOf share shares present point framed other unframed joined recovered splitFrom split shapeOf shape leaves nodeString sides beside root path folded treeStrings foldStrings checkStrings topHash pathHashes leafString leafStrings sharesCause same leavesOf rootOf pathOf passes codingStrings stringsOf chained hashes packetOf entryOf shareIn readOf inboxOf classOf classStrings atRoot atBit atFirst atSecond atEnd blankState broken messageRoot happy stateCause openCause openOf rootCause agreeRootOf packetFor bitCause outboxOf agreeBitOf inboxCause firstValid relayOf heldOf takeSharesOf gathered resultFound resultOf relaysCause takeRelaysOf accepted first entry lengths sentOver made events final shareStrings relayStrings checkedIn stringsOver recodedIn did openedAndChecked recoded sentBy among different absent sumOver joinOver there mix digest foundUnchecked takeRelaysUnchecked madeUnchecked eventsUnchecked clean cleanOf
+unfolding size body rest fills bodies spliced tabulate parties numbered groupCause timesX productOf product power inverse sum pow value factor unit numerator denominator basis through shareLength headed frame block shareByte shareOf share shares present point framed other unframed joined recovered splitFrom split shapeOf shape leaves nodeString sides beside root path folded treeStrings foldStrings checkStrings topHash pathHashes leafString leafStrings sharesCause same leavesOf rootOf pathOf passes codingStrings stringsOf chained hashes packetOf entryOf shareIn readOf inboxOf classOf classStrings atRoot atBit atFirst atSecond atEnd blankState broken messageRoot happy stateCause openCause openOf rootCause agreeRootOf packetFor bitCause outboxOf agreeBitOf inboxCause firstValid relayOf heldOf takeSharesOf gathered resultFound resultOf relaysCause takeRelaysOf accepted first entry lengths sentOver made events final shareStrings relayStrings checkedIn stringsOver recodedIn did openedAndChecked recoded sentBy among different absent sumOver joinOver there mix digest foundUnchecked takeRelaysUnchecked madeUnchecked eventsUnchecked clean cleanOf bent
 computed = record {
   liars = refl;
   passing = refl;
   vote = refl;
   no-collision = refl;
   other-root = refl;
-  causes-before = refl;
-  causes-now = refl;
-  results-now = refl;
   invented = refl;
-  refused = refl;
+  not-taken = refl;
   hashes = refl;
   two-of-four = refl;
   told = record {
@@ -154,6 +176,10 @@ computed = record {
   };
   party-3 = refl;
   party-4 = refl;
+  causes-before = refl;
+  results-before = refl;
+  causes-now = refl;
+  results-now = refl;
 }
 
 -- the bit 1 is against its rule in the first session
@@ -161,6 +187,5 @@ pub rule-broken : Rule toy 3 1 one (λ A. bitGiven (step toy 3 1 one 2 A)) 1 →
 rule-broken rule = let e : _≡_ {A = ℕ} 1 0 = rule 0 (only C3 (λ A. bitGiven (step toy 3 1 one 2 A) ≡ some 0) (computed .vote)) in omega arith
 
 -- and what is promised of the second holds: nothing, or a good party's message, or a collision
-pub promised : (A : Good) → List·Memᴰ A few → (R : Result) → EndsWith toy 4 1 A R → (R ≡ nothing) ⊎ ((B : Good) × List·Memᴰ B few
-    × ((R ≡ settled (B .message)) ⊎ Collision toy (recoded toy 4 1 (A .own) (A .message) (A .calls)) (codingStrings toy 4 (shares 4 3 (B .message)))))
+pub promised : (A : Good) → List·Memᴰ A few → (R : Result) → EndsWith toy 4 1 A R → Somebodys toy 4 1 few A R
 promised = no-invented-message toy wide 4 1 few z4 1 (computed .told)

@@ -16,6 +16,9 @@ use Rattle.agreement.specs.Agreement.{Good}
 abbrev pub glad : (List ℕ → List ℕ) → ℕ → ℕ → List ℕ → List ℕ → Bool
 glad H n t m z = same (messageRoot H n t m) z
 
+abbrev pub isGlad : (List ℕ → List ℕ) → ℕ → ℕ → List ℕ → Good → Bool
+isGlad H n t z A = glad H n t (A .message) z
+
 module _ (H : List ℕ → List ℕ) (n t i : ℕ) (m : List ℕ) (calls : List Call) where
   -- party j's relay, as party i has it: its own as it wrote it, another's as it heard it
   abbrev pub relayFrom : ℕ → List ℕ

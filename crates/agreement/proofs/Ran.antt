@@ -1,4 +1,4 @@
--- One good party of a session: all that the others need to know of its list of calls, with no event left. Its accepted calls are
+-- One good party of a session: all that the others need to know of its list of calls, told by inboxes and by what it wrote. Its accepted calls are
 -- step 2, step 3 and, on bit 1, steps 4 and 5, each on the state that the one before gave; what comes after changes nothing.
 -- Assumes nothing.
 use mathlib.Core.Path.{_≡_, refl, sym, ap, _∙_, subst}
@@ -67,7 +67,7 @@ is-fourth (agreeBit bit out) e = absurd (omega arith)
 is-fourth (takeShares inbox out) e = (inbox, out, refl)
 is-fourth (takeRelays inbox out) e = absurd (omega arith)
 
-pub is-fifth : (c : Call) → stepOf c ≡ 5 → (inbox : List ℕ) × (out : List ℕ) × (c ≡ takeRelays inbox out)
+is-fifth : (c : Call) → stepOf c ≡ 5 → (inbox : List ℕ) × (out : List ℕ) × (c ≡ takeRelays inbox out)
 is-fifth (agreeRoot z) e = absurd (omega arith)
 is-fifth (agreeBit bit out) e = absurd (omega arith)
 is-fifth (takeShares inbox out) e = absurd (omega arith)
@@ -126,7 +126,7 @@ module _ (H : List ℕ → List ℕ) where
         ap (λ (b : List ℕ). gives (atBit (seatOf n t i) b z) (answer.Happy (happy H (atBit (seatOf n t i) b z))) [])
         (take-padded maxMessage m)
 
-    pub is3 : (bit : ℕ) (out : List ℕ) → made3 H X1 bit out ≡ reply3 bit out
+    is3 : (bit : ℕ) (out : List ℕ) → made3 H X1 bit out ≡ reply3 bit out
     unfolding atBit
     is3 bit out =
         ap (λ (b : List ℕ). gives (cond (eqb bit 0) (atEnd (seatOf n t i) nothing) (atFirst (seatOf n t i) b z))
@@ -225,8 +225,8 @@ pub record Ran (H : List ℕ → List ℕ) (n t i : ℕ) (m : List ℕ) (calls :
   pub in-again : (s : List ℕ)
       → List·Memᴰ s (recodedIn H (atSecond (seatOf n t i) m z (heldOf H (atFirst (seatOf n t i) m z) in4)) (takeRelays in5 []))
       → List·Memᴰ s (recoded H n t i m calls)
-  -- the call that ended it
-  pub ended : (e : Event) → firstOf H n t i m calls 5 ≡ some e
+  -- the state and the inbox of the call that ended it
+  pub last-call : (e : Event) → firstOf H n t i m calls 5 ≡ some e
       → (e .before ≡ atSecond (seatOf n t i) m z (heldOf H (atFirst (seatOf n t i) m z) in4)) × (inboxIn (e .call) ≡ in5)
   pub sends : sentBy H n t i m calls
       ≡ lengths (bodies n (outboxOf H (atBit (seatOf n t i) m z) 1)) + (n - 1) * length (relayOf H (atFirst (seatOf n t i) m z) in4)
@@ -329,7 +329,7 @@ module _ (H : List ℕ → List ℕ) (n t i : ℕ) (m : List ℕ) (calls : List 
           in-second = λ s h. checked-in s (Memᴰ·append-right (checkedIn H (atFirst (seatOf n t i) m z) (takeShares (q .in4) []))
               (Memᴰ·append-left (checkedOver H (q .rest)) h));
           in-again = λ s h. subst (λ (l : List Event). List·Memᴰ s (recodedOver H l)) (sym all-did) (Memᴰ·append-left (recodedOver H (q .rest)) h);
-          ended = λ e f. let k : fifth ≡ e = same-some (sym is-5 ∙ f) in
+          last-call = λ e f. let k : fifth ≡ e = same-some (sym is-5 ∙ f) in
               (ap (λ (v : Event). v .before) (sym k), ap (λ (v : Event). inboxIn (v .call)) (sym k));
           sends = rw (
             all-did,

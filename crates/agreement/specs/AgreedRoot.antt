@@ -1,7 +1,8 @@
--- What the root's check in step 5 gives (document 02, No. 4), for any hash. Of one party, whoever the others are: a message that it ends with has the root
--- that it was told was agreed. Of all good parties together, however many are bad, where they are told one root and one bit and the bit is by its rule: none
--- ends with a message that no good party opened with, unless two strings that they hashed collide; and where no two strings of openings and path checks
--- collide, no call gives anything else than without the check, and no other string is hashed. Assumes nothing.
+-- What the root's check in step 5 gives (document 02, No. 4). Of one party, whoever the others are: a message that it ends with has the root that it was told
+-- was agreed. Of all good parties together, however many are bad, where they are told one root and one bit and the bit is by its rule: none ends with a
+-- message that no good party opened with, unless two strings that they hashed collide; and where no two strings of openings and path checks collide, no call
+-- gives anything else than without the check, and no other string is hashed. The hash is a parameter; the first is proved for every one, the others for
+-- every one of 32 bytes (proofs/AgreedRoot). Assumes nothing.
 use mathlib.Core.Path.{_≡_}
 use mathlib.Core.Logic.{_⊎_}
 use mathlib.Core.Bool.{false, cond, not}
@@ -65,13 +66,17 @@ module _ (H : List ℕ → List ℕ) where
     pub same-bit : Each H n t good (λ A. (e : Event) → step H n t good 3 A ≡ some e → (out : List ℕ) × (e .call ≡ agreeBit bit out))
     pub vote : Rule H n t good (λ A. bitGiven (step H n t good 2 A)) bit
 
-  -- a good party ends with nothing or with a message that a good party opened with; or a string of its second coding and one of a good party's opening, two
-  -- different ones, have one hash
+  -- a result of A is nothing or a message that a good party opened with; or a string of A's second coding and one of a good party's opening, two different
+  -- ones, have one hash
+  abbrev pub Somebodys : ℕ → ℕ → List Good → Good → Result → Type 0
+  Somebodys n t good A R =
+      (R ≡ nothing) ⊎ ((B : Good) × List·Memᴰ B good
+      × ((R ≡ settled (B .message)) ⊎ Collision H (recoded H n t (A .own) (A .message) (A .calls)) (codingStrings H n (shares n (n - t) (B .message)))))
+
   abbrev pub NoInventedMessage : Type 0
   NoInventedMessage =
-      (n t : ℕ) (good : List Good) (z : List ℕ) (bit : ℕ) → Told n t good z bit → Each H n t good (λ A. (R : Result) → EndsWith n t A R
-      → (R ≡ nothing) ⊎ ((B : Good) × List·Memᴰ B good
-      × ((R ≡ settled (B .message)) ⊎ Collision H (recoded H n t (A .own) (A .message) (A .calls)) (codingStrings H n (shares n (n - t) (B .message))))))
+      (n t : ℕ) (good : List Good) (z : List ℕ) (bit : ℕ) → Told n t good z bit
+      → Each H n t good (λ A. (R : Result) → EndsWith n t A R → Somebodys n t good A R)
 
   -- every string that a good party hashed is one of an opening or a path check. So to suppose that no two different ones of these have one hash is to suppose it
   -- of all

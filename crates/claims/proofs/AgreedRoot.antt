@@ -12,28 +12,27 @@ use Rattle.limits.specs.Limits.{maxMessage, parties, groupCause}
 use Rattle.buffer.specs.Entries.{size, body, rest, fills, bodies}
 use Rattle.buffer.specs.Given.{gave}
 use Rattle.buffer.specs.declared.Written.the-variants.{Refused}
-use Rattle.erasure.specs.Coding.{shareLength, shares}
+use Rattle.erasure.specs.Coding.{shareLength}
 use Rattle.erasure.specs.Rebuild.{Point, Recovered, cause, message, present, point, framed, other, unframed, joined, recovered, answered}
 use Rattle.sha256.specs.Sha256.{sha256}
 use Rattle.sha256.proofs.Laws.{sha256-length}
-use Rattle.merkle.specs.Strings.{Collision}
-use Rattle.merkle.specs.Shares.{same, codingStrings}
+use Rattle.merkle.specs.Shares.{same}
 use Rattle.commitment.specs.Commitment.{messageRoot}
 use Rattle.commitment.specs.Rebuild.{underRoot, rebuildWithRootOf}
 use Rattle.party.specs.State.{Result, nothing, settled, hasEnded, happy}
-use Rattle.party.specs.Steps.{recoveredBy, rebuilt, resultFound, heldOr, resultOf}
+use Rattle.party.specs.Steps.{openOf, recoveredBy, rebuilt, resultFound, heldOr, resultOf}
 use Rattle.party.specs.declared.Party.{Party}
 use Rattle.party.proofs.Outcomes.{found-rebuilt}
-use Rattle.agreement.specs.Calls.{Call, did, openedAndChecked, recoded}
+use Rattle.agreement.specs.Calls.{Call, events, did}
 use Rattle.agreement.specs.Agreement.{Good, joinOver}
 use Rattle.agreement.specs.AgreedRoot as theirs
 use Rattle.agreement.proofs.Ended.{waits-none}
 use Rattle.agreement.proofs.AgreedRoot.{ends-under-its-root, no-invented-message, no-string-more, no-other-ending}
-use Rattle.claims.specs.Terms.{when, foremost, groupThen, unless, causeJoined, bookJoined, rooted, stepIn, first, Box, EndsWith, Clean, actOf, partyBox, Host, boxOf}
-use Rattle.claims.specs.AgreedRoot.{Told, RebuiltBooksHaveTheAgreedRoot}
+use Rattle.claims.specs.Terms.{when, foremost, groupThen, unless, causeJoined, bookJoined, rooted, stepIn, first, Box, EndsWith, Clean, actOf, partyBox, Host, boxOf, party}
+use Rattle.claims.specs.AgreedRoot.{Told, Somebodys, RebuiltBooksHaveTheAgreedRoot}
 use Rattle.claims.proofs.Lists.{in-map, all-map, join-map}
 use Rattle.claims.proofs.Parties.{view, seen, view-step, view-first, was-ended, told, cleaned, sitting-tells}
-use Rattle.claims.proofs.Hosts.{party, either-same, boxes-same}
+use Rattle.claims.proofs.Hosts.{either-same, boxes-same}
 
 -- the tool
 module _ (n t : ℕ) (z es out : List ℕ) where
@@ -110,18 +109,11 @@ module _ (n t : ℕ) (good : List Good) (z : List ℕ) (bit : ℕ) (P : Told n t
   abbrev boxes : List Box
   boxes = map (partyBox n t) good
 
-  abbrev Somebodys : Box → Result → Type 0
-  Somebodys A R =
-      (R ≡ nothing) ⊎ ((B : Box) × List·Memᴰ B boxes
-      × ((R ≡ settled (B .book)) ⊎ Collision sha256 (A .recoded) (codingStrings sha256 n (shares n (n - t) (B .book)))))
-
-  party-invented : (A : Good) → List·Memᴰ A good → (R : Result) → EndsWith (partyBox n t A) R → Somebodys (partyBox n t A) R
+  party-invented : (A : Good) → List·Memᴰ A good → (R : Result) → EndsWith (partyBox n t A) R → Somebodys n t boxes (partyBox n t A) R
   party-invented A h R k =
       go (no-invented-message sha256 sha256-length n t good z bit (told n t good z bit P) A h R (unended n t A R k))
     where
-      go : (R ≡ nothing) ⊎ ((B : Good) × List·Memᴰ B good × ((R ≡ settled (B .message))
-          ⊎ Collision sha256 (recoded sha256 n t (A .own) (A .message) (A .calls)) (codingStrings sha256 n (shares n (n - t) (B .message)))))
-          → Somebodys (partyBox n t A) R
+      go : theirs.Somebodys sha256 n t good A R → Somebodys n t boxes (partyBox n t A) R
       go (inl e) = inl e
       go (inr b) = inr (partyBox n t (b .0), in-map (partyBox n t) (b .1), b .2)
 
@@ -129,7 +121,7 @@ module _ (n t : ℕ) (good : List Good) (z : List ℕ) (bit : ℕ) (P : Told n t
       → List·Memᴰ x (joinOver (λ (A : Box). A .openedAndChecked) boxes)
   parties-more c x h =
       subst (List·Memᴰ x) (sym (join-map (partyBox n t) (λ (A : Box). A .openedAndChecked) good))
-      (no-string-more sha256 sha256-length n t good z bit (told n t good z bit P) (cleaned n t good z bit P c) x
+      (no-string-more sha256 sha256-length n t good z bit (told n t good z bit P) (cleaned n t good c) x
       (subst (List·Memᴰ x) (join-map (partyBox n t) (λ (A : Box). A .openedAndChecked ++ A .recoded) good) h))
 
 -- and any, hosts too
@@ -141,9 +133,7 @@ module _ (n t : ℕ) (good : List (Good ⊎ Host)) (z : List ℕ) (bit : ℕ) (P
   is = boxes-same n t good (λ g i. P .opened (boxOf n t g) (in-map (boxOf n t) i) .0)
 
   abbrev Whose : List Box → Type 0
-  Whose boxes =
-      (A : Box) → List·Memᴰ A boxes → (R : Result) → EndsWith A R → (R ≡ nothing) ⊎ ((B : Box) × List·Memᴰ B boxes
-      × ((R ≡ settled (B .book)) ⊎ Collision sha256 (A .recoded) (codingStrings sha256 n (shares n (n - t) (B .book)))))
+  Whose boxes = (A : Box) → List·Memᴰ A boxes → (R : Result) → EndsWith A R → Somebodys n t boxes A R
 
   abbrev More : List Box → Type 0
   More boxes =
@@ -155,11 +145,16 @@ module _ (n t : ℕ) (good : List (Good ⊎ Host)) (z : List ℕ) (bit : ℕ) (P
 
   boxes-invented : Whose (map (boxOf n t) good)
   boxes-invented =
-      subst Whose (sym is) (all-map (partyBox n t) (λ (A : Box). (R : Result) → EndsWith A R → Somebodys n t ones z bit Q A R) ones
+      subst Whose (sym is) (all-map (partyBox n t) (λ (A : Box). (R : Result) → EndsWith A R → Somebodys n t (map (partyBox n t) ones) A R) ones
       (party-invented n t ones z bit Q))
 
   boxes-more : More (map (boxOf n t) good)
   boxes-more = subst More (sym is) (parties-more n t ones z bit Q)
+
+  boxes-before : Clean (map (boxOf n t) good) → (g : Good ⊎ Host) → List·Memᴰ g good → let A = party g in
+      let x = openOf sha256 n t (A .own) (A .message) .state in theirs.eventsUnchecked sha256 x (A .calls) ≡ events sha256 x (A .calls)
+  boxes-before c g h =
+      no-other-ending sha256 sha256-length n t ones z bit (told n t ones z bit Q) (cleaned n t ones (subst Clean is c)) (party g) (in-map party h)
 
 pub rebuilt-books-have-the-agreed-root : RebuiltBooksHaveTheAgreedRoot
 rebuilt-books-have-the-agreed-root =
@@ -170,7 +165,7 @@ rebuilt-books-have-the-agreed-root =
           subst (λ (A : Box). (z : List ℕ) × (b : ℕ) × (first 2 (A .acts) ≡ some (rooted z b)) × (messageRoot sha256 n t m ≡ z)) (sym same)
           (party-agreed n t (party g) m (subst (λ (A : Box). EndsWith A (settled m)) same k));
       sitting = λ n t good z bit P. (sitting-tells n t good z bit P, P .clean);
-      as-before = λ n t good z bit P c. no-other-ending sha256 sha256-length n t good z bit (told n t good z bit P) (cleaned n t good z bit P c);
+      as-before = boxes-before;
       no-string-more = boxes-more;
       not-invented = boxes-invented;
     }

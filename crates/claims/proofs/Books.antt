@@ -1,11 +1,11 @@
 -- Books come back from their shares; roots and paths are RFC 6962's; a root has one book; hashes are FIPS 180-4's. From the laws of the coder, of the
 -- tree, of the commitment and of the hash. Assumes nothing.
-use mathlib.Core.Path.{_≡_, refl, sym, ap, ap₂, _∙_, subst}
+use mathlib.Core.Path.{_≡_, refl, sym, ap, ap₂, _∙_}
 use mathlib.Core.List.{List, [], _∷_, _++_}
 use Prim.Native.Nat.{ℕ, _+_, _-_, _*_, _/_, _%_, _≤_, _<_}
 use native.Mathlib.Omega.{arith}
 use borrow.Author.Tests.{lt-ltb, le-ltb}
-use lib.ListN.{length, getD, take, drop}
+use lib.ListN.{length, take, drop}
 use Rattle.limits.proofs.Group.{group-of}
 use Rattle.buffer.proofs.Tabulate.{tabulate-cong}
 use Rattle.erasure.specs.Coding.{share, shares}

@@ -36,7 +36,7 @@ use Rattle.capi.specs.Lists.{lengthOf}
 use Rattle.capi.proofs.Answers.{value-fits, over-written, over-left, open-refused, open-state, open-root, open-done}
 use Rattle.capi.proofs.Small.{call-small, call-halves}
 use Rattle.capi.proofs.Kept.{call-kept, calls-kept, length-kept, open-kept}
-use Rattle.claims.specs.Terms.{Act, ended, Box, partyBox, Host, actSeen, actsSeen, hostBox, boxOf}
+use Rattle.claims.specs.Terms.{Act, ended, Box, partyBox, Host, actSeen, actsSeen, hostBox, boxOf, partyOf, party}
 use Rattle.claims.specs.Claims.{HostOpeningTells, HostStepTells, EveryCallTellsItsOutcome, Sitting, AllGoodHostsEndWithOneResult}
 use Rattle.claims.specs.ReadAgain.{EveryReaderGetsIt}
 use Rattle.claims.proofs.Lists.{in-map, map-map, map-same}
@@ -253,10 +253,6 @@ seen-all s (c ∷ cs) =
         rw (y, below e) (ap₂ (λ (d : Act) (ds : List Act). d ∷ ds) (seen-view s c e) r)
     go (off y) r = rw (y, above (eqb-false (made sha256 (stateOf s) c .cause) 0 y)) r
 
--- the party with a host's number, book and calls
-abbrev pub partyOf : Host → Good
-partyOf h = record { own = h .own; message = h .book; calls = h .calls }
-
 pub box-same : (n t : ℕ) (h : Host) → hostBox n t h .cause ≡ 0 → hostBox n t h ≡ partyBox n t (partyOf h)
 unfolding did
 box-same n t h e =
@@ -275,10 +271,6 @@ box-same n t h e =
     boxes a b c d = rw (a, b, c, d)
 
 -- every good box is a party, seen as one
-abbrev pub party : Good ⊎ Host → Good
-party (inl A) = A
-party (inr h) = partyOf h
-
 pub either-same : (n t : ℕ) (g : Good ⊎ Host) → boxOf n t g .cause ≡ 0 → boxOf n t g ≡ partyBox n t (party g)
 either-same n t (inl A) e = refl
 either-same n t (inr h) e = box-same n t h e

@@ -1,5 +1,5 @@
 -- Laws of lists that are mapped: their members, sums and joined lists. By induction on the list. Assumes nothing.
-use mathlib.Core.Path.{_≡_, refl, ap, ap₂, _∙_, subst, sym}
+use mathlib.Core.Path.{_≡_, refl, ap, ap₂, subst, sym}
 use mathlib.Core.List.{List, [], _∷_, _++_, map, List·Memᴰ, List·Memᴰ·head, List·Memᴰ·tail, List·Memᴰ·not-nil}
 use Prim.Native.Nat.{ℕ, _+_}
 use Rattle.agreement.specs.Agreement.{sumOver, joinOver}

@@ -5,7 +5,7 @@ use mathlib.Core.Logic.{_⊎_, inl, inr, _≢_}
 use mathlib.Core.Bool.{Bool, true, false, cond}
 use mathlib.Core.List.{List, [], _∷_, map, List·Memᴰ}
 use mathlib.Core.Option.{Option, none, some}
-use Prim.Native.Nat.{ℕ, _-_}
+use Prim.Native.Nat.{ℕ}
 use native.Mathlib.Omega.{arith}
 use lib.Dec.{eqb}
 use lib.ListN.{take, length-map}
@@ -106,10 +106,10 @@ unfolding sumOver sentOver
 view-sent n [] = refl
 view-sent n (e ∷ es) = rw (view-bytes n (e .call) (e .reply), view-sent n es)
 
--- demand 3 supposes that boxes are told so
 one-sent : {a b : ℕ} {x y : List ℕ} → _≡_ {A = Option Act} (some (sent a x)) (some (sent b y)) → a ≡ b
 one-sent e = cc
 
+-- in a sitting as demand 3 supposes it, boxes are told one root and one bit
 pub sitting-tells : (n t : ℕ) (good : List Box) (z : List ℕ) (bit : ℕ) → Sitting n t good z bit → Told n t good z bit
 sitting-tells n t good z bit P =
     record {
@@ -118,6 +118,12 @@ sitting-tells n t good z bit P =
       same-bit = λ A h b out f. one-sent (sym f ∙ P .step3 A h .1);
       bit-rule = P .bit-rule;
     }
+
+-- the strings of boxes are those of their parties
+pub cleaned : (n t : ℕ) (good : List Good) → Clean (map (partyBox n t) good) → TheirClean sha256 n t good
+cleaned n t good c x y h k =
+    let theirs = join-map (partyBox n t) (λ (B : Box). B .openedAndChecked) good in
+    c x y (rw theirs h) (rw theirs k)
 
 module _ (n t : ℕ) (good : List Good) (z : List ℕ) (bit : ℕ) where
   abbrev box : Good → Box
@@ -165,10 +171,6 @@ module _ (n t : ℕ) (good : List Good) (z : List ℕ) (bit : ℕ) where
             let q : e .0 .reply .value ≡ v = same-some (sym (ap bitGiven (e .1)) ∙ f A h) in
             s .1 ∙ ap (λ (k : ℕ). some (rooted z k)) (sym b ∙ q)
 
-    pub cleaned : Clean (map box good) → TheirClean sha256 n t good
-    cleaned c x y h k =
-        c x y (rw (join-map box (λ (B : Box). B .openedAndChecked) good) h) (rw (join-map box (λ (B : Box). B .openedAndChecked) good) k)
-
   module _ (P : Sitting n t (map box good) z bit) where
     premises : Premises sha256 n t good z bit
     premises =
@@ -190,7 +192,7 @@ module _ (n t : ℕ) (good : List Good) (z : List ℕ) (bit : ℕ) where
             vote = told (sitting-tells n t (map box good) z bit P) .vote;
           };
           delivered = λ b1. record { firstInbox = came b1; secondInbox = relay-came b1 };
-          clean = cleaned (sitting-tells n t (map box good) z bit P) (P .clean);
+          clean = cleaned n t good (P .clean);
         }
       where
         third : (A : Good) → In A → (e : Event) × (out : List ℕ) × (step sha256 n t good 3 A ≡ some e) × (e .call ≡ agreeBit bit out)

@@ -35,11 +35,11 @@ use Rattle.capi.specs.Calls.{packed, valueShown, Replies, numberOf, over, repli
 use Rattle.capi.proofs.Answers.{over-written, replies-are}
 use Rattle.capi.proofs.Sound.{whole, accepted-long}
 use Rattle.capi.proofs.Kept.{call-kept}
-use Rattle.claims.specs.Terms.{when, foremost, lent, wrong, next, ended, Box, partyBox, Host, boxOf, further, NothingMore}
+use Rattle.claims.specs.Terms.{when, foremost, lent, wrong, next, ended, Box, partyBox, Host, boxOf, partyOf, further, NothingMore}
 use Rattle.claims.specs.ReadAgain.{GivesAgain, ResultsAreReadAgain}
 use Rattle.claims.proofs.Steps.{opening-tells, done, ends, step-tells}
 use Rattle.claims.proofs.Parties.{view, readers, view-sent}
-use Rattle.claims.proofs.Hosts.{partyOf, box-same, hosts-read}
+use Rattle.claims.proofs.Hosts.{box-same, hosts-read}
 
 -- the result of step 5 on a party that holds one
 result-held : (x : Party) (R : Result) (inbox : List ℕ) → resultIn x ≡ some R → resultOf sha256 x inbox ≡ R

@@ -1,5 +1,5 @@
--- What request No. 4 of document 02 asks for, at SHA-256: a rebuilt book has the agreed root, or the result is nothing; no sitting ends differently for that;
--- and no book is invented, however many boxes are bad. That none is invented where the bit's rule is broken as well is not claimed. Assumes nothing.
+-- What request No. 4 of document 02 asks for, at SHA-256: a rebuilt book has the agreed root, or the result is nothing; every sitting still ends as it did; and no
+-- book is invented, however many boxes are bad. That none is invented where the bit's rule is broken as well is not claimed. Assumes nothing.
 use mathlib.Core.Path.{_≡_}
 use mathlib.Core.Logic.{_⊎_}
 use mathlib.Core.Bool.{false, cond, not}
@@ -23,7 +23,7 @@ use Rattle.party.specs.declared.Party.{Party}
 use Rattle.agreement.specs.Calls.{events}
 use Rattle.agreement.specs.Agreement.{Good, joinOver}
 use Rattle.agreement.specs.AgreedRoot.{eventsUnchecked}
-use Rattle.claims.specs.Terms.{when, groupThen, unless, causeJoined, bookJoined, rooted, sent, first, Box, Clean, EndsWith, partyBox, Host, boxOf}
+use Rattle.claims.specs.Terms.{when, groupThen, unless, causeJoined, bookJoined, rooted, sent, first, Box, Clean, EndsWith, Host, boxOf, party}
 use Rattle.claims.specs.Claims.{All, Sitting}
 
 -- good boxes that are told one root and one bit, which is by its rule; how many are bad, and what they send, is not said
@@ -32,6 +32,11 @@ pub record Told (n t : ℕ) (good : List Box) (z : List ℕ) (bit : ℕ) : Type 
   pub root : All n t good z bit (λ A. (b : ℕ) × (first 2 (A .acts) ≡ some (rooted z b)))
   pub same-bit : All n t good z bit (λ A. (b : ℕ) (out : List ℕ) → first 3 (A .acts) ≡ some (sent b out) → b ≡ bit)
   pub bit-rule : (v : ℕ) → All n t good z bit (λ A. first 2 (A .acts) ≡ some (rooted z v)) → bit ≡ v
+
+-- a result of A is nothing or the book of one of these, or a string of A's second coding and one of that one's opening, two different ones, have one hash
+abbrev pub Somebodys : ℕ → ℕ → List Box → Box → Result → Type 0
+Somebodys n t good A R = (R ≡ nothing) ⊎ ((B : Box) × List·Memᴰ B good
+    × ((R ≡ settled (B .book)) ⊎ Collision sha256 (A .recoded) (codingStrings sha256 n (shares n (n - t) (B .book)))))
 
 pub record RebuiltBooksHaveTheAgreedRoot : Type 0 where
   -- rebuilding under a root z: causes 15 and then 9 come last
@@ -43,15 +48,13 @@ pub record RebuiltBooksHaveTheAgreedRoot : Type 0 where
       → resultOf sha256 x inbox ≡ cond (same (messageRoot sha256 (x .seat .n) (x .seat .t) m) (x .root)) (settled m) nothing
   pub agreed : (n t : ℕ) (g : Good ⊎ Host) (m : List ℕ) → boxOf n t g .cause ≡ 0 → EndsWith (boxOf n t g) (settled m)
       → (z : List ℕ) × (b : ℕ) × (first 2 (boxOf n t g .acts) ≡ some (rooted z b)) × (messageRoot sha256 n t m ≡ z)
-  -- demand 3 supposes this and more. Then every call of every good box gives what it gave with step 5 as it was, which `eventsUnchecked` has: state, answer, result and
-  -- buffer; and no other string is hashed
+  -- demand 3 supposes both and more. Then every call of every good box's party gives all that it gave with step 5 as it was (`eventsUnchecked`), and hashes nothing else
   pub sitting : (n t : ℕ) (good : List Box) (z : List ℕ) (bit : ℕ) → Sitting n t good z bit → Told n t good z bit × Clean good
-  pub as-before : (n t : ℕ) (good : List Good) (z : List ℕ) (bit : ℕ) → Told n t (map (partyBox n t) good) z bit → Clean (map (partyBox n t) good)
-      → (A : Good) → List·Memᴰ A good → let x = openOf sha256 n t (A .own) (A .message) .state in
+  pub as-before : (n t : ℕ) (good : List (Good ⊎ Host)) (z : List ℕ) (bit : ℕ) → let boxes = map (boxOf n t) good in Told n t boxes z bit → Clean boxes
+      → (g : Good ⊎ Host) → List·Memᴰ g good → let A = party g in let x = openOf sha256 n t (A .own) (A .message) .state in
       eventsUnchecked sha256 x (A .calls) ≡ events sha256 x (A .calls)
   pub no-string-more : (n t : ℕ) (good : List (Good ⊎ Host)) (z : List ℕ) (bit : ℕ) → let boxes = map (boxOf n t) good in Told n t boxes z bit → Clean boxes
       → (s : List ℕ) → List·Memᴰ s (joinOver (λ (A : Box). A .openedAndChecked ++ A .recoded) boxes) → List·Memᴰ s (joinOver (λ (A : Box). A .openedAndChecked) boxes)
   -- a good box ends with nothing or with a good box's book, or a string of its second coding and one of a good box's opening collide
   pub not-invented : (n t : ℕ) (good : List (Good ⊎ Host)) (z : List ℕ) (bit : ℕ) → let boxes = map (boxOf n t) good in Told n t boxes z bit
-      → All n t boxes z bit (λ A. (R : Result) → EndsWith A R → (R ≡ nothing) ⊎ ((B : Box) × List·Memᴰ B boxes
-      × ((R ≡ settled (B .book)) ⊎ Collision sha256 (A .recoded) (codingStrings sha256 n (shares n (n - t) (B .book))))))
+      → All n t boxes z bit (λ A. (R : Result) → EndsWith A R → Somebodys n t boxes A R)

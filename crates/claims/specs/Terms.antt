@@ -252,6 +252,14 @@ abbrev pub boxOf : ℕ → ℕ → Good ⊎ Host → Box
 boxOf n t (inl A) = partyBox n t A
 boxOf n t (inr h) = hostBox n t h
 
+-- the party with the number, book and calls of a good box
+abbrev pub partyOf : Host → Good
+partyOf h = record { own = h .own; message = h .book; calls = h .calls }
+
+abbrev pub party : Good ⊎ Host → Good
+party (inl A) = A
+party (inr h) = partyOf h
+
 -- a good box that is called further
 abbrev pub further : List Call → Good ⊎ Host → Good ⊎ Host
 further more (inl A) = inl (record { own = A .own; message = A .message; calls = A .calls ++ more })

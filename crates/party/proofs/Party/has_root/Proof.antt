@@ -1,5 +1,5 @@
 -- `party::Party::has_root` meets its contract: the roots are compared byte by byte. Assumes nothing.
-use mathlib.Core.Path.{_≡_, ap, _∙_}
+use mathlib.Core.Path.{ap, _∙_}
 use borrow.Author.Needs.{needs}
 use lib.ListN.{length}
 use Rattle.sha256.specs.Sha256.{sha256}
