@@ -119,12 +119,9 @@ falseInbox = inboxOf (packetOf 1 falseShare (take (length (sidesOf 3 1)) (pathOf
 abbrev E2 : List Call
 E2 = agreeRoot w ∷ agreeBit 1 room ∷ takeShares (inboxOf ([] ∷ [] ∷ bk 2 ∷ [])) room ∷ takeRelays falseInbox [] ∷ takeRelays (inboxOf ([] ∷ [] ∷ bk 3 ∷ [])) room ∷ []
 
--- the result of each call of a list
-abbrev results : List Event → List (Option Result)
-results es = map (λ (e : Event). e .reply .result) es
-
-abbrev causes : List Event → List ℕ
-causes es = map (λ (e : Event). e .reply .cause) es
+-- the cause and the result of each call of a list
+abbrev told : List Event → List (ℕ × Option Result)
+told es = map (λ (e : Event). (e .reply .cause, e .reply .result)) es
 
 pub record Computed : Type 0 where
   -- two liars of three, where one may be
@@ -137,21 +134,21 @@ pub record Computed : Type 0 where
   -- what it rebuilds has another root
   pub other-root : same (messageRoot toy 3 1 F) y ≡ false
   -- without the check it ends with that, with the check with nothing
-  pub invented : results (eventsUnchecked toy (opening toy 3 1 3 (0x43 ∷ []) .state) (C3 .calls)) ≡ none ∷ none ∷ none ∷ some (settled F) ∷ []
-  pub not-taken : results (events toy (opening toy 3 1 3 (0x43 ∷ []) .state) (C3 .calls)) ≡ none ∷ none ∷ none ∷ some nothing ∷ []
+  pub invented : told (eventsUnchecked toy (opening toy 3 1 3 (0x43 ∷ []) .state) (C3 .calls)) ≡ (0, none) ∷ (0, none) ∷ (0, none) ∷ (0, some (settled F)) ∷ []
+  pub not-taken : told (events toy (opening toy 3 1 3 (0x43 ∷ []) .state) (C3 .calls)) ≡ (0, none) ∷ (0, none) ∷ (0, none) ∷ (0, some nothing) ∷ []
   -- it hashed the five strings of its own message's tree, two for the share that it took, three for each relay, and the five of the message coded again, though
   -- that was not taken
   pub hashes : length (hashed toy 3 1 3 (0x43 ∷ []) (C3 .calls)) ≡ 5 + 2 + 3 + 3 + 5
   -- four parties, two liars where one may be, the rule kept
   pub two-of-four : absent 4 1 (owns toy 4 1 few) ≡ 2
-  pub told : Told toy 4 1 few z4 1
+  pub ruled : Told toy 4 1 few z4 1
   pub party-3 : resultAfter toy 4 1 3 M (D3 .calls) ≡ some (settled M)
   pub party-4 : resultAfter toy 4 1 4 (0x43 ∷ []) (D4 .calls) ≡ some nothing
   -- a forged inbox with a short buffer, and then the true one: refused and then accepted without the check; with it accepted at once, with nothing
-  pub causes-before : causes (eventsUnchecked bent (opening bent 3 1 2 (0x43 ∷ []) .state) E2) ≡ 0 ∷ 0 ∷ 0 ∷ 9 ∷ 0 ∷ []
-  pub results-before : results (eventsUnchecked bent (opening bent 3 1 2 (0x43 ∷ []) .state) E2) ≡ none ∷ none ∷ none ∷ none ∷ some (settled N) ∷ []
-  pub causes-now : causes (events bent (opening bent 3 1 2 (0x43 ∷ []) .state) E2) ≡ 0 ∷ 0 ∷ 0 ∷ 0 ∷ 0 ∷ []
-  pub results-now : results (events bent (opening bent 3 1 2 (0x43 ∷ []) .state) E2) ≡ none ∷ none ∷ none ∷ some nothing ∷ some nothing ∷ []
+  pub corner-before : told (eventsUnchecked bent (opening bent 3 1 2 (0x43 ∷ []) .state) E2)
+      ≡ (0, none) ∷ (0, none) ∷ (0, none) ∷ (9, none) ∷ (0, some (settled N)) ∷ []
+  pub corner-now : told (events bent (opening bent 3 1 2 (0x43 ∷ []) .state) E2)
+      ≡ (0, none) ∷ (0, none) ∷ (0, none) ∷ (0, some nothing) ∷ (0, some nothing) ∷ []
 
 pub computed : Computed
 unfolding size body rest fills bodies spliced tabulate parties numbered groupCause timesX productOf product power inverse sum pow value factor unit numerator denominator basis through shareLength headed frame block shareByte shareOf share shares present point framed other unframed joined recovered splitFrom split shapeOf shape leaves nodeString sides beside root path folded treeStrings foldStrings checkStrings topHash pathHashes leafString leafStrings sharesCause same leavesOf rootOf pathOf passes codingStrings stringsOf chained hashes packetOf entryOf shareIn readOf inboxOf classOf classStrings atRoot atBit atFirst atSecond atEnd blankState broken messageRoot happy stateCause openCause openOf rootCause agreeRootOf packetFor bitCause outboxOf agreeBitOf inboxCause firstValid relayOf heldOf takeSharesOf gathered resultFound resultOf relaysCause takeRelaysOf accepted first entry lengths sentOver made events final shareStrings relayStrings checkedIn stringsOver recodedIn did openedAndChecked recoded sentBy among different absent sumOver joinOver there mix digest foundUnchecked takeRelaysUnchecked madeUnchecked eventsUnchecked clean cleanOf bent
@@ -165,7 +162,7 @@ computed = record {
   not-taken = refl;
   hashes = refl;
   two-of-four = refl;
-  told = record {
+  ruled = record {
     bytes = each D3 D4 (λ A. Bytes (A .message)) (two-bytes 0x41 0x42 (lit< tt) (lit< tt)) (one-byte 0x43 (lit< tt));
     root = each D3 D4 (λ A. (e : Event) × (step toy 4 1 few 2 A ≡ some e) × (e .call ≡ agreeRoot z4))
         (let p = pick (step toy 4 1 few 2 D3) refl in (p .0, p .1, refl)) (let p = pick (step toy 4 1 few 2 D4) refl in (p .0, p .1, refl));
@@ -176,10 +173,8 @@ computed = record {
   };
   party-3 = refl;
   party-4 = refl;
-  causes-before = refl;
-  results-before = refl;
-  causes-now = refl;
-  results-now = refl;
+  corner-before = refl;
+  corner-now = refl;
 }
 
 -- the bit 1 is against its rule in the first session
@@ -188,4 +183,4 @@ rule-broken rule = let e : _≡_ {A = ℕ} 1 0 = rule 0 (only C3 (λ A. bitGiven
 
 -- and what is promised of the second holds: nothing, or a good party's message, or a collision
 pub promised : (A : Good) → List·Memᴰ A few → (R : Result) → EndsWith toy 4 1 A R → Somebodys toy 4 1 few A R
-promised = no-invented-message toy wide 4 1 few z4 1 (computed .told)
+promised = no-invented-message toy wide 4 1 few z4 1 (computed .ruled)
