@@ -1,3 +1,4 @@
 pub mod Calls
 pub mod Agreement
 pub mod AgreedRoot
+pub mod Broadcast

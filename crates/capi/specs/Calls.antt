@@ -15,10 +15,14 @@ use Rattle.sha256.specs.Sha256.{hashOf}
 use Rattle.merkle.specs.Shares.{checkOf}
 use Rattle.packet.specs.Format.{hashes}
 use Rattle.packet.specs.Answer.{readAt}
+use Rattle.packet.specs.Message.{placed, readMessage}
+use Rattle.packet.specs.declared.MessagePacket.{MessagePacket}
+use Rattle.packet.specs.declared.MessagePacket.the-variants as whole
 use Rattle.packet.specs.declared.Packet.{Packet}
 use Rattle.packet.specs.declared.Packet.the-variants as packet
 use Rattle.party.specs.State.{Result, nothing, settled, broken}
 use Rattle.party.specs.Steps.{openOf, Stepped}
+use Rattle.party.specs.Sender.{senderCause, openBySenderOf}
 use Rattle.party.specs.declared.Outcome.the-variants as outcome
 use Rattle.party.specs.declared.Stage.{Stage}
 use Rattle.party.specs.declared.Stage.the-variants.{Root, Bit, First, Second, Ended}
@@ -31,7 +35,7 @@ abbrev pub versionOf : ℕ → ℕ → ℕ → ℕ
 versionOf major minor patch = major * 2 ^ 16 + minor * 2 ^ 8 + patch
 
 abbrev pub libraryVersion : ℕ
-libraryVersion = versionOf 2 1 0
+libraryVersion = versionOf 2 2 0
 
 -- a cause (0: accepted) in the upper 32 bits, a value in the lower
 unfoldable pub packed : ℕ → ℕ → ℕ
@@ -52,6 +56,16 @@ pub record Replies : Type 0 where
 
 abbrev pub replies : ℕ → List ℕ → List ℕ → Replies
 replies r s o = record { number = r; state = s; out = o }
+
+-- a number, with the buffers for a state, a root and a packet
+pub record Opens : Type 0 where
+  pub number : ℕ
+  pub state : List ℕ
+  pub root : List ℕ
+  pub out : List ℕ
+
+abbrev pub opens : ℕ → List ℕ → List ℕ → List ℕ → Opens
+opens r s z o = record { number = r; state = s; root = z; out = o }
 
 -- the value of a step; of an accepted step 5 whether the result is a message, 1, or nothing, 0: no length, which the state tells (`resultLengthCall`)
 abbrev pub valueShown : Option Result → ℕ → ℕ
@@ -76,6 +90,18 @@ module _ (H : List ℕ → List ℕ) where
       (cond (ltb (length s) stateLength) (replies (packed 9 stateLength) s z)
       (cond (ltb (length z) 32) (replies (packed 9 32) s z)
       (replies (packed 0 32) (written (stateBytes (r .state)) s .buffer) (written (r .root) z .buffer))))
+
+  -- step 1 by a named sender: causes 1 to 4, then 9 for the state's buffer, the root's and the packet's, in this order; the value is the packet's length, 0
+  -- where none is written
+  unfoldable pub openBySenderCall : ℕ → ℕ → ℕ → ℕ → List ℕ → List ℕ → List ℕ → List ℕ → Opens
+  openBySenderCall n t own sender bs s z out =
+      let k = senderCause n t own sender bs in
+      let r = openBySenderOf H n t own sender bs out in
+      cond (not (eqb k 0)) (opens (packed k 0) s z out)
+      (cond (ltb (length s) stateLength) (opens (packed 9 stateLength) s z out)
+      (cond (ltb (length z) 32) (opens (packed 9 32) s z out)
+      (cond (not (eqb (r .opened .cause) 0)) (opens (packed (r .opened .cause) (r .value)) s z out)
+      (opens (packed 0 (r .value)) (written (stateBytes (r .opened .state)) s .buffer) (written (r .opened .root) z .buffer) (r .buffer)))))
 
   -- steps 2 to 5: the party's call, on the state that the bytes say. Step 2 has no out buffer
   unfoldable pub called : List ℕ → Call → Replies
@@ -113,6 +139,15 @@ readAnswer (packet.Share number from len count) = packed 0 (count * 2 ^ 24 + num
 
 unfoldable pub readPacketCall : ℕ → List ℕ → ℕ
 readPacketCall n p = readAnswer (readAt n p 0)
+
+-- the packet of a named sender read: 0 for silence, else 2^16 and the message's length
+abbrev pub messageAnswer : MessagePacket → ℕ
+messageAnswer (whole.Refused k) = packed k 0
+messageAnswer whole.Silence = packed 0 0
+messageAnswer (whole.Message l) = packed 0 (2 ^ 16 + l)
+
+unfoldable pub readMessageCall : List ℕ → ℕ
+readMessageCall p = messageAnswer (placed (readMessage p))
 
 -- the path check: 1 yes, 0 no. No path that is not of whole hashes passes; of one that is, all hashes count
 abbrev pub checkAnswer : ℕ → Bool → ℕ

@@ -12,14 +12,17 @@ ghost use Rattle.party.specs.State.{overlong};
 ghost use Rattle.party.specs.Steps.{causeOf, valueOf, resultGiven, stepped};
 ghost use Rattle.state_bytes.specs.Layout.{stateLength};
 ghost use Rattle.agreement.specs.Calls.{agreeRoot, agreeBit, takeShares, takeRelays};
-ghost use Rattle.capi.specs.Calls.{libraryVersion, packed, returned, replies, valueShown, over, openCall, called, readPacketCall, checkAnswer};
+ghost use Rattle.capi.specs.Calls.{libraryVersion, packed, returned, replies, valueShown, over, openCall, opens, openBySenderCall, called, readPacketCall};
+ghost use Rattle.capi.specs.Calls.{readMessageCall, checkAnswer};
 ghost use Rattle.capi.specs.Calls.{stageCall, ownCall, lengthAnswer, resultLengthCall};
 ghost use Rattle.capi.specs.Calls.{checkPathCall, filled, sharesCall, rebuildCall, rebuildWithRootCall, hashCall};
 use buffer::Written;
 use merkle::Checked;
+use packet::MessagePacket;
 use packet::Packet;
 use party::Answer;
 use party::Opened;
+use party::OpenedBySender;
 use party::Outcome;
 use party::Party;
 use party::Reply;
@@ -29,7 +32,7 @@ use state_bytes::LENGTH;
 // The version of the library.
 const MAJOR: u32 = 2;
 
-const MINOR: u32 = 1;
+const MINOR: u32 = 2;
 
 const PATCH: u32 = 0;
 
@@ -84,6 +87,45 @@ pub extern "C" fn cipangohu_open(
     state_bytes::write(next, state);
     buffer::give(&digest, root);
     pack(0, 32)
+}
+
+// Step 1 by a named sender. The state, the root and the sender's packet are written only where all fit; the value is the length of that packet.
+#[no_mangle]
+pub extern "C" fn cipangohu_open_by_sender(
+    n: usize,
+    t: usize,
+    own: usize,
+    sender: usize,
+    bytes: &[u8],
+    state: &mut [u8],
+    root: &mut [u8],
+    out: &mut [u8],
+) -> u64
+    ensures { λ r. ⌜ opens r (now (state .exit)) (now (root .exit)) (now (out .exit))
+        ≡ openBySenderCall sha256 n t own sender (now (bytes .entry)) (now (state .entry)) (now (root .entry)) (now (out .entry)) ⌝ }
+{
+    let cause = Party::sender_cause(n, t, own, sender, bytes);
+    if cause != 0 {
+        return pack(cause, 0);
+    }
+    if state.len() < LENGTH {
+        return pack(9, LENGTH);
+    }
+    if root.len() < 32 {
+        return pack(9, 32);
+    }
+    let OpenedBySender { opened, len } = Party::open_by_sender(n, t, own, sender, bytes, out);
+    let Opened {
+        state: next,
+        cause: short,
+        root: digest,
+    } = opened;
+    if short != 0 {
+        return pack(short, len);
+    }
+    state_bytes::write(next, state);
+    buffer::give(&digest, root);
+    pack(0, len)
 }
 
 // Step 2: the agreed root. The value is the party's bit for the second short agreement.
@@ -162,6 +204,18 @@ pub extern "C" fn cipangohu_result_length(state: &[u8]) -> u64
     }
     let stage = party.stage;
     length_answer(stage)
+}
+
+// What bytes say as the packet of a named sender; its message begins at byte 3.
+#[no_mangle]
+pub extern "C" fn cipangohu_read_message(packet: &[u8]) -> u64
+    ensures { λ r. ⌜ r ≡ readMessageCall (now (packet .entry)) ⌝ }
+{
+    match packet::read_message(packet) {
+        MessagePacket::Refused(cause) => pack(cause, 0),
+        MessagePacket::Silence => pack(0, 0),
+        MessagePacket::Message(len) => pack(0, 65536 + len),
+    }
 }
 
 // What a packet says among n parties; its share begins at byte 4, and its path follows the share.

@@ -9,6 +9,7 @@ pub mod Verdict
 pub mod Cursor
 pub mod Writing
 pub mod Inverse
+pub mod Messages
 pub mod Class
 pub mod Inbox
 pub mod Instances

@@ -1,4 +1,4 @@
-// Packets: the bytes in which one party sends another a share with its audit path. Reading them, judging them, and writing them.
+// Packets: the bytes in which one party sends another a share with its audit path, or a whole message. Reading them, judging them, and writing them.
 ghost use mathlib.Core.Path.{_≡_};
 ghost use Prim.Native.Nat.{_+_, _*_, _≤_, _<_};
 ghost use lib.ListN.{length, take, drop};
@@ -9,7 +9,10 @@ ghost use Rattle.packet.specs.Format.{packetOf, chained, shareIn};
 ghost use Rattle.sha256.specs.Sha256.{sha256};
 ghost use Rattle.packet.specs.Answer.{told, readAt, placed, toldEntry, entryRead, pathAt, verdict, verdictOn, judgeOf};
 ghost use Rattle.packet.specs.Answer.{writeCause, writeOf, writeEntryOf};
+ghost use Rattle.packet.specs.Message.{readMessage, writeMessageOf};
+ghost use Rattle.packet.specs.Message as message;
 use buffer::Written;
+use limits::MAX_MESSAGE;
 use limits::MAX_PATH;
 use limits::MAX_SHARE;
 use merkle::Checked;
@@ -43,6 +46,18 @@ pub enum Judged {
     Silent,
     Faulty,
     Valid,
+}
+
+// The greatest length of a packet with a whole message: its map, the message's length and the message.
+pub const MAX_MESSAGE_PACKET: usize = 3 + MAX_MESSAGE;
+
+// What bytes are as a packet with a whole message.
+pub enum MessagePacket {
+    // Turned away for this cause of document 01: 10, neither silence nor readable.
+    Refused(u8),
+    Silence,
+    // A message of so many bytes, from byte 3 on.
+    Message(usize),
 }
 
 // Reads the packet that stands from place at on to the end of s, among n parties.
@@ -380,4 +395,59 @@ pub fn moved<'a>(r: Reader<'a>, n: usize) -> Reader<'a>
         src: r.src,
         at: read_entry(n, r.src, r.at).next,
     }
+}
+
+// Reads a packet with a whole message. The length that it states is not used before the bytes present are found to be as many.
+pub fn read_message(s: &[u8]) -> MessagePacket
+    ensures { λ r. ⌜ message.told r ≡ message.told (message.placed (readMessage (now (s .entry)))) ⌝ }
+{
+    if s.len() == 0 {
+        return MessagePacket::Silence;
+    }
+    let map = s[0];
+    if map == 8 {
+        return read_length(s);
+    }
+    if map != 0 {
+        return MessagePacket::Refused(10);
+    }
+    if s.len() == 1 {
+        return MessagePacket::Silence;
+    }
+    MessagePacket::Refused(10)
+}
+
+// The same of a packet whose map is 8.
+fn read_length(s: &[u8]) -> MessagePacket
+    ensures { λ r. ⌜ r ≡ message.placed (message.messageIn (now (s .entry))) ⌝ }
+{
+    if s.len() < 3 {
+        return MessagePacket::Refused(10);
+    }
+    let stated = buffer::size_at(s, 1);
+    if MAX_MESSAGE < stated {
+        return MessagePacket::Refused(10);
+    }
+    if s.len() != 3 + stated {
+        return MessagePacket::Refused(10);
+    }
+    MessagePacket::Message(stated)
+}
+
+// Writes the packet of a message to the start of out.
+pub fn write_message(message: &[u8], out: &mut [u8]) -> Written
+    ensures { λ r. ⌜ gave r (now (out .exit)) ≡ writeMessageOf (now (message .entry)) (now (out .entry)) ⌝ }
+{
+    let len = message.len();
+    if MAX_MESSAGE < len {
+        return Written::Refused(4);
+    }
+    let need = 3 + len;
+    if out.len() < need {
+        return Written::Short(need);
+    }
+    let head = [8u8, (len / 256 % 256) as u8, (len % 256) as u8];
+    buffer::put(out, 0, &head);
+    buffer::put(out, 3, message);
+    Written::Done(need)
 }

@@ -41,12 +41,15 @@ turnOf (stage.Ended r) = 5
 unfoldable pub stateCause : ℕ → Party → ℕ
 stateCause turn x = cond (broken x) 5 (cond (not (eqb (turnOf (x .stage)) turn)) 6 0)
 
--- step 1, the opening: causes 1, 2, 3, 4; the root of the message's shares goes to the short agreement. A refused
--- opening gives a blank state, which every step refuses, and no root
+-- a refused opening gives a blank state, which every step refuses, and no root
+abbrev pub refusedOpening : ℕ → Opened
+refusedOpening k = record { state = blankState; cause = k; root = blank }
+
+-- step 1, the opening: causes 1, 2, 3, 4; the root of the message's shares goes to the short agreement
 module _ (H : List ℕ → List ℕ) where
   unfoldable pub openOf : ℕ → ℕ → ℕ → List ℕ → Opened
   openOf n t own m =
-      cond (not (eqb (openCause n t own (length m)) 0)) (record { state = blankState; cause = openCause n t own (length m); root = blank })
+      cond (not (eqb (openCause n t own (length m)) 0)) (refusedOpening (openCause n t own (length m)))
       (record { state = atRoot (seatOf n t own) m; cause = 0; root = messageRoot H n t m })
 
 -- what a step gives back: the state and the answer, with document 01's number of the cause (0: accepted), the value beside it (the length needed

@@ -12,8 +12,10 @@ ghost use Rattle.buffer.specs.Given.{gave, written};
 ghost use Rattle.merkle.specs.Shares.{blank, same};
 ghost use Rattle.commitment.specs.Commitment.{messageRoot, mailWith};
 ghost use Rattle.party.specs.State.{partyLimits, padded, messageIn, shareHeld, nothing, settled, atEnd, resultFrom, hasEnded, blankState, overlong, broken, happy};
-ghost use Rattle.party.specs.Steps.{turnOf, openCause, stateCause, inboxCause, relaysCause, firstValid, gathered, resultFound};
+ghost use Rattle.party.specs.Steps.{turnOf, openCause, refusedOpening, stateCause, inboxCause, relaysCause, firstValid, gathered, resultFound};
 ghost use Rattle.party.specs.Steps.{stepped, writes, ending, openOf, agreeRootOf, agreeBitOf, takeSharesOf, takeRelaysOf};
+ghost use Rattle.packet.specs.Message.{readMessage};
+ghost use Rattle.party.specs.Sender.{messageRead, senderCause, begun, openBySenderOf};
 ghost use Rattle.party.specs.Private.{Fit, TakenIs, Gathered, after};
 use buffer::Written;
 use commitment::Sent;
@@ -23,6 +25,7 @@ use merkle::Hash;
 use merkle::Rooted;
 use packet::Entry;
 use packet::Judged;
+use packet::MessagePacket;
 use packet::Packet;
 
 // The result of a session: nothing, or a message of so many bytes.
@@ -71,6 +74,13 @@ pub struct Opened {
     pub root: [u8; 32],
 }
 
+// What the opening by a named sender gives: the opening, whose causes have 9 among them, and how many bytes were written for the others, or are
+// needed with cause 9.
+pub struct OpenedBySender {
+    pub opened: Opened,
+    pub len: usize,
+}
+
 // The answer of a step: the cause for which it was refused, with cause 9 the length needed; else of step 2 the party's bit, of steps 3 and 4 how
 // many bytes were written, of step 5 the result.
 pub enum Answer {
@@ -110,11 +120,7 @@ impl Party {
     {
         let cause = Party::open_cause(n, t, own, message.len());
         if cause != 0 {
-            return Opened {
-                state: blank(),
-                cause,
-                root: [0; 32],
-            };
+            return refused_opening(cause);
         }
         let Rooted { root, .. } = commitment::root(n, t, own, message);
         let mut held = [0u8; Party::MAX_MESSAGE];
@@ -133,6 +139,81 @@ impl Party {
             cause: 0,
             root,
         }
+    }
+
+    // The same where one party alone, the sender, has the message. It is handed its message, and writes a packet with it that goes to every other party;
+    // each of these is handed the packet that came, and opens with the empty message where it can read none.
+    pub fn open_by_sender(
+        n: usize,
+        t: usize,
+        own: usize,
+        sender: usize,
+        bytes: &[u8],
+        out: &mut [u8],
+    ) -> OpenedBySender
+        ensures { λ r. ⌜ begun r (now (out .exit)) ≡ openBySenderOf sha256 n t own sender (now (bytes .entry)) (now (out .entry)) ⌝ }
+    {
+        let cause = Party::sender_cause(n, t, own, sender, bytes);
+        if cause != 0 {
+            return OpenedBySender {
+                opened: refused_opening(cause),
+                len: 0,
+            };
+        }
+        if own != sender {
+            return OpenedBySender {
+                opened: Party::open_with_packet(n, t, own, bytes),
+                len: 0,
+            };
+        }
+        if n == 1 {
+            return OpenedBySender {
+                opened: Party::open(n, t, own, bytes),
+                len: 0,
+            };
+        }
+        let answer = packet::write_message(bytes, out);
+        let len = buffer::value_of(answer);
+        let Written::Done(_) = answer else {
+            return OpenedBySender {
+                opened: refused_opening(9),
+                len,
+            };
+        };
+        OpenedBySender {
+            opened: Party::open(n, t, own, bytes),
+            len,
+        }
+    }
+
+    // Why an opening by a named sender is refused before any buffer is looked at: cause 1, 2, 3 or 4, or 0.
+    pub fn sender_cause(n: usize, t: usize, own: usize, sender: usize, bytes: &[u8]) -> u8
+        ensures { λ r. ⌜ r ≡ senderCause n t own sender (now (bytes .entry)) ⌝ }
+    {
+        let cause = Party::open_cause(n, t, own, 0);
+        if cause != 0 {
+            return cause;
+        }
+        if !limits::numbered(n, sender) {
+            return 3;
+        }
+        if own == sender {
+            if Party::MAX_MESSAGE < bytes.len() {
+                return 4;
+            }
+        }
+        0
+    }
+
+    // The opening with the message of a packet, or with the empty one.
+    fn open_with_packet(n: usize, t: usize, own: usize, bytes: &[u8]) -> Opened
+        ensures { λ r. ⌜ r ≡ openOf sha256 n t own (messageRead (readMessage (now (bytes .entry)))) ⌝ }
+    {
+        let MessagePacket::Message(len) = packet::read_message(bytes) else {
+            return Party::open(n, t, own, &[]);
+        };
+        let end = 3 + len;
+        Party::open(n, t, own, &bytes[3..end])
     }
 
     // Step 2: the agreed root comes; the answer is this party's bit for the second short agreement.
@@ -583,6 +664,17 @@ fn blank() -> Party
         root: [0; 32],
         share: [0; MAX_SHARE],
         held: 0,
+    }
+}
+
+// What a refused opening gives: a blank state, and no root.
+fn refused_opening(cause: u8) -> Opened
+    ensures { λ r. ⌜ r ≡ refusedOpening cause ⌝ }
+{
+    Opened {
+        state: blank(),
+        cause,
+        root: [0; 32],
     }
 }
 

@@ -1,5 +1,6 @@
 -- The layout of a plan (document 01, "The rehearsal"): n, t, an option map, the fields of the options that it names, a map of good parties, their
--- books, and for each exchange the blocks of the bad parties. Assumes nothing.
+-- books, and for each exchange the blocks of the bad parties. Where one party sends (document 02, No. 5), its book alone is listed, if it is good; if it is
+-- not, its own block stands behind the books. Assumes nothing.
 use mathlib.Core.Bool.{Bool, true, false, cond, not, _&&_, _||_}
 use mathlib.Core.List.{List, [], _∷_}
 use mathlib.Core.Option.{Option, none, some}
@@ -87,15 +88,19 @@ skipExchange n g s = skipBlocks n n g s
 unfoldable pub packetFrom : ℕ → ℕ → ℕ → ℕ → List ℕ → List ℕ
 packetFrom n g q i s = cond (numbered n q && not (names g q)) (blockEntry n i (orEmpty (skipBlocks (q - 1) n g s))) []
 
--- Options are numbered from 1 and named by the option map, as parties are by theirs: a root, then a bit. The bytes of the field of each, in this order.
+-- Options are numbered from 1 and named by the option map, as parties are by theirs: a root, then a bit, then a sender. The bytes of the field of each, in
+-- this order.
 abbrev pub fields : List ℕ
-fields = 32 ∷ 1 ∷ []
+fields = 32 ∷ 1 ∷ 1 ∷ []
 
 abbrev pub rootOption : ℕ
 rootOption = 1
 
 abbrev pub bitOption : ℕ
 bitOption = 2
+
+abbrev pub senderOption : ℕ
+senderOption = 3
 
 -- the bytes of the fields of those of the first k options that a map names
 unfoldable pub fieldBytes : ℕ → ℕ → ℕ
@@ -132,6 +137,12 @@ hasBit s = names (optionsIn s) bitOption
 abbrev pub bitIn : List ℕ → ℕ
 bitIn s = getD s (fieldAt (optionsIn s) bitOption) 0
 
+abbrev pub hasSender : List ℕ → Bool
+hasSender s = names (optionsIn s) senderOption
+
+abbrev pub senderIn : List ℕ → ℕ
+senderIn s = getD s (fieldAt (optionsIn s) senderOption) 0
+
 abbrev pub goodAt : List ℕ → ℕ
 goodAt s = fieldAt (optionsIn s) (length fields + 1)
 
@@ -141,6 +152,30 @@ goodIn s = size (drop (goodAt s) s)
 abbrev pub booksIn : List ℕ → List ℕ
 booksIn s = drop (goodAt s + mapWidth) s
 
+-- the sender is a good party; it is not, as one whose number is none of the n parties'
+abbrev pub goodSender : List ℕ → Bool
+goodSender s = hasSender s && member (nIn s) (goodIn s) (senderIn s)
+
+abbrev pub badSender : List ℕ → Bool
+badSender s = hasSender s && not (member (nIn s) (goodIn s) (senderIn s))
+
+-- the map of those whose books are listed: all good parties, or a good sender alone
+abbrev pub only : ℕ → ℕ
+only q = 2 ^ (q - 1)
+
+unfoldable pub holders : List ℕ → ℕ
+holders s = cond (hasSender s) (cond (goodSender s) (only (senderIn s)) 0) (goodIn s)
+
+-- what stands behind the books; there, what a bad sender sends to party i, no bytes if there is none; and what stands behind its block
+unfoldable pub behindBooks : List ℕ → List ℕ
+behindBooks s = orEmpty (skipEntries (nIn s) (holders s) (booksIn s))
+
+unfoldable pub senderPacket : ℕ → List ℕ → List ℕ
+senderPacket i s = cond (badSender s) (blockEntry (nIn s) i (behindBooks s)) []
+
+abbrev pub skipSender : List ℕ → List ℕ → Option (List ℕ)
+skipSender s x = cond (badSender s) (skipBlock (nIn s) (goodIn s) x) (some x)
+
 -- how many exchanges there are, and what stands behind e of them
 abbrev pub exchanges : ℕ
 exchanges = 2
@@ -148,9 +183,9 @@ exchanges = 2
 abbrev pub skipExchanges : ℕ → ℕ → ℕ → List ℕ → Option (List ℕ)
 skipExchanges e n g s = walk (λ k. true) (skipExchange n g) e s
 
--- from exchange e on, counted from 0: the first one stands behind the books
+-- from exchange e on, counted from 0: the first one stands behind the books and a bad sender's block
 unfoldable pub exchangeIn : ℕ → List ℕ → List ℕ
-exchangeIn e s = orEmpty (skipExchanges e (nIn s) (goodIn s) (orEmpty (skipEntries (nIn s) (goodIn s) (booksIn s))))
+exchangeIn e s = orEmpty (skipExchanges e (nIn s) (goodIn s) (orEmpty (skipSender s (behindBooks s))))
 
 abbrev pub exchangeAt : ℕ → List ℕ → ℕ
 exchangeAt e s = length s - length (exchangeIn e s)
@@ -161,7 +196,7 @@ unfoldable pub endOf : List ℕ → Option (List ℕ)
 endOf s =
     cond
     (ltb (length s) (goodAt s + mapWidth) || not (ltb (optionsIn s) (2 ^ length fields)) || not (ltb (goodIn s) (2 ^ nIn s))) none
-    (andThen (skipEntries (nIn s) (goodIn s) (booksIn s)) (skipExchanges exchanges (nIn s) (goodIn s)))
+    (andThen (andThen (skipEntries (nIn s) (holders s) (booksIn s)) (skipSender s)) (skipExchanges exchanges (nIn s) (goodIn s)))
 
 abbrev pub empty : Option (List ℕ) → Bool
 empty none = false

@@ -1,13 +1,15 @@
 // The plan of a rehearsal: what its bytes say, and why it is refused.
 ghost use mathlib.Core.Path.{_≡_};
+ghost use mathlib.Core.Bool.{true};
 ghost use Prim.Native.Nat.{_+_, _-_, _≤_, _<_, _^_};
 ghost use lib.Dec.{ltb};
 ghost use lib.ListN.{length, take, drop};
+ghost use Rattle.limits.specs.Limits.{maxParties};
 ghost use Rattle.buffer.specs.Given.{gave, written};
-ghost use Rattle.plan.specs.Layout.{names, member, within, skipEntry, skipEntries, partyEntry, booksFit, skipBlock, skipBlocks, packetFrom};
-ghost use Rattle.plan.specs.Layout.{fieldAt, nIn, skipExchanges};
-ghost use Rattle.plan.specs.Plan.{refused, planOf, bookGiven, packetGiven, exchangeOf};
-ghost use Rattle.plan.specs.Private.{Ends, orEnd, Spans, HeaderEnds, Rest};
+ghost use Rattle.plan.specs.Layout.{names, member, within, skipEntry, skipEntries, partyEntry, booksFit, skipBlock, skipBlocks, blockEntry, packetFrom};
+ghost use Rattle.plan.specs.Layout.{fieldAt, nIn, optionsIn, goodAt, goodIn, skipExchanges};
+ghost use Rattle.plan.specs.Plan.{refused, planOf, bookGiven, packetGiven, blockGiven, exchangeOf};
+ghost use Rattle.plan.specs.Private.{Ends, orEnd, Spans, Header, HeaderEnds, Rest, sourceOf, holdersBy, skipSenderBy, LaidAt};
 use buffer::Written;
 use limits::MAX_MESSAGE;
 use limits::MAX_PLAN;
@@ -19,26 +21,31 @@ const MAP: usize = 2;
 const HEAD: usize = 3;
 
 // The number of options, and the bytes of the field of each: option k, from 1 on, has the value two to the k - 1 in the option map.
-const OPTIONS: usize = 2;
+const OPTIONS: usize = 3;
 
-const FIELDS: [usize; OPTIONS] = [32, 1];
+const FIELDS: [usize; OPTIONS] = [32, 1, 1];
 
 pub const ROOT: usize = 1;
 
 pub const BIT: usize = 2;
 
+pub const SENDER: usize = 3;
+
 // The number of exchanges.
 const EXCHANGES: usize = 2;
 
-// A plan's parts: n, t, the option map, the map of good parties, and where the books and the exchanges start. The cause is 0 if the plan is
-// taken; else all parts are 0.
+// A plan's parts: n, t, the option map, the sender's number or 0, the maps of good parties and of those whose books are listed, and where the books, a bad
+// sender's packets and the exchanges start. The cause is 0 if the plan is taken; else all parts are 0.
 pub struct Plan {
     pub cause: u8,
     pub n: usize,
     pub t: usize,
     pub options: usize,
+    pub sender: usize,
     pub good: usize,
+    pub holders: usize,
     pub books: usize,
+    pub packets: usize,
     pub exchanges: usize,
 }
 
@@ -48,13 +55,26 @@ enum Offset {
     At(usize),
 }
 
+// Where a bad sender's packets and the exchanges start; nowhere if the plan is not laid out to its last byte.
+enum Behind {
+    Nowhere,
+    At(usize, usize),
+}
+
+// The sender: whether the plan names one, its number, and whether that is a good party's.
+struct Source {
+    given: bool,
+    number: usize,
+    good: bool,
+}
+
 // Where bytes lie: from one offset up to another.
 struct Span {
     from: usize,
     end: usize,
 }
 
-// The parts of a plan, or the cause for which it is refused: 13 if n and t are not there, 1, 2, then 13 for the layout, then 4.
+// The parts of a plan, or the cause for which it is refused: 13 if n and t are not there, 1, 2, then 13 for the layout, then 3 and 4.
 pub fn read(plan: &[u8]) -> Plan
     ensures { λ r. ⌜ r ≡ planOf (now (plan .entry)) ⌝ }
 {
@@ -76,17 +96,17 @@ pub fn read(plan: &[u8]) -> Plan
     parts(plan, n, t, books)
 }
 
-// The bytes of good party q's book among the books; cause 3 for a party that is not good.
-pub fn book(books: &[u8], n: usize, good: usize, q: usize, out: &mut [u8]) -> Written
-    ensures { λ r. ⌜ gave r (now (out .exit)) ≡ bookGiven n good q (now (books .entry)) (now (out .entry)) ⌝ }
+// The bytes of party q's book among the books of those that a map names; cause 3 for a party that has none.
+pub fn book(books: &[u8], n: usize, holders: usize, q: usize, out: &mut [u8]) -> Written
+    ensures { λ r. ⌜ gave r (now (out .exit)) ≡ bookGiven n holders q (now (books .entry)) (now (out .entry)) ⌝ }
 {
     if !limits::parties(n) {
         return Written::Refused(1);
     }
-    if !member(n, good, q) {
+    if !member(n, holders, q) {
         return Written::Refused(3);
     }
-    let found = party_entry(books, 0, n, good, q);
+    let found = party_entry(books, 0, n, holders, q);
     give(books, found, out)
 }
 
@@ -99,6 +119,17 @@ pub fn packet(exchange: &[u8], n: usize, good: usize, q: usize, i: usize, out: &
     }
     let found = packet_from(exchange, n, good, q, i);
     give(exchange, found, out)
+}
+
+// The bytes that a bad sender sends to party i in its block.
+pub fn block(s: &[u8], n: usize, i: usize, out: &mut [u8]) -> Written
+    ensures { λ r. ⌜ gave r (now (out .exit)) ≡ blockGiven n i (now (s .entry)) (now (out .entry)) ⌝ }
+{
+    if !limits::parties(n) {
+        return Written::Refused(1);
+    }
+    let found = block_entry(s, 0, n, i);
+    give(s, found, out)
 }
 
 // The offset of option k's field, which stands behind those of the lower options that the map names; past the last option, the offset behind
@@ -152,8 +183,11 @@ fn refused(cause: u8) -> Plan
         n: 0,
         t: 0,
         options: 0,
+        sender: 0,
         good: 0,
+        holders: 0,
         books: 0,
+        packets: 0,
         exchanges: 0,
     }
 }
@@ -186,33 +220,115 @@ fn books_at(plan: &[u8], n: usize) -> Offset
     Offset::Nowhere
 }
 
-// The parts of a plan whose books start there. No byte may be left over behind the exchanges.
+// The parts of a plan whose books start there.
 fn parts(plan: &[u8], n: usize, t: usize, books: usize) -> Plan
     requires { ⌜ Rest n t books (now plan) ⌝ }
     ensures { λ r. ⌜ r ≡ planOf (now (plan .entry)) ⌝ }
 {
+    let options = wide(plan[2]);
     let good = buffer::size_at(plan, books - MAP);
-    let Offset::At(exchanges) = skip_entries(plan, books, n, good) else {
+    let source = sender_of(plan, options, n, good);
+    let holders = holders(source, good);
+    let Behind::At(packets, exchanges) = places(plan, books, n, good, source) else {
         return refused(13);
     };
-    let Offset::At(end) = skip_exchanges(plan, exchanges, n, good, EXCHANGES) else {
-        return refused(13);
-    };
-    if end != plan.len() {
-        return refused(13);
+    if source.given {
+        if !limits::numbered(n, source.number) {
+            return refused(3);
+        }
     }
-    if !books_fit(plan, books, n, good) {
+    if !books_fit(plan, books, n, holders) {
         return refused(4);
     }
     Plan {
         cause: 0,
         n,
         t,
-        options: wide(plan[2]),
+        options,
+        sender: source.number,
         good,
+        holders,
         books,
+        packets,
         exchanges,
     }
+}
+
+// The sender that a plan names.
+fn sender_of(plan: &[u8], options: usize, n: usize, good: usize) -> Source
+    requires { ⌜ (options ≡ optionsIn (now plan)) × (n ≡ nIn (now plan)) × (good ≡ goodIn (now plan))
+        × (goodAt (now plan) ≤ length (now plan)) ⌝ }
+    ensures { λ r. ⌜ r ≡ sourceOf (now (plan .entry)) ⌝ }
+{
+    if !names(options, SENDER) {
+        return Source {
+            given: false,
+            number: 0,
+            good: false,
+        };
+    }
+    let number = wide(plan[field_at(options, SENDER)]);
+    Source {
+        given: true,
+        number,
+        good: member(n, good, number),
+    }
+}
+
+// The map of those whose books are listed.
+fn holders(source: Source, good: usize) -> usize
+    requires { ⌜ source .good ≡ true → (1 ≤ source .number) × (source .number ≤ maxParties) ⌝ }
+    ensures { λ r. ⌜ r ≡ holdersBy source good ⌝ }
+{
+    if !source.given {
+        return good;
+    }
+    if !source.good {
+        return 0;
+    }
+    let number = source.number;
+    let mut map: usize = 1;
+    let mut p: usize = 1;
+    while p < number {
+        map = 2 * map;
+        p += 1;
+    }
+    map
+}
+
+// Where what follows the books starts, if all is in order and no byte is left over behind the exchanges.
+fn places(plan: &[u8], books: usize, n: usize, good: usize, source: Source) -> Behind
+    requires { ⌜ Header books (now plan) × (n ≡ nIn (now plan)) × (good ≡ goodIn (now plan)) × (source ≡ sourceOf (now plan))
+        × (n ≤ maxParties) ⌝ }
+    ensures { λ r. ⌜ LaidAt r (now (plan .entry)) ⌝ }
+{
+    let holders = holders(source, good);
+    let Offset::At(packets) = skip_entries(plan, books, n, holders) else {
+        return Behind::Nowhere;
+    };
+    let Offset::At(exchanges) = skip_sender(plan, packets, n, good, source) else {
+        return Behind::Nowhere;
+    };
+    let Offset::At(end) = skip_exchanges(plan, exchanges, n, good, EXCHANGES) else {
+        return Behind::Nowhere;
+    };
+    if end != plan.len() {
+        return Behind::Nowhere;
+    }
+    Behind::At(packets, exchanges)
+}
+
+// The offset behind a bad sender's block, where there is one.
+fn skip_sender(s: &[u8], at: usize, n: usize, good: usize, source: Source) -> Offset
+    requires { ⌜ at ≤ length (now s) ⌝ }
+    ensures { λ r. ⌜ Ends r (skipSenderBy source n good (drop at (now (s .entry)))) (now (s .entry)) ⌝ }
+{
+    if source.given {
+        if !source.good {
+            return skip_block(s, at, n, good);
+        }
+    }
+    Offset::At(at)
 }
 
 // Whether a map names no party beyond n.
@@ -396,6 +512,14 @@ fn packet_from(s: &[u8], n: usize, good: usize, q: usize, i: usize) -> Span
         return Span { from: 0, end: 0 };
     }
     let at = or_end(skip_blocks(s, 0, q - 1, n, good), s.len());
+    block_entry(s, at, n, i)
+}
+
+// Where the packet to party i lies in the block at an offset; no bytes if there is none.
+fn block_entry(s: &[u8], at: usize, n: usize, i: usize) -> Span
+    requires { ⌜ at ≤ length (now s) ⌝ }
+    ensures { λ r. ⌜ Spans r (blockEntry n i (drop at (now (s .entry)))) (now (s .entry)) ⌝ }
+{
     let map = buffer::size_at(s, at);
     let from = buffer::skip(s, at, MAP);
     party_entry(s, from, n, map, i)

@@ -1,5 +1,6 @@
--- A plan played (document 01, "The rehearsal"): every good party is opened with its book and taken through its steps, on what the other good
--- parties wrote and on what the plan says that bad ones send. The hash of the tree is a parameter H. Assumes nothing.
+-- A plan played (document 01, "The rehearsal"): every good party is opened with its book, or by the sender where there is one (document 02, No. 5), and
+-- taken through its steps, on what the other good parties wrote and on what the plan says that bad ones send. The hash of the tree is a parameter H. Assumes
+-- nothing.
 use mathlib.Core.Bool.{Bool, true, false, cond, not, _&&_, _||_}
 use mathlib.Core.List.{List, [], _∷_, _++_}
 use mathlib.Core.Option.{Option, none, some}
@@ -12,14 +13,18 @@ use Rattle.buffer.specs.Given.{Given, gave, written}
 use Rattle.buffer.specs.declared.Written.the-variants.{Refused}
 use Rattle.merkle.specs.Shares.{same}
 use Rattle.party.specs.State.{Result, nothing, settled}
+use Rattle.packet.specs.Message.{maxMessagePacket}
 use Rattle.party.specs.Steps.{openOf, Stepped, agreeRootOf, agreeBitOf, takeSharesOf, takeRelaysOf}
+use Rattle.party.specs.Sender.{messageBy, packetBy, Begun, openBySenderOf}
 use Rattle.party.specs.declared.Answer.{Answer}
 use Rattle.party.specs.declared.Answer.the-variants.{Refused, Short, Happy, Sent, Nothing, Message}
 use Rattle.party.specs.declared.Opened.{Opened}
 pub use Rattle.commitment.specs.Rooms.{maxOutbox}
 use Rattle.agreement.specs.Calls.{Call, agreeRoot, agreeBit, takeShares, takeRelays, lengths}
 use Rattle.agreement.specs.Agreement.{Good}
-use Rattle.plan.specs.Layout.{names, partyEntry, unnamed, lowest, nIn, tIn, hasRoot, hasBit, rootIn, bitIn, goodIn, booksIn, exchangeIn}
+use Rattle.agreement.specs.Broadcast.{Opener}
+use Rattle.plan.specs.Layout.{names, partyEntry, unnamed, lowest, nIn, tIn, hasRoot, hasBit, hasSender, rootIn, bitIn, senderIn, goodIn, booksIn}
+use Rattle.plan.specs.Layout.{goodSender, holders, senderPacket, exchangeIn}
 use Rattle.plan.specs.Plan.{planCause}
 use Rattle.exchange.specs.Exchange.{inboxTo}
 use Rattle.report.specs.Output.{line, sentLine, refusedLine}
@@ -45,12 +50,26 @@ abbrev pub lineWith : ℕ → Result → List ℕ
 lineWith p nothing = line p false []
 lineWith p (settled m) = line p true m
 
--- in the plan s: party p is good; its message; and the lowest-numbered good party
+-- in the plan s: party p is good; its book, no bytes where none is listed; and the lowest-numbered good party
 abbrev pub isGood : List ℕ → ℕ → Bool
 isGood s p = names (goodIn s) p
 
+unfoldable pub bookOf : List ℕ → ℕ → List ℕ
+bookOf s p = partyEntry (nIn s) (holders s) p (booksIn s)
+
+-- in the sender's exchange: what party p gives to each other one, the packet of a good sender alone; and what is handed to party p's opening, to the sender
+-- its book, to another one what a good sender gave, or what the plan says that a bad one sends
+unfoldable pub givenBy : List ℕ → ℕ → List ℕ
+givenBy s p = cond (hasSender s) (packetBy (nIn s) p (senderIn s) (bookOf s p)) []
+
+unfoldable pub handedTo : List ℕ → ℕ → List ℕ
+handedTo s p =
+    cond (eqb p (senderIn s)) (bookOf s p)
+    (cond (goodSender s) (givenBy s (senderIn s)) (senderPacket p s))
+
+-- the message that party p opens with
 unfoldable pub messageOf : List ℕ → ℕ → List ℕ
-messageOf s p = partyEntry (nIn s) (goodIn s) p (booksIn s)
+messageOf s p = cond (hasSender s) (messageBy p (senderIn s) (handedTo s p)) (bookOf s p)
 
 abbrev pub lowestGood : List ℕ → ℕ
 lowestGood s = lowest (nIn s) 1 (goodIn s)
@@ -61,8 +80,11 @@ wholeIn e = not (eqb e 0)
 
 module _ (H : List ℕ → List ℕ) (s : List ℕ) where
   -- step 1, and the agreed root: the given one, or that of the lowest-numbered good party
+  unfoldable pub openedBySender : ℕ → Begun
+  openedBySender p = openBySenderOf H (nIn s) (tIn s) p (senderIn s) (handedTo s p) (replicate maxMessagePacket 0)
+
   unfoldable pub opened : ℕ → Opened
-  opened p = openOf H (nIn s) (tIn s) p (messageOf s p)
+  opened p = cond (hasSender s) (openedBySender p .opened) (openOf H (nIn s) (tIn s) p (bookOf s p))
 
   unfoldable pub agreedRoot : List ℕ
   agreedRoot = cond (hasRoot s) (rootIn s) (opened (lowestGood s) .root)
@@ -119,10 +141,13 @@ module _ (H : List ℕ → List ℕ) (s : List ℕ) where
   unfoldable pub endsWith : ℕ → Result
   endsWith p = cond (eqb agreedBit 0) nothing (orNothing (step5 p .result))
 
-  -- the bytes that party p sent: its packets, and its relay to the n - 1 others
-  unfoldable pub sentOf : ℕ → ℕ
-  sentOf p =
+  -- the bytes that party p sent from step 3 on: its packets, and its relay to the n - 1 others; and all, with a sender's packet to them
+  unfoldable pub sentLater : ℕ → ℕ
+  sentLater p =
       lengths (bodies (nIn s) (wroteIn (step3 p))) + cond (eqb agreedBit 0) 0 ((nIn s - 1) * length (wroteIn (step4 p)))
+
+  unfoldable pub sentOf : ℕ → ℕ
+  sentOf p = (nIn s - 1) * length (givenBy s p) + sentLater p
 
   -- of k parties from p on, the good ones' lines, and what they sent
   unfoldable pub linesFrom : ℕ → ℕ → List ℕ
@@ -163,3 +188,15 @@ module _ (H : List ℕ → List ℕ) (s : List ℕ) where
 
   abbrev pub goodParties : List Good
   goodParties = goodFrom (nIn s) 1
+
+  -- and with what their openings by the sender were handed and lent
+  abbrev pub opener : ℕ → Opener
+  opener p =
+      record { own = p; sender = senderIn s; bytes = handedTo s p; out = replicate maxMessagePacket 0; calls = callsOf p }
+
+  unfoldable pub openersFrom : ℕ → ℕ → List Opener
+  openersFrom zero p = []
+  openersFrom (suc k) p = cond (isGood s p) (opener p ∷ openersFrom k (p + 1)) (openersFrom k (p + 1))
+
+  abbrev pub openers : List Opener
+  openers = openersFrom (nIn s) 1

@@ -6,26 +6,30 @@ ghost use Prim.Native.Nat.{_+_, _*_, _/_, _%_, _≤_, _<_};
 ghost use lib.Dec.{eqb};
 ghost use lib.ListN.{length, take, replicate};
 ghost use Rattle.sha256.specs.Sha256.{sha256};
-ghost use Rattle.limits.specs.Limits.{maxParties, maxMessage};
+ghost use Rattle.limits.specs.Limits.{maxParties, maxMessage, maxEntry};
 ghost use Rattle.buffer.specs.Splice.{spliced};
 ghost use Rattle.buffer.specs.Entries.{bodies};
 ghost use Rattle.buffer.specs.Given.{gave};
+ghost use Rattle.packet.specs.Message.{maxMessagePacket};
 ghost use Rattle.party.specs.Steps.{stepped, resultGiven};
 ghost use Rattle.agreement.specs.Calls.{lengths};
-ghost use Rattle.plan.specs.Layout.{unnamed, lowest, nIn, goodIn, exchangeIn};
+ghost use Rattle.plan.specs.Layout.{unnamed, lowest, nIn, hasSender, goodIn, exchangeIn};
 ghost use Rattle.exchange.specs.Exchange.{inboxTo, slotOf, Slots};
 ghost use Rattle.report.specs.Output.{line};
-ghost use Rattle.session.specs.Session.{maxOutbox, sentLength, wroteIn, orNothing, lineWith, wholeIn, isGood, opened, agreedRoot, step2, agreedBit};
+ghost use Rattle.session.specs.Session.{maxOutbox, sentLength, wroteIn, orNothing, lineWith, wholeIn, isGood, bookOf, givenBy, handedTo};
+ghost use Rattle.session.specs.Session.{openedBySender, opened, agreedRoot, step2, agreedBit};
 ghost use Rattle.session.specs.Session.{sameRoots, sameBits, unlawful, step4};
 ghost use Rattle.session.specs.Session.{step5, endsWith, sentOf, linesFrom, sentFrom, output, rehearseOf, printOf};
 ghost use Rattle.session.specs.Private.{Ready, Turned, stepFor, stateFor, States, Behind, inboxRoom, maxLine, maxText, Dealt, Relayed, Sizes, Finishing, messageLength, ownBit};
 use buffer::Written;
 use commitment::MAX_OUTBOX;
 use exchange::Mail;
+use limits::MAX_ENTRY;
 use limits::MAX_MESSAGE;
 use limits::MAX_PARTIES;
 use limits::MAX_PLAN;
 use merkle::Hash;
+use packet::MAX_MESSAGE_PACKET;
 use party::Answer;
 use party::Opened;
 use party::Party;
@@ -33,6 +37,7 @@ use party::Reply;
 use plan::BIT;
 use plan::Plan;
 use plan::ROOT;
+use plan::SENDER;
 
 // The greatest length of an inbox: the packets of bad parties stand in the plan, and one of a good party is no longer than an outbox.
 const MAX_INBOX: usize = MAX_PLAN + MAX_PARTIES * (MAX_OUTBOX + 2);
@@ -52,7 +57,7 @@ struct Turn {
     e: usize,
 }
 
-// The output of a plan in a lent buffer; causes 13, 1, 2, 13, 4, 14, and 9 where the buffer is shorter.
+// The output of a plan in a lent buffer; causes 13, 1, 2, 13, 3, 4, 14, and 9 where the buffer is shorter.
 pub fn rehearse(bytes: &[u8], out: &mut [u8]) -> Written
     ensures { λ r. ⌜ gave r (now (out .exit)) ≡ rehearseOf sha256 (now (bytes .entry)) (now (out .entry)) ⌝ }
 {
@@ -220,7 +225,7 @@ fn sent_all(bytes: &[u8], parts: Plan, boxes: &[u8], lens: &[usize], sizes: &[us
     sum
 }
 
-// The bytes that party q sent: its packets, and its relay to all others.
+// The bytes that party q sent: as the sender its packet to all others, its packets, and its relay to all others.
 fn sent_by(
     bytes: &[u8],
     parts: Plan,
@@ -231,14 +236,16 @@ fn sent_by(
 ) -> usize
     requires { ⌜ Ready (now bytes) parts × Dealt (now bytes) (now boxes) (now lens) × Sizes (now bytes) (now sizes)
         × (1 ≤ q) × (q ≤ nIn (now bytes)) × (isGood (now bytes) q ≡ true) ⌝ }
-    ensures { λ r. ⌜ (r ≡ sentOf sha256 (now (bytes .entry)) q) × (r ≤ maxOutbox + maxParties * maxOutbox) ⌝ }
+    ensures { λ r. ⌜ (r ≡ sentOf sha256 (now (bytes .entry)) q) × (r ≤ maxParties * maxMessagePacket + maxOutbox + maxParties * maxOutbox) ⌝ }
 {
     let n = parts.n;
     let j = q - 1;
     let from = j * MAX_OUTBOX;
     let end = from + lens[j];
     let relayed = (n - 1) * sizes[j];
-    packet_bytes(n, &boxes[from..end]) + relayed
+    let mut room = [0u8; MAX_MESSAGE_PACKET];
+    let whole = (n - 1) * given(bytes, parts, q, &mut room);
+    whole + packet_bytes(n, &boxes[from..end]) + relayed
 }
 
 // The bytes of an outbox's packets, without their lengths; of one that runs short, those that are there.
@@ -297,20 +304,77 @@ fn unnamed(n: usize, good: usize) -> usize
     count
 }
 
-// Step 1 of party q, with its book.
+// Step 1 of party q, with its book or by the sender.
 fn opened(bytes: &[u8], parts: Plan, q: usize) -> Opened
     requires { ⌜ Ready (now bytes) parts ⌝ }
     ensures { λ r. ⌜ r ≡ opened sha256 (now (bytes .entry)) q ⌝ }
 {
-    let n = parts.n;
-    let t = parts.t;
-    let from = parts.books;
+    if plan::names(parts.options, SENDER) {
+        return opened_by_sender(bytes, parts, q);
+    }
     let mut message = [0u8; MAX_MESSAGE];
-    // No book of a plan that is taken is longer; a party that is not good has none.
-    let Written::Done(len) = plan::book(&bytes[from..], n, parts.good, q, &mut message) else {
-        return Party::open(n, t, q, &[]);
-    };
-    Party::open(n, t, q, &message[..len])
+    let len = book(bytes, parts, q, &mut message);
+    Party::open(parts.n, parts.t, q, &message[..len])
+}
+
+// The same by the sender: what party q is handed is read or, if it is the sender, sent.
+fn opened_by_sender(bytes: &[u8], parts: Plan, q: usize) -> Opened
+    requires { ⌜ Ready (now bytes) parts × (hasSender (now bytes) ≡ true) ⌝ }
+    ensures { λ r. ⌜ r ≡ openedBySender sha256 (now (bytes .entry)) q .opened ⌝ }
+{
+    let mut room = blank_entry();
+    let len = handed(bytes, parts, q, &mut room);
+    let mut out = [0u8; MAX_MESSAGE_PACKET];
+    let begun = Party::open_by_sender(parts.n, parts.t, q, parts.sender, &room[..len], &mut out);
+    begun.opened
+}
+
+// What party q's opening by the sender is handed, at the start of out; its length.
+fn handed(bytes: &[u8], parts: Plan, q: usize, out: &mut [u8]) -> usize
+    requires { ⌜ Ready (now bytes) parts × (hasSender (now bytes) ≡ true) × (length (now out) ≡ maxEntry) ⌝ }
+    ensures { λ r. ⌜ (r ≤ length (now (out .exit))) × (take r (now (out .exit)) ≡ handedTo (now (bytes .entry)) q) ⌝ }
+{
+    let sender = parts.sender;
+    if q == sender {
+        return book(bytes, parts, q, out);
+    }
+    if plan::names(parts.good, sender) {
+        return given(bytes, parts, sender, out);
+    }
+    let at = parts.packets;
+    buffer::value_of(plan::block(&bytes[at..], parts.n, q, out))
+}
+
+// What good party q gives to each other one in the sender's exchange, at the start of out; its length.
+fn given(bytes: &[u8], parts: Plan, q: usize, out: &mut [u8]) -> usize
+    requires { ⌜ Ready (now bytes) parts × (maxMessagePacket ≤ length (now out)) ⌝ }
+    ensures { λ r. ⌜ (r ≤ maxMessagePacket) × (take r (now (out .exit)) ≡ givenBy (now (bytes .entry)) q) ⌝ }
+{
+    if parts.sender != q {
+        return 0;
+    }
+    if parts.n == 1 {
+        return 0;
+    }
+    let mut message = [0u8; MAX_MESSAGE];
+    let len = book(bytes, parts, q, &mut message);
+    buffer::value_of(packet::write_message(&message[..len], out))
+}
+
+// Party q's book, at the start of out; its length, 0 where it has none.
+fn book(bytes: &[u8], parts: Plan, q: usize, out: &mut [u8]) -> usize
+    requires { ⌜ Ready (now bytes) parts × (maxMessage ≤ length (now out)) ⌝ }
+    ensures { λ r. ⌜ (r ≤ maxMessage) × (take r (now (out .exit)) ≡ bookOf (now (bytes .entry)) q) ⌝ }
+{
+    let from = parts.books;
+    buffer::value_of(plan::book(&bytes[from..], parts.n, parts.holders, q, out))
+}
+
+// Room for the longest entry, in a function of its own: its callers' proofs then meet its length and not its bytes.
+fn blank_entry() -> [u8; MAX_ENTRY]
+    ensures { λ r. ⌜ length r ≡ maxEntry ⌝ }
+{
+    [0; MAX_ENTRY]
 }
 
 // The given root, or that of the lowest-numbered good party.
