@@ -4,6 +4,7 @@ use mathlib.Core.Path.{_≡_, refl, sym, ap, ap₂, _∙_}
 use mathlib.Core.Bool.{Bool, true, false, cond, not, _&&_, _||_}
 use mathlib.Core.List.{List, [], _∷_, _++_}
 use Prim.Native.Nat.{ℕ, _+_, _*_, _/_, _%_, _<_, _≤_}
+use native.Mathlib.Decide.{decLt}
 use native.Mathlib.Omega.{arith}
 use borrow.Author.Tests.{lt-ltb, le-ltb, eq-eqb, ne-eqb, ltb-false, eqb-true, eqb-false}
 use lib.Dec.{ltb, eqb}
@@ -12,14 +13,16 @@ use Rattle.limits.specs.Limits.{maxMessage}
 use Rattle.buffer.specs.Bounds.{Bytes}
 use Rattle.buffer.specs.Entries.{size}
 use Rattle.buffer.specs.Splice.{spliced, putOf}
-use Rattle.buffer.specs.Given.{gave}
+use Rattle.buffer.specs.Given.{Given, gave, valueOf}
+use Rattle.buffer.specs.declared.Written.{Written}
 use Rattle.buffer.specs.declared.Written.the-variants.{Refused, Short, Done}
 use Rattle.buffer.proofs.Entries.{size-drop}
 use Rattle.buffer.proofs.Given.{written-short, written-done}
 use Rattle.buffer.proofs.Splice.{put-fits, length-spliced, spliced-more}
 use Rattle.packet.specs.Format.{packetOf, readOf}
 use Rattle.packet.specs.Format as share
-use Rattle.packet.specs.Message.{Reading, silence, unreadable, message, messagePacket, lengthIn, messageIn, readMessage, writeMessageOf}
+use Rattle.packet.specs.Message.{Reading, silence, unreadable, message, messagePacket, lengthIn, messageIn, readMessage, placed, writeMessageOf}
+use Rattle.packet.specs.declared.MessagePacket.the-variants.{Message}
 
 -- the packet has three bytes more than the message
 pub packet-length : (m : List ℕ) → length (messagePacket m) ≡ 3 + length m
@@ -179,3 +182,29 @@ module _ (m out : List ℕ) where
       rw (le-ltb maxMessage (length m) h)
       (written-done (messagePacket m) out (omega (arith, packet-length m))
       ∙ ap (λ (k : ℕ). gave (Done k) (spliced out 0 (messagePacket m))) (packet-length m))
+
+  -- by the answer: done where the packet fits, else the length that it needs
+  module _ (short : length m ≤ maxMessage) (r : Written) (o : List ℕ) (told : gave r o ≡ writeMessageOf m out) where
+    pub answer-done : (k : ℕ) → r ≡ Done k
+        → (3 + length m ≤ length out) × (valueOf r ≡ 3 + length m) × (o ≡ spliced out 0 (messagePacket m))
+    answer-done k e = elim (decLt (length out) (3 + length m)) [
+      | yes l ↦ let q = told ∙ write-short short l in
+          let f : Done k ≡ Short (3 + length m) = sym e ∙ ap (λ (g : Given). g .answer) q in
+          absurd (let z : _≡_ {A = ℕ} 0 1 = cc in omega arith)
+      | no d ↦ let q = told ∙ write-done short (omega arith) in
+          (omega arith, ap (λ (g : Given). g .value) q, ap (λ (g : Given). g .buffer) q)
+    ]
+
+    pub answer-short : ((k : ℕ) → r ≡ Done k → ⊥) → (length out < 3 + length m) × (valueOf r ≡ 3 + length m) × (o ≡ out)
+    answer-short d = elim (decLt (length out) (3 + length m)) [
+      | yes l ↦ let q = told ∙ write-short short l in
+          (l, ap (λ (g : Given). g .value) q, ap (λ (g : Given). g .buffer) q)
+      | no n ↦ let q = told ∙ write-done short (omega arith) in
+          absurd (d (3 + length m) (ap (λ (g : Given). g .answer) q))
+    ]
+
+-- what the reader's answer tells of what was read
+pub placed-message : (r : Reading) (l : ℕ) → placed r ≡ Message l → (m : List ℕ) × (r ≡ message m) × (length m ≡ l)
+placed-message silence l e = absurd (let z : _≡_ {A = ℕ} 0 1 = cc in omega arith)
+placed-message unreadable l e = absurd (let z : _≡_ {A = ℕ} 0 1 = cc in omega arith)
+placed-message (message m) l e = (m, refl, cc)

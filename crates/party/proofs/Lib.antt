@@ -6,6 +6,7 @@ pub mod Walk
 pub mod Gather
 pub mod Taking
 pub mod Ways
+pub mod Sender
 pub mod Stages
 pub mod Checks
 pub mod Progress

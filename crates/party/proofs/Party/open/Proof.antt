@@ -12,6 +12,7 @@ use Rattle.merkle.specs.declared.Rooted.{Rooted}
 use Rattle.commitment.proofs.Opening.{open-bounds}
 use Rattle.commitment.proofs.Outcomes.{rooted-given}
 use Rattle.party.specs.State.{seatOf, atRoot}
+use Rattle.party.specs.Steps.{refusedOpening}
 use Rattle.party.specs.declared.Stage.the-variants.{Root}
 use Rattle.party.specs.declared.Party.{Party}
 use Rattle.party.specs.declared.Opened.{Opened}
@@ -23,8 +24,8 @@ use Rattle.party.proofs.Party.open.Tie as tie
 open-cause-requires : tie.Need-open-cause-requires
 open-cause-requires c κs = search needs
 
-blank-requires : tie.Need-blank-requires
-blank-requires c κs = search needs
+refused-opening-requires : tie.Need-refused-opening-requires
+refused-opening-requires c κs = search needs
 
 returns : tie.Need-returns
 returns c =
@@ -32,7 +33,7 @@ returns c =
     let q = t .before in
     let a = q .before .before .args in
     let some : openCause (a .n) (a .t) (a .own) (length (a .message .now)) ≡ 0 → ⊥ = λ e. t .if1 .taken (q .open-cause .ensures ∙ e) in
-    ap₂ {C = Opened} (λ (x : Party) (k : ℕ). record { state = x; cause = k; root = blank }) (c .blank .ensures) (q .open-cause .ensures)
+    c .refused-opening .ensures ∙ ap refusedOpening (q .open-cause .ensures)
     ∙ sym (open-refused sha256 (a .n) (a .t) (a .own) (a .message .now) some)
 
 root-requires : tie.Need-root-requires
@@ -63,4 +64,4 @@ returns-2 c =
 
 pub open-spec : {M : Type 1} → statement M
 open-spec =
-    tie.close (tie.spec open-cause-requires blank-requires returns root-requires slice-aggregate-put put-requires returns-2)
+    tie.close (tie.spec open-cause-requires refused-opening-requires returns root-requires slice-aggregate-put put-requires returns-2)
