@@ -12,7 +12,7 @@ use Rattle.erasure.specs.Coding.{shareLength}
 use Rattle.merkle.specs.Height.{height}
 use Rattle.party.specs.State.{Result, nothing, settled}
 use Rattle.party.specs.Sender.{messageBy, Begun, openBySenderOf}
-use Rattle.agreement.specs.Calls.{Call}
+use Rattle.agreement.specs.Calls.{Call, opening}
 use Rattle.agreement.specs.Agreement.{Good, different, absent, sumOver, CalledAll, Ruled, DeliveredAll, Clean, sent, Conclusions}
 
 -- a good party: its number, the sender that it names, what its opening is handed (its message where it is the sender, else the packet that came) and lent, and
@@ -64,9 +64,11 @@ module _ (H : List ℕ → List ℕ) (n t : ℕ) (good : List Opener) where
   abbrev pub sentInAll : ℕ
   sentInAll = sumOver (λ (A : Opener). (n - 1) * length (gave A)) good + sent H n t parties
 
-  -- what then holds of one result R: all that agreement says; a good sender's message is the result; and the bytes are within agreement's bound and, if
-  -- the sender is good, its packet to each other party, and none if the result is nothing
+  -- what then holds of one result R: each opening gave the state and root of the ordinary one, so that what is supposed and said of calls is of calls on that
+  -- state; all that agreement says; a good sender's message is the result; and the bytes are within agreement's bound and, if the sender is good, its packet
+  -- to each other party, and none if the result is nothing
   pub record Settled (q bit : ℕ) (R : Result) : Type 0 where
+    pub opens : Every (λ A. begun A .opened ≡ opening H n t (A .own) (partyOf A .message))
     pub agreed : Conclusions H n t parties bit R
     pub senders : Every (λ S. S .own ≡ q → R ≡ settled (S .bytes))
     pub bound : (m : List ℕ) → R ≡ settled m

@@ -1,7 +1,7 @@
 -- What holds of a plan that is taken: n and t are within their limits, the fields of options are there, and no book is over its limit. By the tests
 -- of the definitions, and by induction along the parties. Assumes nothing.
 use mathlib.Core.Path.{_≡_, refl, sym, ap, subst, _∙_}
-use mathlib.Core.Bool.{Bool, true, false, cond, not, _&&_, _||_, false≢true}
+use mathlib.Core.Bool.{Bool, true, false, cond, not, _&&_, _||_, true≢false, false≢true}
 use mathlib.Core.List.{List, []}
 use mathlib.Core.Option.{Option, none}
 use Prim.Native.Nat.{ℕ, zero, suc, _+_, _-_, _≤_, _<_, _^_}
@@ -20,30 +20,43 @@ use Rattle.plan.proofs.Walks.{every-each}
 use Rattle.plan.proofs.Blocks.{entry-none}
 use Rattle.plan.proofs.Tails.{tail-entries}
 use Rattle.plan.specs.Layout.{mapWidth, names, member, unnamed, lowest, orEmpty, skipEntries, partyEntry, booksFit, fields, fieldAt, nIn, tIn, optionsIn}
-use Rattle.plan.specs.Layout.{fieldIn, hasRoot, rootIn, goodAt, goodIn, booksIn, endOf, empty, laidOut}
+use Rattle.plan.specs.Layout.{fieldIn, hasRoot, rootIn, hasSender, senderIn, goodAt, goodIn, booksIn, holders, endOf, empty, laidOut}
 use Rattle.plan.specs.Plan.{planCause}
 
 pub record Accepted (s : List ℕ) : Type 0 where
   pub group : groupCause (nIn s) (tIn s) ≡ 0
   pub length-fits : length s ≤ maxPlan
   pub laid : laidOut s ≡ true
-  pub books-fit : booksFit (nIn s) (goodIn s) (booksIn s) ≡ true
+  pub sender-known : hasSender s && not (numbered (nIn s) (senderIn s)) ≡ false
+  pub books-fit : booksFit (nIn s) (holders s) (booksIn s) ≡ true
 
-no-cause : (a : Bool) (k : ℕ) (g l b c : Bool) → eqb k 0 ≡ g → cond a 13 (cond (not g) k (cond (l || not b) 13 (cond (not c) 4 0))) ≡ 0
-    → (k ≡ 0) × (l ≡ false) × (b ≡ true) × (c ≡ true)
-no-cause true k g l b c q e = absurd (omega arith)
-no-cause false k false l b c q e = absurd (eqb-false k 0 q e)
-no-cause false k true true b c q e = absurd (omega arith)
-no-cause false k true false false c q e = absurd (omega arith)
-no-cause false k true false true false q e = absurd (omega arith)
-no-cause false k true false true true q e = (eqb-true k 0 q, refl, refl, refl)
+no-cause : (a : Bool) (k : ℕ) (g l b d c : Bool) → eqb k 0 ≡ g
+    → cond a 13 (cond (not g) k (cond (l || not b) 13 (cond d 3 (cond (not c) 4 0)))) ≡ 0
+    → (k ≡ 0) × (l ≡ false) × (b ≡ true) × (d ≡ false) × (c ≡ true)
+no-cause true k g l b d c q e = absurd (omega arith)
+no-cause false k false l b d c q e = absurd (eqb-false k 0 q e)
+no-cause false k true true b d c q e = absurd (omega arith)
+no-cause false k true false false d c q e = absurd (omega arith)
+no-cause false k true false true true c q e = absurd (omega arith)
+no-cause false k true false true false false q e = absurd (omega arith)
+no-cause false k true false true false true q e = (eqb-true k 0 q, refl, refl, refl, refl)
 
 pub accepted : (s : List ℕ) → planCause s ≡ 0 → Accepted s
 unfolding planCause
 accepted s e =
     let k : ℕ = groupCause (nIn s) (tIn s) in
-    let h = no-cause (ltb (length s) 2) k (eqb k 0) (ltb maxPlan (length s)) (laidOut s) (booksFit (nIn s) (goodIn s) (booksIn s)) refl e in
-    record { group = h .0; length-fits = ltb-false maxPlan (length s) (h .1); laid = h .2; books-fit = h .3 }
+    let h = no-cause (ltb (length s) 2) k (eqb k 0) (ltb maxPlan (length s)) (laidOut s) (hasSender s && not (numbered (nIn s) (senderIn s)))
+    (booksFit (nIn s) (holders s) (booksIn s)) refl e in
+    record { group = h .0; length-fits = ltb-false maxPlan (length s) (h .1); laid = h .2; sender-known = h .3; books-fit = h .4 }
+
+-- a sender is one of the parties
+pub sender-there : (s : List ℕ) → Accepted s → hasSender s ≡ true → (1 ≤ senderIn s) × (senderIn s ≤ nIn s)
+sender-there s a h = numbered-range (nIn s) (senderIn s) (go (hasSender s) (numbered (nIn s) (senderIn s)) h (a .sender-known))
+  where
+    go : (x y : Bool) → x ≡ true → x && not y ≡ false → y ≡ true
+    go true true e f = refl
+    go true false e f = absurd (true≢false f)
+    go false y e f = absurd (false≢true e)
 
 -- the books start within the plan
 first-tests : (a b c : Bool) (o : Option (List ℕ)) → empty (cond (a || b || c) none o) ≡ true → a ≡ false

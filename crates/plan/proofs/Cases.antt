@@ -12,6 +12,7 @@ use Rattle.limits.specs.Limits.{maxMessage, maxPlan, parties, numbered, groupCa
 use Rattle.buffer.specs.Entries.{size, body, rest}
 use Rattle.buffer.proofs.Entries.{entry, entry-body}
 use Rattle.plan.specs.Layout.{every, walk, skipEntry, partyEntry, skipBlock, packetFrom, fieldBytes, rootIn, bitIn, goodIn, exchangeIn, endOf, laidOut}
+use Rattle.plan.specs.Layout.{holders, behindBooks, senderPacket}
 use Rattle.plan.specs.Plan.{planCause, planOf}
 use Rattle.plan.proofs.Blocks.{entry-skipped}
 
@@ -21,8 +22,8 @@ worked =
     0x03 ∷ 0x01 ∷ 0x00 ∷ 0x00 ∷ 0x03 ∷ 0x00 ∷ 0x02 ∷ 0x41 ∷ 0x42 ∷ 0x00 ∷ 0x02 ∷ 0x41 ∷ 0x42 ∷ 0x00 ∷ 0x00 ∷ 0x00 ∷ 0x00 ∷ []
 
 pub worked-read : planOf worked
-    ≡ record { cause = 0; n = 3; t = 1; options = 0; good = 3; books = 5; exchanges = 13 }
-unfolding parties groupCause size rest skipEntry skipBlock every numbered body partyEntry exchangeIn walk fieldBytes endOf laidOut planCause planOf
+    ≡ record { cause = 0; n = 3; t = 1; options = 0; sender = 0; good = 3; holders = 3; books = 5; packets = 13; exchanges = 13 }
+unfolding parties groupCause size rest skipEntry skipBlock every numbered body partyEntry holders behindBooks exchangeIn walk fieldBytes endOf laidOut planCause planOf
 worked-read = refl
 
 pub worked-book : partyEntry 3 3 2 (drop 5 worked) ≡ 0x41 ∷ 0x42 ∷ []
@@ -48,16 +49,51 @@ unsent-packet = refl
 
 -- a byte left over, an unknown option, a receiver that is not good
 pub left-over : planCause (worked ++ (0x00 ∷ [])) ≡ 13
-unfolding parties groupCause size rest skipEntry skipBlock every walk fieldBytes endOf laidOut planCause
+unfolding parties groupCause size rest skipEntry skipBlock every numbered holders walk fieldBytes endOf laidOut planCause
 left-over = refl
 
-pub unknown-option : planCause (0x03 ∷ 0x01 ∷ 0x04 ∷ drop 3 worked) ≡ 13
+pub unknown-option : planCause (0x03 ∷ 0x01 ∷ 0x08 ∷ drop 3 worked) ≡ 13
 unfolding parties groupCause fieldBytes endOf laidOut planCause
 unknown-option = refl
 
 pub bad-receiver : planCause (take 13 worked ++ (0x00 ∷ 0x04 ∷ 0x00 ∷ 0x00 ∷ 0x00 ∷ 0x00 ∷ [])) ≡ 13
-unfolding parties groupCause size rest skipEntry skipBlock every walk fieldBytes endOf laidOut planCause
+unfolding parties groupCause size rest skipEntry skipBlock every numbered holders walk fieldBytes endOf laidOut planCause
 bad-receiver = refl
+
+-- the same parties, and one of them sends: party 2, which is good and alone has a book; party 3, which is bad and gives party 1 a packet; and numbers that none
+-- has, laid out as a bad sender's
+abbrev sends : ℕ → List ℕ → List ℕ
+sends q r = 0x03 ∷ 0x01 ∷ 0x04 ∷ q ∷ 0x00 ∷ 0x03 ∷ (r ++ (0x00 ∷ 0x00 ∷ 0x00 ∷ 0x00 ∷ []))
+
+abbrev block : List ℕ
+block = 0x00 ∷ 0x01 ∷ 0x00 ∷ 0x03 ∷ 0x08 ∷ 0x00 ∷ 0x00 ∷ []
+
+pub good-sender : planOf (sends 2 (0x00 ∷ 0x01 ∷ 0x41 ∷ []))
+    ≡ record { cause = 0; n = 3; t = 1; options = 4; sender = 2; good = 3; holders = 2; books = 6; packets = 9; exchanges = 9 }
+unfolding parties groupCause size rest skipEntry skipBlock every numbered body partyEntry holders behindBooks exchangeIn walk fieldBytes endOf laidOut planCause planOf
+good-sender = refl
+
+pub bad-sender : planOf (sends 3 block)
+    ≡ record { cause = 0; n = 3; t = 1; options = 4; sender = 3; good = 3; holders = 0; books = 6; packets = 6; exchanges = 13 }
+unfolding parties groupCause size rest skipEntry skipBlock every numbered body partyEntry holders behindBooks exchangeIn walk fieldBytes endOf laidOut planCause planOf
+bad-sender = refl
+
+pub sender-sends : (senderPacket 1 (sends 3 block) ≡ 0x08 ∷ 0x00 ∷ 0x00 ∷ []) × (senderPacket 2 (sends 3 block) ≡ [])
+unfolding numbered size body rest walk skipEntry partyEntry fieldBytes holders behindBooks senderPacket
+sender-sends = (refl, refl)
+
+pub no-sender : (planCause (sends 0 block) ≡ 3) × (planCause (sends 4 block) ≡ 3)
+unfolding parties groupCause size rest skipEntry skipBlock every numbered holders walk fieldBytes endOf laidOut planCause
+no-sender = (refl, refl)
+
+pub no-sender-block : (planCause (sends 0 []) ≡ 13) × (planCause (sends 3 []) ≡ 13)
+unfolding parties groupCause size rest skipEntry skipBlock every numbered holders walk fieldBytes endOf laidOut planCause
+no-sender-block = (refl, refl)
+
+-- another good party's book is listed beside the sender's
+pub second-book : planCause (sends 2 (0x00 ∷ 0x01 ∷ 0x41 ∷ 0x00 ∷ 0x01 ∷ 0x41 ∷ [])) ≡ 13
+unfolding parties groupCause size rest skipEntry skipBlock every numbered holders walk fieldBytes endOf laidOut planCause
+second-book = refl
 
 -- one party with the message m, and bytes behind it
 abbrev alone : List ℕ → List ℕ → List ℕ
@@ -66,7 +102,7 @@ alone m r = 0x01 ∷ 0x00 ∷ 0x00 ∷ 0x00 ∷ 0x01 ∷ entry m r
 -- whatever the message, its layout is judged first and then its length
 judged : (m r : List ℕ) → length (alone m r) ≤ maxPlan
     → planCause (alone m r) ≡ cond (not (eqb (length r) 0)) 13 (cond (leb (length m) maxMessage) 0 4)
-unfolding parties groupCause size every numbered partyEntry walk fieldBytes endOf laidOut planCause
+unfolding parties groupCause size every numbered partyEntry walk fieldBytes holders endOf laidOut planCause
 judged m r fits =
     rw (le-ltb (length (alone m r)) 2 (omega arith), le-ltb maxPlan (length (alone m r)) fits, le-ltb (length (alone m r)) 5 (omega arith), entry-skipped m r, entry-body m r)
     (go (eqb (length r) 0) (leb (length m) maxMessage))

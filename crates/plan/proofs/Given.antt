@@ -1,4 +1,4 @@
--- The outcomes of giving a book or a packet: its causes, else its bytes. Assumes nothing.
+-- The outcomes of giving a book, a packet or one of a block: its causes, else its bytes. Assumes nothing.
 use mathlib.Core.Path.{_≡_}
 use mathlib.Core.Bool.{true, false}
 use mathlib.Core.List.{List}
@@ -7,8 +7,8 @@ use Rattle.limits.specs.Limits.{maxParties, parties}
 use Rattle.limits.proofs.Ranges.{parties-some}
 use Rattle.buffer.specs.Given.{gave, written}
 use Rattle.buffer.specs.declared.Written.the-variants.{Refused}
-use Rattle.plan.specs.Layout.{member, partyEntry, packetFrom}
-use Rattle.plan.specs.Plan.{bookGiven, packetGiven}
+use Rattle.plan.specs.Layout.{member, partyEntry, blockEntry, packetFrom}
+use Rattle.plan.specs.Plan.{bookGiven, packetGiven, blockGiven}
 
 module _ (n g q : ℕ) (s out : List ℕ) where
   module _ (none : parties n ≡ false) where
@@ -32,3 +32,12 @@ module _ (n g q : ℕ) (s out : List ℕ) where
     pub packet-given : (i : ℕ) → packetGiven n g q i s out ≡ written (packetFrom n g q i s) out
     unfolding packetGiven
     packet-given i = rw (parties-some n low high)
+
+module _ (n i : ℕ) (s out : List ℕ) where
+  pub block-parties : parties n ≡ false → blockGiven n i s out ≡ gave (Refused 1) out
+  unfolding blockGiven
+  block-parties none = rw none
+
+  pub block-given : 1 ≤ n → n ≤ maxParties → blockGiven n i s out ≡ written (blockEntry n i s) out
+  unfolding blockGiven
+  block-given low high = rw (parties-some n low high)

@@ -1,13 +1,15 @@
 -- Maps of parties: the bit of party p + 1 is the lowest one of the map halved p times. Assumes nothing.
 use mathlib.Core.Path.{_≡_, refl, sym, _∙_}
 use mathlib.Core.Bool.{Bool, true, false}
-use Prim.Native.Nat.{ℕ, _+_, _-_, _/_, _%_, _^_}
+use Prim.Native.Nat.{ℕ, _+_, _-_, _*_, _/_, _%_, _^_, _≤_}
 use native.Mathlib.Nat.{div-div-eq-div-mul, pow-suc, div-eq-of-lt, div-lt-iff-lt-mul, one-le-pow, one-mul, div-one}
 use native.Mathlib.Numerals.{add-one}
 use native.Mathlib.Omega.{arith}
 use borrow.Author.Tests.{ltb-true, ltb-false, eq-eqb, ne-eqb}
 use lib.Dec.{ltb, eqb}
-use Rattle.plan.specs.Layout.{names}
+use lib.Pow.{pow-mono}
+use Rattle.limits.specs.Limits.{maxParties}
+use Rattle.plan.specs.Layout.{names, only}
 
 -- a map as it is given, halved no times
 pub unhalved : (map : ℕ) → map ≡ map / 2 ^ 0
@@ -40,3 +42,10 @@ module _ (map p m : ℕ) (e : m ≡ map / 2 ^ p) where
             one-mul (2 ^ p),
             div-lt-iff-lt-mul {k = 2 ^ p} {x = map} {y = 1} (one-le-pow p 2 (omega arith)) .0 (omega (arith, e)),
           ))
+
+-- a map that names one party: the next one's is its double, and it is small where the party is among the greatest number of them
+pub doubled : (p : ℕ) → 1 ≤ p → 2 * only p ≡ only (p + 1)
+doubled p h = let e : p + 1 - 1 ≡ p - 1 + 1 = omega arith in rw (e, add-one, pow-suc) (omega arith)
+
+pub only-small : (p : ℕ) → p ≤ maxParties → only p ≤ only maxParties
+only-small p h = pow-mono {i = p - 1} {j = maxParties - 1} (omega arith)

@@ -12,7 +12,7 @@ use lib.Seq.{drop-drop, drop-length}
 use Rattle.buffer.specs.Entries.{size, rest}
 use Rattle.buffer.proofs.Places.{drop-min}
 use Rattle.plan.specs.Layout.{mapWidth, names, within, andThen, orEmpty, walk, skipEntry, skipEntries, skipBlock, skipExchange, nIn, goodAt, goodIn}
-use Rattle.plan.specs.Layout.{booksIn, skipExchanges, exchangeIn, exchangeAt}
+use Rattle.plan.specs.Layout.{booksIn, badSender, holders, behindBooks, skipSender, skipExchanges, exchangeIn, exchangeAt}
 use Rattle.plan.specs.Plan.{planCause, planOf, exchangeOf}
 
 -- x stands at the end of s
@@ -64,14 +64,31 @@ tail-block n g x s t =
     tail-test (ltb (length x) mapWidth || not (ltb (size x) (2 ^ n)) || not (within n (size x) g))
     (skipEntries n (size x) (drop mapWidth x)) s (tail-entries n (size x) (drop mapWidth x) s (tail-drop mapWidth x s t))
 
--- an exchange of a plan
+-- what stands behind the books of a plan, behind a bad sender's block, and an exchange
+tail-behind : (s : List ℕ) → Tail (behindBooks s) s
+unfolding behindBooks
+tail-behind s = tail-entries (nIn s) (holders s) (booksIn s) s (record { at = goodAt s + mapWidth; is = refl })
+
+tail-sender : (x s : List ℕ) → Tail x s → Tail (orEmpty (skipSender s x)) s
+tail-sender x s t = go (badSender s)
+  where
+    go : (b : Bool) → Tail (orEmpty (cond b (skipBlock (nIn s) (goodIn s) x) (some x))) s
+    go true = tail-block (nIn s) (goodIn s) x s t
+    go false = t
+
 tail-exchange : (e : ℕ) (s : List ℕ) → Tail (exchangeIn e s) s
 unfolding exchangeIn
 tail-exchange e s =
     let n = nIn s in
     let g = goodIn s in
     tail-walk (λ k. true) (skipExchange n g) s (tail-walk (λ p. not (names g p)) (skipBlock n g) s (λ y u. tail-block n g y s u) n) e
-    (orEmpty (skipEntries n g (booksIn s))) (tail-entries n g (booksIn s) s (record { at = goodAt s + mapWidth; is = refl }))
+    (orEmpty (skipSender s (behindBooks s))) (tail-sender (behindBooks s) s (tail-behind s))
+
+pub behind-there : (s : List ℕ) → drop (length s - length (behindBooks s)) s ≡ behindBooks s
+behind-there s = tail-offset (behindBooks s) s (tail-behind s)
+
+pub behind-short : (s : List ℕ) → length (behindBooks s) ≤ length s
+behind-short s = tail-short (behindBooks s) s (tail-behind s)
 
 pub exchange-there : (e : ℕ) (s : List ℕ) → drop (exchangeAt e s) s ≡ exchangeIn e s
 exchange-there e s = tail-offset (exchangeIn e s) s (tail-exchange e s)

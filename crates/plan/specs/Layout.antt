@@ -66,7 +66,7 @@ partyEntry n map q s = cond (member n map q) (body (orEmpty (skipEntries (q - 1)
 
 -- no book among them is over the greatest length
 abbrev pub booksFit : ℕ → ℕ → List ℕ → Bool
-booksFit n g s = every (λ p. leb (length (partyEntry n g p s)) maxMessage) n
+booksFit n map s = every (λ p. leb (length (partyEntry n map p s)) maxMessage) n
 
 -- a bad party's block: a map of receivers, who are good parties up to n, and an entry for each; what stands behind it
 unfoldable pub skipBlock : ℕ → ℕ → List ℕ → Option (List ℕ)

@@ -1,10 +1,10 @@
 // The plan of a rehearsal: what its bytes say, and why it is refused.
 ghost use mathlib.Core.Path.{_≡_};
-ghost use mathlib.Core.Bool.{true};
+ghost use mathlib.Core.Bool.{true, not, _&&_};
 ghost use Prim.Native.Nat.{_+_, _-_, _≤_, _<_, _^_};
 ghost use lib.Dec.{ltb};
 ghost use lib.ListN.{length, take, drop};
-ghost use Rattle.limits.specs.Limits.{maxParties};
+ghost use Rattle.limits.specs.Limits.{maxParties, numbered};
 ghost use Rattle.buffer.specs.Given.{gave, written};
 ghost use Rattle.plan.specs.Layout.{names, member, within, skipEntry, skipEntries, partyEntry, booksFit, skipBlock, skipBlocks, blockEntry, packetFrom};
 ghost use Rattle.plan.specs.Layout.{fieldAt, nIn, optionsIn, goodAt, goodIn, skipExchanges};
@@ -232,10 +232,8 @@ fn parts(plan: &[u8], n: usize, t: usize, books: usize) -> Plan
     let Behind::At(packets, exchanges) = places(plan, books, n, good, source) else {
         return refused(13);
     };
-    if source.given {
-        if !limits::numbered(n, source.number) {
-            return refused(3);
-        }
+    if stray(source, n) {
+        return refused(3);
     }
     if !books_fit(plan, books, n, holders) {
         return refused(4);
@@ -275,9 +273,19 @@ fn sender_of(plan: &[u8], options: usize, n: usize, good: usize) -> Source
     }
 }
 
+// Whether a plan names a sender that is none of n parties.
+fn stray(source: Source, n: usize) -> bool
+    ensures { λ r. ⌜ r ≡ (source .given && not (numbered n (source .number))) ⌝ }
+{
+    if source.given {
+        return !limits::numbered(n, source.number);
+    }
+    false
+}
+
 // The map of those whose books are listed.
 fn holders(source: Source, good: usize) -> usize
-    requires { ⌜ source .good ≡ true → (1 ≤ source .number) × (source .number ≤ maxParties) ⌝ }
+    requires { ⌜ (source .good ≡ true → source .number ≤ maxParties) ⌝ }
     ensures { λ r. ⌜ r ≡ holdersBy source good ⌝ }
 {
     if !source.given {
@@ -432,13 +440,13 @@ fn party_entry(s: &[u8], from: usize, n: usize, map: usize, q: usize) -> Span
 }
 
 // Whether no book is over the greatest length.
-fn books_fit(s: &[u8], from: usize, n: usize, good: usize) -> bool
+fn books_fit(s: &[u8], from: usize, n: usize, map: usize) -> bool
     requires { ⌜ from ≤ length (now s) ⌝ }
-    ensures { λ r. ⌜ r ≡ booksFit n good (drop from (now (s .entry))) ⌝ }
+    ensures { λ r. ⌜ r ≡ booksFit n map (drop from (now (s .entry))) ⌝ }
 {
     let mut p = n;
     while 0 < p {
-        let book = party_entry(s, from, n, good, p);
+        let book = party_entry(s, from, n, map, p);
         if MAX_MESSAGE < book.end - book.from {
             return false;
         }

@@ -15,7 +15,7 @@ use Rattle.merkle.specs.Shares.{same}
 use Rattle.party.specs.State.{Result, nothing, settled}
 use Rattle.packet.specs.Message.{maxMessagePacket}
 use Rattle.party.specs.Steps.{openOf, Stepped, agreeRootOf, agreeBitOf, takeSharesOf, takeRelaysOf}
-use Rattle.party.specs.Sender.{messageBy, packetBy, Begun, openBySenderOf}
+use Rattle.party.specs.Sender.{messageBy, Begun, openBySenderOf}
 use Rattle.party.specs.declared.Answer.{Answer}
 use Rattle.party.specs.declared.Answer.the-variants.{Refused, Short, Happy, Sent, Nothing, Message}
 use Rattle.party.specs.declared.Opened.{Opened}
@@ -57,20 +57,6 @@ isGood s p = names (goodIn s) p
 unfoldable pub bookOf : List ℕ → ℕ → List ℕ
 bookOf s p = partyEntry (nIn s) (holders s) p (booksIn s)
 
--- in the sender's exchange: what party p gives to each other one, the packet of a good sender alone; and what is handed to party p's opening, to the sender
--- its book, to another one what a good sender gave, or what the plan says that a bad one sends
-unfoldable pub givenBy : List ℕ → ℕ → List ℕ
-givenBy s p = cond (hasSender s) (packetBy (nIn s) p (senderIn s) (bookOf s p)) []
-
-unfoldable pub handedTo : List ℕ → ℕ → List ℕ
-handedTo s p =
-    cond (eqb p (senderIn s)) (bookOf s p)
-    (cond (goodSender s) (givenBy s (senderIn s)) (senderPacket p s))
-
--- the message that party p opens with
-unfoldable pub messageOf : List ℕ → ℕ → List ℕ
-messageOf s p = cond (hasSender s) (messageBy p (senderIn s) (handedTo s p)) (bookOf s p)
-
 abbrev pub lowestGood : List ℕ → ℕ
 lowestGood s = lowest (nIn s) 1 (goodIn s)
 
@@ -79,12 +65,25 @@ abbrev pub wholeIn : ℕ → Bool
 wholeIn e = not (eqb e 0)
 
 module _ (H : List ℕ → List ℕ) (s : List ℕ) where
-  -- step 1, and the agreed root: the given one, or that of the lowest-numbered good party
-  unfoldable pub openedBySender : ℕ → Begun
-  openedBySender p = openBySenderOf H (nIn s) (tIn s) p (senderIn s) (handedTo s p) (replicate maxMessagePacket 0)
+  -- where there is a sender: party p's opening, handed these bytes; and the packet that the sender wrote in its own, handed its book (only of a good one
+  -- is it used)
+  unfoldable pub openedBySender : ℕ → List ℕ → Begun
+  openedBySender p bs = openBySenderOf H (nIn s) (tIn s) p (senderIn s) bs (replicate maxMessagePacket 0)
 
+  unfoldable pub senderWrote : List ℕ
+  senderWrote = let r = openedBySender (senderIn s) (bookOf s (senderIn s)) in take (r .value) (r .buffer)
+
+  -- what is handed to party p: to the sender its book, to another one what a good sender wrote, or what the plan says that a bad one sends
+  unfoldable pub handedTo : ℕ → List ℕ
+  handedTo p = cond (eqb p (senderIn s)) (bookOf s p) (cond (goodSender s) senderWrote (senderPacket p s))
+
+  -- step 1, by the sender or with the own book; the message that party p opens with; and the agreed root: the given one, or that of the lowest-numbered
+  -- good party
   unfoldable pub opened : ℕ → Opened
-  opened p = cond (hasSender s) (openedBySender p .opened) (openOf H (nIn s) (tIn s) p (bookOf s p))
+  opened p = cond (hasSender s) (openedBySender p (handedTo p) .opened) (openOf H (nIn s) (tIn s) p (bookOf s p))
+
+  unfoldable pub messageOf : ℕ → List ℕ
+  messageOf p = cond (hasSender s) (messageBy p (senderIn s) (handedTo p)) (bookOf s p)
 
   unfoldable pub agreedRoot : List ℕ
   agreedRoot = cond (hasRoot s) (rootIn s) (opened (lowestGood s) .root)
@@ -141,13 +140,16 @@ module _ (H : List ℕ → List ℕ) (s : List ℕ) where
   unfoldable pub endsWith : ℕ → Result
   endsWith p = cond (eqb agreedBit 0) nothing (orNothing (step5 p .result))
 
-  -- the bytes that party p sent from step 3 on: its packets, and its relay to the n - 1 others; and all, with a sender's packet to them
+  -- the bytes that party p sent: as the sender, its packet to the n - 1 others; and from step 3 on its packets, and its relay to them
+  abbrev pub givenBy : ℕ → List ℕ
+  givenBy p = cond (hasSender s && eqb p (senderIn s)) senderWrote []
+
   unfoldable pub sentLater : ℕ → ℕ
   sentLater p =
       lengths (bodies (nIn s) (wroteIn (step3 p))) + cond (eqb agreedBit 0) 0 ((nIn s - 1) * length (wroteIn (step4 p)))
 
   unfoldable pub sentOf : ℕ → ℕ
-  sentOf p = (nIn s - 1) * length (givenBy s p) + sentLater p
+  sentOf p = (nIn s - 1) * length (givenBy p) + sentLater p
 
   -- of k parties from p on, the good ones' lines, and what they sent
   unfoldable pub linesFrom : ℕ → ℕ → List ℕ
@@ -180,7 +182,7 @@ module _ (H : List ℕ → List ℕ) (s : List ℕ) where
       (takeShares (firstInbox p) (replicate maxOutbox 0) ∷ takeRelays (secondInbox p) (replicate maxMessage 0) ∷ [])
 
   abbrev pub goodParty : ℕ → Good
-  goodParty p = record { own = p; message = messageOf s p; calls = callsOf p }
+  goodParty p = record { own = p; message = messageOf p; calls = callsOf p }
 
   unfoldable pub goodFrom : ℕ → ℕ → List Good
   goodFrom zero p = []
@@ -189,10 +191,10 @@ module _ (H : List ℕ → List ℕ) (s : List ℕ) where
   abbrev pub goodParties : List Good
   goodParties = goodFrom (nIn s) 1
 
-  -- and with what their openings by the sender were handed and lent
+  -- the same where there is a sender, with what their openings were handed and lent
   abbrev pub opener : ℕ → Opener
   opener p =
-      record { own = p; sender = senderIn s; bytes = handedTo s p; out = replicate maxMessagePacket 0; calls = callsOf p }
+      record { own = p; sender = senderIn s; bytes = handedTo p; out = replicate maxMessagePacket 0; calls = callsOf p }
 
   unfoldable pub openersFrom : ℕ → ℕ → List Opener
   openersFrom zero p = []

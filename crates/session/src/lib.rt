@@ -16,7 +16,7 @@ ghost use Rattle.agreement.specs.Calls.{lengths};
 ghost use Rattle.plan.specs.Layout.{unnamed, lowest, nIn, hasSender, goodIn, exchangeIn};
 ghost use Rattle.exchange.specs.Exchange.{inboxTo, slotOf, Slots};
 ghost use Rattle.report.specs.Output.{line};
-ghost use Rattle.session.specs.Session.{maxOutbox, sentLength, wroteIn, orNothing, lineWith, wholeIn, isGood, bookOf, givenBy, handedTo};
+ghost use Rattle.session.specs.Session.{maxOutbox, sentLength, wroteIn, orNothing, lineWith, wholeIn, isGood, bookOf, senderWrote, handedTo, givenBy};
 ghost use Rattle.session.specs.Session.{openedBySender, opened, agreedRoot, step2, agreedBit};
 ghost use Rattle.session.specs.Session.{sameRoots, sameBits, unlawful, step4};
 ghost use Rattle.session.specs.Session.{step5, endsWith, sentOf, linesFrom, sentFrom, output, rehearseOf, printOf};
@@ -243,8 +243,7 @@ fn sent_by(
     let from = j * MAX_OUTBOX;
     let end = from + lens[j];
     let relayed = (n - 1) * sizes[j];
-    let mut room = [0u8; MAX_MESSAGE_PACKET];
-    let whole = (n - 1) * given(bytes, parts, q, &mut room);
+    let whole = (n - 1) * given(bytes, parts, q);
     whole + packet_bytes(n, &boxes[from..end]) + relayed
 }
 
@@ -320,7 +319,7 @@ fn opened(bytes: &[u8], parts: Plan, q: usize) -> Opened
 // The same by the sender: what party q is handed is read or, if it is the sender, sent.
 fn opened_by_sender(bytes: &[u8], parts: Plan, q: usize) -> Opened
     requires { ⌜ Ready (now bytes) parts × (hasSender (now bytes) ≡ true) ⌝ }
-    ensures { λ r. ⌜ r ≡ openedBySender sha256 (now (bytes .entry)) q .opened ⌝ }
+    ensures { λ r. ⌜ r ≡ openedBySender sha256 (now (bytes .entry)) q (handedTo sha256 (now (bytes .entry)) q) .opened ⌝ }
 {
     let mut room = blank_entry();
     let len = handed(bytes, parts, q, &mut room);
@@ -332,33 +331,46 @@ fn opened_by_sender(bytes: &[u8], parts: Plan, q: usize) -> Opened
 // What party q's opening by the sender is handed, at the start of out; its length.
 fn handed(bytes: &[u8], parts: Plan, q: usize, out: &mut [u8]) -> usize
     requires { ⌜ Ready (now bytes) parts × (hasSender (now bytes) ≡ true) × (length (now out) ≡ maxEntry) ⌝ }
-    ensures { λ r. ⌜ (r ≤ length (now (out .exit))) × (take r (now (out .exit)) ≡ handedTo (now (bytes .entry)) q) ⌝ }
+    ensures { λ r. ⌜ (r ≤ length (now (out .exit))) × (take r (now (out .exit)) ≡ handedTo sha256 (now (bytes .entry)) q) ⌝ }
 {
     let sender = parts.sender;
     if q == sender {
         return book(bytes, parts, q, out);
     }
     if plan::names(parts.good, sender) {
-        return given(bytes, parts, sender, out);
+        return wrote(bytes, parts, out);
     }
     let at = parts.packets;
     buffer::value_of(plan::block(&bytes[at..], parts.n, q, out))
 }
 
-// What good party q gives to each other one in the sender's exchange, at the start of out; its length.
-fn given(bytes: &[u8], parts: Plan, q: usize, out: &mut [u8]) -> usize
-    requires { ⌜ Ready (now bytes) parts × (maxMessagePacket ≤ length (now out)) ⌝ }
-    ensures { λ r. ⌜ (r ≤ maxMessagePacket) × (take r (now (out .exit)) ≡ givenBy (now (bytes .entry)) q) ⌝ }
+// The packet that the sender writes in its opening, at the start of out; its length.
+fn wrote(bytes: &[u8], parts: Plan, out: &mut [u8]) -> usize
+    requires { ⌜ Ready (now bytes) parts × (hasSender (now bytes) ≡ true) × (maxMessagePacket ≤ length (now out)) ⌝ }
+    ensures { λ r. ⌜ (r ≤ maxMessagePacket) × (take r (now (out .exit)) ≡ senderWrote sha256 (now (bytes .entry))) ⌝ }
 {
-    if parts.sender != q {
-        return 0;
-    }
-    if parts.n == 1 {
-        return 0;
-    }
+    let q = parts.sender;
     let mut message = [0u8; MAX_MESSAGE];
     let len = book(bytes, parts, q, &mut message);
-    buffer::value_of(packet::write_message(&message[..len], out))
+    let mut packet = [0u8; MAX_MESSAGE_PACKET];
+    let begun = Party::open_by_sender(parts.n, parts.t, q, q, &message[..len], &mut packet);
+    let size = begun.len;
+    buffer::put(out, 0, &packet[..size]);
+    size
+}
+
+// The bytes of the packet that party q gives to each other one in its opening.
+fn given(bytes: &[u8], parts: Plan, q: usize) -> usize
+    requires { ⌜ Ready (now bytes) parts ⌝ }
+    ensures { λ r. ⌜ (r ≤ maxMessagePacket) × (r ≡ length (givenBy sha256 (now (bytes .entry)) q)) ⌝ }
+{
+    if plan::names(parts.options, SENDER) {
+        if q == parts.sender {
+            let mut packet = [0u8; MAX_MESSAGE_PACKET];
+            return wrote(bytes, parts, &mut packet);
+        }
+    }
+    0
 }
 
 // Party q's book, at the start of out; its length, 0 where it has none.

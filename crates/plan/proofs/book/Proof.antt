@@ -25,7 +25,7 @@ parties-requires c κs = search needs
 returns : tie.Need-returns
 returns c =
     let a = c .before .before .before .before .args in
-    sym (book-parties (a .n) (a .good) (a .q) (a .books .now) (a .out .now) (denied (c .before .parties .ensures) (c .if1 .taken)))
+    sym (book-parties (a .n) (a .holders) (a .q) (a .books .now) (a .out .now) (denied (c .before .parties .ensures) (c .if1 .taken)))
 
 member-requires : tie.Need-member-requires
 member-requires c κs = search needs
@@ -36,7 +36,7 @@ returns-2 c =
     let e = m .before in
     let a = Entry e .args in
     let r = range e in
-    sym (book-none (a .n) (a .good) (a .q) (a .books .now) (a .out .now) (r .0) (r .1) (denied (m .member .ensures) (c .if2 .taken)))
+    sym (book-none (a .n) (a .holders) (a .q) (a .books .now) (a .out .now) (r .0) (r .1) (denied (m .member .ensures) (c .if2 .taken)))
 
 party-entry-requires : tie.Need-party-entry-requires
 party-entry-requires c κs = search needs
@@ -56,7 +56,7 @@ returns-3 c =
     let a = Entry e .args in
     let r = range e in
     g .give .ensures ∙ ap (λ (b : List ℕ). written b (a .out .now)) (sym (u .party-entry .ensures .are))
-    ∙ sym (book-some (a .n) (a .good) (a .q) (a .books .now) (a .out .now) (r .0) (r .1)
+    ∙ sym (book-some (a .n) (a .holders) (a .q) (a .books .now) (a .out .now) (r .0) (r .1)
     (sym (m .member .ensures) ∙ not-false (m .member .result) (u .before .if2 .left)))
 
 pub book-spec : {M : Type 1} → statement M

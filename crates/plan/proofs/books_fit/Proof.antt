@@ -16,15 +16,15 @@ use Rattle.plan.proofs.books_fit.Statement.{statement}
 use Rattle.plan.proofs.books_fit.Tie as tie
 
 abbrev Inv-loop : tie.InvT-loop
-Inv-loop s from n good p₀ p =
-    (p ≤ n) × (booksFit n good (drop from s) ≡ every (λ q. leb (length (partyEntry n good q (drop from s))) maxMessage) p)
+Inv-loop s from n map p₀ p =
+    (p ≤ n) × (booksFit n map (drop from s) ≡ every (λ q. leb (length (partyEntry n map q (drop from s))) maxMessage) p)
 
 abbrev μ-loop : tie.MeasureT-loop
-μ-loop s from n good p₀ p = p
+μ-loop s from n map p₀ p = p
 
 -- a party's book, and the test of it
 abbrev Book : tie.Start Inv-loop μ-loop → ℕ → List ℕ
-Book st q = let a = st .args in partyEntry (a .n) (a .good) q (drop (a .from) (a .s .now))
+Book st q = let a = st .args in partyEntry (a .n) (a .map) q (drop (a .from) (a .s .now))
 
 abbrev Test : tie.Start Inv-loop μ-loop → ℕ → Bool
 Test st q = leb (length (Book st q)) maxMessage

@@ -75,32 +75,16 @@ skip-blocks-requires c κs = search needs
 or-end-requires : tie.Need-or-end-requires
 or-end-requires c κs = search needs
 
-size-at-requires : tie.Need-size-at-requires
-size-at-requires c κs = search needs
-
-skip-requires : tie.Need-skip-requires
-skip-requires c κs = search needs
-
-party-entry-requires : tie.Need-party-entry-requires
-party-entry-requires c κs = search needs
+block-entry-requires : tie.Need-block-entry-requires
+block-entry-requires c κs =
+    let b = c .before in
+    let d = b .before .before in
+    rw (c .or-end .ensures) (found-there (b .skip-blocks .result) _ (S d) (b .skip-blocks .ensures) .1)
 
 returns-3 : tie.Need-returns-3
 returns-3 c =
-    let k = c .before in
-    let z = k .before in
-    let x = z .before in
-    let at = x .or-end .result in
-    let a = Entry (x .before .before .before) .args in
-    let s = a .s .now in
-    let l = c .party-entry .ensures in
-    record {
-      ordered = l .ordered;
-      inside = l .inside;
-      are = packet-is x
-          ∙ ap₂ (λ (map : ℕ) (y : List ℕ). partyEntry (a .n) map (a .i) y) (sym (z .size-at .ensures))
-          (drop-drop mapWidth at s ∙ sym (ap (λ (j : ℕ). drop j s) (k .skip .ensures) ∙ drop-min (at + mapWidth) s))
-          ∙ l .are;
-    }
+    let l = c .block-entry .ensures in
+    record { ordered = l .ordered; inside = l .inside; are = packet-is (c .before) ∙ l .are }
 
 pub packet-from-spec : {M : Type 1} → statement M
 packet-from-spec =
@@ -113,7 +97,5 @@ packet-from-spec =
     sub-skip-blocks
     skip-blocks-requires
     or-end-requires
-    size-at-requires
-    skip-requires
-    party-entry-requires
+    block-entry-requires
     returns-3)
