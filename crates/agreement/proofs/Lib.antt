@@ -1,4 +1,5 @@
 pub mod Lists
+pub mod Mapped
 pub mod Run
 pub mod Ran
 pub mod Ended
@@ -10,3 +11,4 @@ pub mod Agreement
 pub mod AgreedRoot
 pub mod Instances
 pub mod Forged
+pub mod Broadcast

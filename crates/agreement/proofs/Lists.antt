@@ -1,7 +1,7 @@
 -- Laws of the lists that a session is told by: numbers that are borne or absent, sums and lists joined over parties, lengths of packets, and
 -- the shares present. By induction on the lists. Assumes nothing.
 use mathlib.Core.Path.{_≡_, refl, sym, ap, _∙_, subst}
-use mathlib.Core.Logic.{_⊎_, inl, inr}
+use mathlib.Core.Logic.{_⊎_, inl, inr, _≢_}
 use mathlib.Core.Bool.{Bool, true, false, cond, false≢true}
 use mathlib.Core.List.{List, [], _∷_, _++_, map, List·Memᴰ, List·Memᴰ·head, List·Memᴰ·tail, List·Memᴰ·not-nil, List·Memᴰ·cases-cons, Memᴰ·append-left, Memᴰ·append-right}
 use mathlib.Core.Option.{Option, some, Option·none-ne-some}
@@ -131,6 +131,27 @@ one-each {A} f {a} {b} (c ∷ l) d h k e =
     go (inl p) (inr v) r = never v (ap f (sym p) ∙ e)
     go (inr u) (inl q) r = never u (ap f (sym q) ∙ sym e)
     go (inr u) (inr v) r = r u v
+
+-- a sum to which only the member with number q adds, if there is one, and no more than k
+pub sum-one : {A : Type 0} (own f : A → ℕ) (q k : ℕ) (l : List A) → different (map own l) ≡ true
+    → ((a : A) → List·Memᴰ a l → own a ≢ q → f a ≡ 0) → ((a : A) → List·Memᴰ a l → own a ≡ q → f a ≤ k) → sumOver f l ≤ k
+unfolding sumOver different
+sum-one own f q k [] d others one = omega arith
+sum-one {A} own f q k (c ∷ l) d others one =
+    let r = not-first (among (own c) (map own l)) (different (map own l)) d in
+    elim (ℕ-discrete (own c) q) [
+      | yes e ↦ omega (
+        arith,
+        one c (List·Memᴰ·head refl) e,
+        sum-none f l (λ a h. others a (List·Memᴰ·tail h)
+            (λ p. clash (ap (λ (y : ℕ). among y (map own l)) (e ∙ sym p) ∙ among-in own h) (r .0))),
+      )
+      | no n ↦ omega (
+        arith,
+        others c (List·Memᴰ·head refl) n,
+        sum-one own f q k l (r .1) (λ a h. others a (List·Memᴰ·tail h)) (λ a h. one a (List·Memᴰ·tail h)),
+      )
+    ]
 
 -- where each number that is borne has its share, as many shares are present as numbers are not absent
 pub present-borne : (gs : List (List ℕ)) (j : ℕ) (js : List ℕ)

@@ -30,7 +30,7 @@ use Rattle.agreement.proofs.Ended.{waits-none}
 use Rattle.agreement.proofs.AgreedRoot.{ends-under-its-root, no-invented-message, no-string-more, no-other-ending}
 use Rattle.claims.specs.Terms.{when, foremost, groupThen, unless, causeJoined, bookJoined, rooted, stepIn, first, Box, EndsWith, Clean, actOf, partyBox, Host, boxOf, party}
 use Rattle.claims.specs.AgreedRoot.{Told, Somebodys, RebuiltBooksHaveTheAgreedRoot}
-use Rattle.claims.proofs.Lists.{in-map, all-map, join-map}
+use Rattle.agreement.proofs.Mapped.{in-map, all-map, join-map}
 use Rattle.claims.proofs.Parties.{view, seen, view-step, view-first, was-ended, told, cleaned, sitting-tells}
 use Rattle.claims.proofs.Hosts.{either-same, boxes-same}
 

@@ -39,7 +39,7 @@ use Rattle.capi.proofs.Kept.{call-kept, calls-kept, length-kept, open-kept}
 use Rattle.claims.specs.Terms.{Act, ended, Box, partyBox, Host, actSeen, actsSeen, hostBox, boxOf, partyOf, party}
 use Rattle.claims.specs.Claims.{HostOpeningTells, HostStepTells, EveryCallTellsItsOutcome, Sitting, AllGoodHostsEndWithOneResult}
 use Rattle.claims.specs.ReadAgain.{EveryReaderGetsIt}
-use Rattle.claims.proofs.Lists.{in-map, map-map, map-same}
+use Rattle.agreement.proofs.Mapped.{in-map, map-map, map-same}
 use Rattle.claims.proofs.Steps.{opening-tells, step-tells}
 use Rattle.claims.proofs.Tools.{shares-told, rebuild-told, hash-told, length-told, check-told, check-yes, packet-told}
 use Rattle.claims.proofs.Parties.{view, every-reader-gets-it}

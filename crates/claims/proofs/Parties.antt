@@ -24,7 +24,7 @@ use Rattle.claims.specs.Terms.{Act, rooted, sent, relayed, ended, stepIn
 use Rattle.claims.specs.Claims.{Sitting, OneResult, bytesSent, AllGoodBoxesEndWithOneResult}
 use Rattle.claims.specs.ReadAgain.{EveryReaderGetsIt}
 use Rattle.claims.specs.AgreedRoot.{Told}
-use Rattle.claims.proofs.Lists.{in-map, all-map, map-map, sum-map, join-map}
+use Rattle.agreement.proofs.Mapped.{in-map, all-map, map-map, sum-map, join-map}
 
 -- what is seen of an event
 abbrev pub view : Event → Act

@@ -5,6 +5,7 @@ use mathlib.Core.Logic.{_≢_}
 use mathlib.Core.Bool.{Bool, true, false, cond, not, _&&_}
 use mathlib.Core.List.{List, [], _∷_}
 use Prim.Native.Nat.{ℕ, _+_, _<_, _≤_}
+use native.Mathlib.Decide.{ℕ-discrete, decLt}
 use native.Mathlib.Omega.{arith}
 use types.Run.{OneOf, miss}
 use denote.Enum.Declared.{tagOf}
@@ -77,6 +78,14 @@ module _ (own sender : ℕ) (bs : List ℕ) where
 
   pub other-packet : (n : ℕ) → own ≢ sender → packetBy n own sender bs ≡ []
   other-packet n d = rw (ne-eqb own sender d)
+
+-- no packet is longer than three bytes and what the party is handed
+pub packet-short : (n own sender : ℕ) (bs : List ℕ) → length (packetBy n own sender bs) ≤ 3 + length bs
+packet-short n own sender bs = go (eqb own sender && not (eqb n 1))
+  where
+    go : (b : Bool) → length (cond b (messagePacket bs) []) ≤ 3 + length bs
+    go true = omega (arith, packet-length bs)
+    go false = omega arith
 
 -- what others read in the packet of a message is the message
 pub sent-read : (m : List ℕ) → length m ≤ maxMessage → messageRead (readMessage (messagePacket m)) ≡ m
@@ -156,3 +165,25 @@ module _ (n t own sender : ℕ) (bs : List ℕ) where
           begun-given (omega (arith, ap length e))
           ∙ ap (λ (p : List ℕ). record { opened = openOf H n t own (messageBy own sender bs); value = length p; buffer = spliced out 0 p }) e
           ∙ ap (λ (o : List ℕ). record { opened = openOf H n t own (messageBy own sender bs); value = 0; buffer = o }) (spliced-none out 0)
+
+    -- an accepted one has no cause, and its packet fits; so it gives the ordinary opening, and the packet stands in the buffer
+    pub accepted-fits : openBySenderOf H n t own sender bs out .opened .cause ≡ 0 → (senderCause n t own sender bs ≡ 0) × (length packet ≤ length out)
+    accepted-fits e = elim (ℕ-discrete (senderCause n t own sender bs) 0) [
+      | yes f ↦ (
+        f,
+        elim (decLt (length out) (length packet)) [
+          | yes l ↦ absurd (let z : _≡_ {A = ℕ} 9 0 = sym (ap (λ (r : Begun). r .opened .cause) (begun-short f l)) ∙ e in omega arith)
+          | no d ↦ omega arith
+        ],
+      )
+      | no d ↦ absurd (d (sym (ap (λ (r : Begun). r .opened .cause) (begun-refused d)) ∙ e))
+    ]
+
+    module _ (accepted : openBySenderOf H n t own sender bs out .opened .cause ≡ 0) where
+      pub accepted-opens : openBySenderOf H n t own sender bs out .opened ≡ openOf H n t own (messageBy own sender bs)
+      accepted-opens = let f = accepted-fits accepted in ap (λ (r : Begun). r .opened) (begun-given (f .0) (f .1))
+
+      pub accepted-wrote : take (openBySenderOf H n t own sender bs out .value) (openBySenderOf H n t own sender bs out .buffer) ≡ packet
+      accepted-wrote =
+          let f = accepted-fits accepted in
+          ap (λ (r : Begun). take (r .value) (r .buffer)) (begun-given (f .0) (f .1)) ∙ take-spliced out packet
