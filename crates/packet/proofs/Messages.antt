@@ -3,11 +3,11 @@
 use mathlib.Core.Path.{_≡_, refl, sym, ap, ap₂, _∙_}
 use mathlib.Core.Bool.{Bool, true, false, cond, not, _&&_, _||_}
 use mathlib.Core.List.{List, [], _∷_, _++_}
-use Prim.Native.Nat.{ℕ, _+_, _*_, _/_, _%_, _<_, _≤_}
+use Prim.Native.Nat.{ℕ, zero, suc, _+_, _*_, _/_, _%_, _<_, _≤_}
 use native.Mathlib.Decide.{decLt}
 use native.Mathlib.Omega.{arith}
 use borrow.Author.Tests.{lt-ltb, le-ltb, eq-eqb, ne-eqb, ltb-false, eqb-true, eqb-false}
-use lib.Dec.{ltb, eqb}
+use lib.Dec.{ltb, eqb, lit<}
 use lib.ListN.{length, getD, drop, length-drop}
 use Rattle.limits.specs.Limits.{maxMessage}
 use Rattle.buffer.specs.Bounds.{Bytes}
@@ -24,10 +24,17 @@ use Rattle.packet.specs.Format as share
 use Rattle.packet.specs.Message.{Reading, silence, unreadable, message, messagePacket, lengthIn, messageIn, readMessage, placed, writeMessageOf}
 use Rattle.packet.specs.declared.MessagePacket.the-variants.{Message}
 
--- the packet has three bytes more than the message
+-- the packet has three bytes more than the message, and is of bytes if the message is
 pub packet-length : (m : List ℕ) → length (messagePacket m) ≡ 3 + length m
 unfolding messagePacket
 packet-length m = omega arith
+
+pub packet-bytes : (m : List ℕ) → Bytes m → length m ≤ maxMessage → Bytes (messagePacket m)
+unfolding messagePacket
+packet-bytes m small short zero = lit< tt
+packet-bytes m small short (suc zero) = omega arith
+packet-bytes m small short (suc (suc zero)) = omega arith
+packet-bytes m small short (suc (suc (suc i))) = small i
 
 -- the stated length is that of an entry without the map
 pub length-at : (p : List ℕ) → lengthIn p ≡ size (drop 1 p)

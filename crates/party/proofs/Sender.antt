@@ -18,7 +18,7 @@ use Rattle.buffer.specs.Bounds.{Bytes}
 use Rattle.buffer.specs.Splice.{spliced}
 use Rattle.buffer.proofs.Splice.{spliced-none, take-spliced}
 use Rattle.buffer.proofs.Bounds.{drop-bytes}
-use Rattle.packet.specs.Message.{Reading, silence, unreadable, message, messagePacket, readMessage, placed}
+use Rattle.packet.specs.Message.{maxMessagePacket, Reading, silence, unreadable, message, messagePacket, readMessage, placed}
 use Rattle.packet.specs.declared.MessagePacket.{MessagePacket}
 use Rattle.packet.proofs.MessagePacket.{the-type as packet-type}
 use Rattle.packet.proofs.Messages.{packet-length, message-read, whole-of, read-length}
@@ -137,6 +137,18 @@ module _ (n t own sender : ℕ) (bs : List ℕ) where
       let o = numbered-range n own (not-false (numbered n own) (h .0)) in
       let q = numbered-range n sender (not-false (numbered n sender) (k .0)) in
       (open-fine n t own len (g .0) (o .0) (o .1) (ltb-false maxMessage len (l .0)), q .0, q .1)
+
+  -- then the packet has room where the longest has
+  pub packet-fits : senderCause n t own sender bs ≡ 0 → length (packetBy n own sender bs) ≤ maxMessagePacket
+  packet-fits e = elim (ℕ-discrete own sender) [
+    | yes q ↦ omega (
+        arith,
+        packet-short n own sender bs,
+        open-bounds n t own (length (messageBy own sender bs)) (cause-bounds e .0) .3,
+        ap length (sender-message own sender bs q),
+      )
+    | no d ↦ omega (arith, ap length (other-packet own sender bs n d))
+  ]
 
   -- the outcomes
   module _ (H : List ℕ → List ℕ) (out : List ℕ) where

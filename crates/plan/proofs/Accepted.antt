@@ -12,15 +12,16 @@ use lib.ListN.{length, getD, drop, length-drop}
 use lib.Seq.{length-take-le}
 use Rattle.limits.specs.Limits.{maxMessage, maxPlan, numbered, groupCause}
 use Rattle.buffer.specs.Bounds.{Bytes}
-use Rattle.buffer.specs.Entries.{body}
+use Rattle.buffer.specs.Entries.{size, body}
 use Rattle.buffer.proofs.Bounds.{drop-bytes, body-bytes}
 use Rattle.limits.proofs.Ranges.{numbered-range}
 use Rattle.plan.proofs.Options.{field-inside}
 use Rattle.plan.proofs.Walks.{every-each}
 use Rattle.plan.proofs.Blocks.{entry-none}
-use Rattle.plan.proofs.Tails.{tail-entries}
+use Rattle.plan.proofs.Tails.{tail-entries, behind-there}
 use Rattle.plan.specs.Layout.{mapWidth, names, member, unnamed, lowest, orEmpty, skipEntries, partyEntry, booksFit, fields, fieldAt, nIn, tIn, optionsIn}
-use Rattle.plan.specs.Layout.{fieldIn, hasRoot, rootIn, hasSender, senderIn, goodAt, goodIn, booksIn, holders, endOf, empty, laidOut}
+use Rattle.plan.specs.Layout.{fieldIn, hasRoot, rootIn, hasSender, senderIn, goodAt, goodIn, booksIn, badSender, holders, behindBooks, blockEntry, senderPacket}
+use Rattle.plan.specs.Layout.{endOf, empty, laidOut}
 use Rattle.plan.specs.Plan.{planCause}
 
 pub record Accepted (s : List ℕ) : Type 0 where
@@ -105,6 +106,18 @@ module _ (n map q : ℕ) (s : List ℕ) where
       go : (b : Bool) (x : List ℕ) → Bytes x → Bytes (cond b x [])
       go true x r = r
       go false x r = λ i. lit< tt
+
+-- and so is what the plan says that a bad sender sends
+pub sender-bytes : (i : ℕ) (s : List ℕ) → Bytes s → Bytes (senderPacket i s)
+unfolding senderPacket
+sender-bytes i s h =
+    let x : List ℕ = behindBooks s in
+    let there : Bytes x = subst Bytes (behind-there s) (drop-bytes (length s - length x) s h) in
+    go (badSender s) (entry-bytes (nIn s) (size x) i (drop mapWidth x) (drop-bytes mapWidth x there))
+  where
+    go : (b : Bool) → Bytes (blockEntry (nIn s) i (behindBooks s)) → Bytes (cond b (blockEntry (nIn s) i (behindBooks s)) [])
+    go true r = r
+    go false r = λ i. lit< tt
 
 -- where a map leaves fewer than k of k parties unnamed, the lowest that it names is one of them
 pub lowest-named : (k p g : ℕ) → unnamed k p g < k → (names g (lowest k p g) ≡ true) × (p ≤ lowest k p g) × (lowest k p g < p + k)

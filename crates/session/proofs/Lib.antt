@@ -1,5 +1,6 @@
 pub mod Parties
 pub mod Played
+pub mod Openings
 pub mod Rule
 pub mod Wrote
 pub mod Inboxes

@@ -18,10 +18,11 @@ use Rattle.packet.specs.Format.{entryOf}
 use Rattle.party.specs.State.{settled}
 use Rattle.agreement.specs.Agreement.{Clean}
 use Rattle.agreement.proofs.Instances.{each}
-use Rattle.plan.specs.Layout.{unnamed, every, walk, skipEntries, partyEntry, booksFit, skipBlock, fieldBytes, booksIn, laidOut}
+use Rattle.plan.specs.Layout.{holders, unnamed, every, walk, skipEntries, partyEntry, booksFit, skipBlock, fieldBytes, booksIn, laidOut}
 use Rattle.plan.proofs.Blocks.{entry-skipped}
 use Rattle.plan.proofs.Reading.{end-at, fine}
-use Rattle.session.specs.Session.{messageOf, agreedBit, sameRoots, sameBits, unlawful, sessionCause, endsWith, goodParty, goodFrom, goodParties}
+use Rattle.session.specs.Session.{messageOf, agreedBit, sameRoots, sameBits, unlawful, sessionCause, endsWith, goodParty, goodParties}
+use Rattle.session.specs.Session.{eachGood, bookOf}
 use Rattle.session.proofs.Played.{one-result}
 use Rattle.session.proofs.Rule.{root-own, bit-own, bit-none, firstRoot, firstBit, unlawful-vote}
 
@@ -62,17 +63,17 @@ module _ (m a b c d : List ℕ) where
   blocks = block a b ++ block c d
 
   laid : laidOut s ≡ true
-  unfolding size fieldBytes walk
+  unfolding size fieldBytes walk holders
   laid =
-      end-at 5 s (record { room = omega arith; known = omega arith; few = omega arith; there = refl }) blocks (skip-two m m blocks) []
+      end-at 5 s (record { room = omega arith; known = omega arith; few = omega arith; there = refl }) blocks (skip-two m m blocks) blocks refl []
       (rw (skip-block a b (block c d)) (ap (skipBlock 3 3) (sym (append-nil (block c d))) ∙ skip-block c d []))
 
-  messages : (messageOf s 1 ≡ m) × (messageOf s 2 ≡ m)
-  unfolding messageOf partyEntry numbered size fieldBytes walk entryOf
+  messages : (bookOf s 1 ≡ m) × (bookOf s 2 ≡ m)
+  unfolding bookOf holders partyEntry numbered size fieldBytes walk entryOf
   messages = (entry-body m (entryOf m ++ blocks), rw (entry-skipped m (entryOf m ++ blocks)) (entry-body m blocks))
 
-  books-fit : length m ≤ maxMessage → booksFit 3 3 (booksIn s) ≡ true
-  unfolding every messageOf partyEntry numbered size fieldBytes walk
+  books-fit : length m ≤ maxMessage → booksFit 3 (holders s) (booksIn s) ≡ true
+  unfolding every bookOf holders partyEntry numbered size fieldBytes walk
   books-fit short = rw (messages .0, messages .1, le-leb (length m) maxMessage short)
 
   module _ (short : length m ≤ maxMessage) (fits : length s ≤ maxPlan) (H : List ℕ → List ℕ) where
@@ -86,11 +87,11 @@ module _ (m a b c d : List ℕ) where
 
     pub taken : sessionCause H s ≡ 0
     unfolding sessionCause parties groupCause size fieldBytes
-    taken = rw (fine s (omega arith) refl fits laid (books-fit short), lawful)
+    taken = rw (fine s (omega arith) refl fits laid refl (books-fit short), lawful)
 
     pub settles : (wide : (x : List ℕ) → length (H x) ≡ 32) (bytes : Bytes s) → Clean H 3 1 (goodParties H s)
         → (endsWith H s 1 ≡ settled m) × (endsWith H s 2 ≡ settled m)
-    unfolding goodFrom size fieldBytes
+    unfolding eachGood messageOf size fieldBytes
     settles wide bytes clean =
         let r = one-result H wide s bytes taken clean in
         let e = r .1 .agreed .common m (each (goodParty H s 1) (goodParty H s 2) (λ A. A .message ≡ m) (messages .0) (messages .1)) in

@@ -4,18 +4,22 @@
 use mathlib.Core.Path.{_≡_, refl, sym, ap, ap₂, _∙_, subst}
 use mathlib.Core.Logic.{_≢_}
 use mathlib.Core.Bool.{Bool, true, false, cond, not, _&&_, _||_, true≢false, false≢true}
-use mathlib.Core.List.{List, [], _∷_, _++_, List·Memᴰ}
+use mathlib.Core.List.{List, [], _∷_, _++_, map, List·Memᴰ}
 use mathlib.Core.Option.{Option, some}
-use Prim.Native.Nat.{ℕ, zero, suc, _+_, _-_, _≤_, _<_}
+use Prim.Native.Nat.{ℕ, zero, suc, _+_, _-_, _*_, _≤_, _<_}
+use native.Mathlib.Nat.{mul-zero}
 use native.Mathlib.Decide.{ℕ-discrete}
 use native.Mathlib.Omega.{arith}
 use borrow.Author.Tests.{ltb-false, eqb-true, eqb-false, eq-eqb, ne-eqb}
 use lib.Dec.{ltb, eqb}
-use lib.ListN.{length, getD, replicate, length-replicate}
+use lib.ListN.{length, getD, take, replicate, length-replicate}
 use Rattle.sha256.specs.Sha256.{sha256}
 use Rattle.sha256.proofs.Laws.{sha256-length}
 use Rattle.limits.specs.Limits.{maxMessage}
 use Rattle.limits.proofs.Group.{group-of}
+use Rattle.limits.proofs.Ranges.{numbered-within}
+use Rattle.packet.specs.Message.{maxMessagePacket}
+use Rattle.party.specs.Sender.{openBySenderOf}
 use Rattle.buffer.specs.Bounds.{Bytes}
 use Rattle.buffer.specs.Splice.{tabulate}
 use Rattle.buffer.specs.Entries.{fills, bodies}
@@ -34,7 +38,7 @@ use Rattle.party.specs.Steps as steps
 use Rattle.party.specs.declared.Party.{Party}
 use Rattle.party.specs.declared.Opened.{Opened}
 use Rattle.party.specs.declared.Answer.the-variants.{Happy}
-use Rattle.party.proofs.Ways.{Way, on, off, way}
+use Rattle.party.proofs.Ways.{Way, on, off, way, clash}
 use Rattle.party.proofs.Kept.{message-root, message-bit, message-first, result-end}
 use Rattle.commitment.specs.Private.{Coded}
 use Rattle.commitment.proofs.Messages.{fine}
@@ -45,23 +49,27 @@ use Rattle.party.proofs.Progress.{root-whole, bit-whole, first-whole, second-wh
 use Rattle.party.proofs.Rooms.{outbox-fits, relay-fits}
 use Rattle.agreement.specs.Calls.{Call, agreeRoot, agreeBit, takeShares, takeRelays, Event, accepted, first, entry, heard, wrote, packetTo, bitGiven}
 use Rattle.agreement.specs.Calls.{sentOver, made, events, final, did, firstOf, resultAfter, sentBy, opening}
-use Rattle.agreement.specs.Agreement.{Good, Each, step, Clean, Premises, sent, Conclusions, Agreement}
+use Rattle.agreement.specs.Agreement.{Good, different, absent, Each, step, CalledAll, Ruled, DeliveredAll, Clean, Premises, sent, Conclusions, Agreement}
+use Rattle.agreement.specs.Broadcast.{Opener, partyOf, Every, parties, begun, gave, sentInAll, Settled}
+use Rattle.agreement.specs.Broadcast as broadcast
 use Rattle.agreement.proofs.Run.{did3, did4}
-use Rattle.agreement.proofs.Ran.{opened-is}
+use Rattle.agreement.proofs.Ran.{opened-is as opened-is-open}
 use Rattle.agreement.proofs.Lists.{same-some, first-in}
 use Rattle.agreement.proofs.Agreement.{agreement, agreement-sha256}
-use Rattle.plan.specs.Layout.{unnamed, nIn, tIn, hasRoot, hasBit, rootIn, goodIn, booksIn, exchangeIn}
+use Rattle.agreement.proofs.Broadcast.{broadcast}
+use Rattle.plan.specs.Layout.{unnamed, nIn, tIn, hasRoot, hasBit, hasSender, rootIn, senderIn, goodIn, goodSender, exchangeIn}
 use Rattle.plan.specs.Layout as layout
 use Rattle.plan.specs.Plan.{planCause}
-use Rattle.plan.proofs.Accepted.{Accepted, accepted as plan-taken, lowest-named, root-length, book-short, entry-bytes}
+use Rattle.plan.proofs.Accepted.{Accepted, accepted as plan-taken, lowest-named, root-length}
 use Rattle.exchange.specs.Exchange.{sentTo, inboxTo}
 use Rattle.exchange.proofs.Sending.{sent-good}
 use Rattle.report.specs.Output.{sentLine}
-use Rattle.session.specs.Session.{maxOutbox, wroteIn, orNothing, lineWith, isGood, messageOf, lowestGood, opened, agreedRoot, step2, agreedBit}
+use Rattle.session.specs.Session.{maxOutbox, wroteIn, orNothing, lineWith, isGood, bookOf, eachGood, lowestGood, openedBySender, senderWrote, handedTo, opened, messageOf, agreedRoot, step2, agreedBit}
 use Rattle.session.specs.Session.{sameRoots, sameBits, unlawful, sessionCause, step3, firstInbox, step4, secondInbox, step5}
-use Rattle.session.specs.Session.{endsWith, sentOf, linesFrom, sentFrom, output, callsOf, goodParty, goodParties}
+use Rattle.session.specs.Session.{endsWith, sentLater, sentOf, linesFrom, sentFrom, output, callsOf, goodParty, goodParties, givenBy, opener, openers}
+use Rattle.session.proofs.Openings.{handed-own, handed-good, handed-bytes, message-short, message-small, opened-is}
 use Rattle.session.proofs.Wrote.{step3-counted, step4-counted}
-use Rattle.session.proofs.Parties.{named, party-in, apart, bad-count, sum-of}
+use Rattle.session.proofs.Parties.{goodSum, named, party-in, mapped, sum-of, apart, bad-count, sum-none, sent-split}
 
 -- a plan without a cause: the plan itself has none, and nothing is against the rule
 no-cause : (k : ℕ) (b : Bool) → cond (not (eqb k 0)) k (cond b 14 0) ≡ 0 → (k ≡ 0) × (b ≡ false)
@@ -139,34 +147,34 @@ module _ (H : List ℕ → List ℕ) (wide : (x : List ℕ) → length (H x) ≡
   low : 1 ≤ n
   low = group-of n t (plan .group) .low
 
-  coded : (p : ℕ) → Coded n t (messageOf s p)
-  unfolding messageOf
+  coded : (p : ℕ) → Coded n t (messageOf H s p)
   coded p =
       let g = group-of n t (plan .group) in
       record {
         low = g .low;
         high = g .high;
         faults = g .faults;
-        short = book-short n (goodIn s) p (booksIn s) (plan .books-fit);
+        short = message-short s (causes .0) H p;
       }
 
-  message-bytes : (p : ℕ) → Bytes (messageOf s p)
-  unfolding messageOf
-  message-bytes p = entry-bytes n (goodIn s) p (booksIn s) (drop-bytes (layout.goodAt s + layout.mapWidth) s bytes)
+  message-bytes : (p : ℕ) → Bytes (messageOf H s p)
+  message-bytes p = message-small s (causes .0) H bytes p
 
-  -- the root that any opening gives, or the blank one, has 32 bytes
-  root-long : (p : ℕ) → length (opened H s p .root) ≡ 32
-  unfolding opened messageRoot
-  root-long p = go (way (eqb (openCause n t p (length (messageOf s p))) 0))
-    where
-      go : Way (eqb (openCause n t p (length (messageOf s p))) 0) → length (opened H s p .root) ≡ 32
-      go (on e) =
-          ap (λ (o : Opened). length (o .root))
-          (open-given H n t p (messageOf s p) (eqb-true (openCause n t p (length (messageOf s p))) 0 e))
-          ∙ length-root H wide n (shares n (n - t) (messageOf s p)) (fine n t (messageOf s p) (coded p))
-      go (off e) =
-          ap (λ (o : Opened). length (o .root))
-          (open-refused H n t p (messageOf s p) (eqb-false (openCause n t p (length (messageOf s p))) 0 e))
+  -- the lowest good party
+  few-bad : unnamed n 1 (goodIn s) ≤ t
+  few-bad = ltb-false t (unnamed n 1 (goodIn s)) (lawful .0)
+
+  chief : (isGood s (lowestGood s) ≡ true) × (1 ≤ lowestGood s) × (lowestGood s < 1 + n)
+  chief = lowest-named n 1 (goodIn s) (omega (arith, few-bad, group-of n t (plan .group) .faults))
+
+  -- the root that a party's opening gives has 32 bytes
+  root-long : (p : ℕ) → 1 ≤ p → p ≤ n → length (opened H s p .root) ≡ 32
+  unfolding messageRoot
+  root-long p one last =
+      let c = coded p in
+      let fits = opened-is-open H n t p (messageOf H s p) (open-accepted H n t p (messageOf H s p) (c .low) (c .high) (c .faults) one last (c .short)) .0 in
+      ap (λ (o : Opened). length (o .root)) (opened-is s (causes .0) H p one last ∙ open-given H n t p (messageOf H s p) fits)
+      ∙ length-root H wide n (shares n (n - t) (messageOf H s p)) (fine n t (messageOf H s p) c)
 
   z-long : length z ≡ 32
   unfolding agreedRoot
@@ -174,7 +182,7 @@ module _ (H : List ℕ → List ℕ) (wide : (x : List ℕ) → length (H x) ≡
     where
       go : (b : Bool) → hasRoot s ≡ b → length (cond b (rootIn s) (opened H s (lowestGood s) .root)) ≡ 32
       go true e = root-length s (plan .laid) e
-      go false e = root-long (lowestGood s)
+      go false e = root-long (lowestGood s) (chief .1) (omega (arith, chief .2))
 
   -- the bit that any step 2 gives is 0 or 1
   vote-small : (p : ℕ) → step2 H s p .value ≤ 1
@@ -204,9 +212,9 @@ module _ (H : List ℕ → List ℕ) (wide : (x : List ℕ) → length (H x) ≡
   -- a good party, and that each of its steps is accepted
   module _ (p : ℕ) (one : 1 ≤ p) (last : p ≤ n) where
     abbrev m : List ℕ
-    m = messageOf s p
+    m = messageOf H s p
 
-    c : Coded n t (messageOf s p)
+    c : Coded n t (messageOf H s p)
     c = coded p
 
     abbrev X1 : Party
@@ -216,11 +224,13 @@ module _ (H : List ℕ → List ℕ) (wide : (x : List ℕ) → length (H x) ≡
     X2 = atFirst (seatOf n t p) m z
 
     open-cause : openCause n t p (length m) ≡ 0
-    open-cause = opened-is H n t p m (open-accepted H n t p m (c .low) (c .high) (c .faults) one last (c .short)) .0
+    open-cause = opened-is-open H n t p m (open-accepted H n t p m (c .low) (c .high) (c .faults) one last (c .short)) .0
+
+    opened-to : opened H s p ≡ opening H n t p m
+    opened-to = opened-is s (causes .0) H p one last
 
     opened-as : opened H s p ≡ record { state = atRoot (seatOf n t p) m; cause = 0; root = messageRoot H n t m }
-    unfolding opened
-    opened-as = open-given H n t p m open-cause
+    opened-as = opened-to ∙ open-given H n t p m open-cause
 
     -- step 2
     turn-root : turnOf (atRoot (seatOf n t p) m .stage) ≡ 2
@@ -350,16 +360,21 @@ module _ (H : List ℕ → List ℕ) (wide : (x : List ℕ) → length (H x) ≡
     cause-2 : step2 H s p .cause ≡ 0
     cause-2 = ap (λ (b : Stepped). b .cause) made-2
 
-    begun : (cs : List Call)
+    began : (cs : List Call)
         → accepted (events H (opened H s p .state) (agreeRoot z ∷ agreeBit bit room3 ∷ cs)) ≡ E2 ∷ E3 ∷ accepted (events H (step3 H s p .state) cs)
     unfolding made step2 step3
-    begun cs =
+    began cs =
         accept-more H (opened H s p .state) (agreeRoot z) (agreeBit bit room3 ∷ cs) cause-2
         ∙ ap (λ (l : List Event). E2 ∷ l) (accept-more H (step2 H s p .state) (agreeBit bit room3) cs cause-3)
 
+    -- by the state that the opening gave
+    did-from : did H n t p m (callsOf H s p) ≡ accepted (events H (opened H s p .state) (callsOf H s p))
+    unfolding did
+    did-from = ap (λ (o : Opened). accepted (events H (o .state) (callsOf H s p))) (sym opened-to)
+
     did-zero : bit ≡ 0 → did H n t p m (callsOf H s p) ≡ E2 ∷ E3 ∷ []
-    unfolding did callsOf opened accepted events
-    did-zero b0 = rw (eq-eqb bit 0 b0) (begun [])
+    unfolding callsOf accepted events
+    did-zero b0 = did-from ∙ rw (eq-eqb bit 0 b0) (began [])
 
     ended-one : bit ≡ 1 → accepted (events H (step3 H s p .state) (E4 .call ∷ E5 .call ∷ [])) ≡ E4 ∷ E5 ∷ []
     unfolding made step4 step5 accepted events
@@ -368,10 +383,10 @@ module _ (H : List ℕ → List ℕ) (wide : (x : List ℕ) → length (H x) ≡
         ∙ ap (λ (l : List Event). E4 ∷ l) (accept-more H (step4 H s p .state) (E5 .call) [] (cause-5 b1))
 
     did-one : bit ≡ 1 → did H n t p m (callsOf H s p) ≡ E2 ∷ E3 ∷ E4 ∷ E5 ∷ []
-    unfolding did callsOf opened
+    unfolding callsOf
     did-one b1 =
-        rw (ne-eqb bit 0 (λ q. omega arith))
-        (begun (E4 .call ∷ E5 .call ∷ []) ∙ ap (λ (l : List Event). E2 ∷ E3 ∷ l) (ended-one b1))
+        did-from ∙ rw (ne-eqb bit 0 (λ q. omega arith))
+        (began (E4 .call ∷ E5 .call ∷ []) ∙ ap (λ (l : List Event). E2 ∷ E3 ∷ l) (ended-one b1))
 
     -- what the others see of the party
     abbrev first-of : ℕ → Option Event
@@ -430,15 +445,16 @@ module _ (H : List ℕ → List ℕ) (wide : (x : List ℕ) → length (H x) ≡
     heard-5 b q l h = ap (heard n q) (fifth-is b) ∙ entry-of (secondFrom p) q l h
 
     ends-0 : bit ≡ 0 → resultAfter H n t p m (callsOf H s p) ≡ some nothing
-    unfolding callsOf final made opened step2 step3
+    unfolding callsOf final made step2 step3
     ends-0 b =
-        rw (eq-eqb bit 0 b)
+        ap (λ (o : Opened). resultIn (final H (o .state) (callsOf H s p))) (sym opened-to)
+        ∙ rw (eq-eqb bit 0 b)
         (ap resultIn (state-3 ∙ ap (λ (e : Bool). cond e (atEnd (seatOf n t p) nothing) X2) (eq-eqb bit 0 b)) ∙ result-end (seatOf n t p) nothing)
 
-    sent-is : sentBy H n t p m (callsOf H s p) ≡ sentOf H s p
-    unfolding sentBy sentOver sentOf made step3 step4
+    sent-is : sentBy H n t p m (callsOf H s p) ≡ sentLater H s p
+    unfolding sentBy sentOver sentLater made step3 step4
     sent-is =
-        either-bit (sentBy H n t p m (callsOf H s p) ≡ sentOf H s p)
+        either-bit (sentBy H n t p m (callsOf H s p) ≡ sentLater H s p)
         (λ b. rw (did-zero b, eq-eqb bit 0 b, step3-counted H s p .told cause-3) (omega arith))
         (λ b. rw (did-one b, ne-eqb bit 0 (λ q. omega arith), step3-counted H s p .told cause-3, step4-counted H s p .told (cause-4 b))
         (omega arith))
@@ -449,18 +465,11 @@ module _ (H : List ℕ → List ℕ) (wide : (x : List ℕ) → length (H x) ≡
   -- what holds of each party that the map names holds of every good party
   each : (P : Good → Type 0) → ((q : ℕ) → 1 ≤ q → q ≤ n → isGood s q ≡ true → P (goodParty H s q)) → Each H n t good P
   each P f A h =
-      let w = named H s n 1 A h in
+      let w = named s (goodParty H s) n 1 A h in
       subst P (sym (w .is)) (f (w .number) (w .low) (omega (arith, w .high)) (w .good))
 
   pub member : (q : ℕ) → 1 ≤ q → q ≤ n → isGood s q ≡ true → List·Memᴰ (goodParty H s q) good
-  member q l h g = party-in H s n 1 q l (omega arith) g
-
-  -- the lowest good party
-  few-bad : unnamed n 1 (goodIn s) ≤ t
-  few-bad = ltb-false t (unnamed n 1 (goodIn s)) (lawful .0)
-
-  chief : (isGood s (lowestGood s) ≡ true) × (1 ≤ lowestGood s) × (lowestGood s < 1 + n)
-  chief = lowest-named n 1 (goodIn s) (omega (arith, few-bad, group-of n t (plan .group) .faults))
+  member q l h g = party-in s (goodParty H s) n 1 q l (omega arith) g
 
   -- the rule
   all-roots : (w : List ℕ) (k p : ℕ) → ((q : ℕ) → p ≤ q → q < p + k → isGood s q ≡ true → opened H s q .root ≡ w) → sameRoots H s k p w ≡ true
@@ -482,9 +491,9 @@ module _ (H : List ℕ → List ℕ) (wide : (x : List ℕ) → length (H x) ≡
       go (off e) r = rw e r
 
   root-rule : (v : List ℕ) → Each H n t good (λ A. some (opening H n t (A .own) (A .message) .root) ≡ some v) → z ≡ v
-  unfolding opened
   root-rule v f =
-      let of : (q : ℕ) → 1 ≤ q → q ≤ n → isGood s q ≡ true → opened H s q .root ≡ v = λ q l h g. same-some (f (goodParty H s q) (member q l h g)) in
+      let of : (q : ℕ) → 1 ≤ q → q ≤ n → isGood s q ≡ true → opened H s q .root ≡ v =
+      (λ q l h g. ap (λ (o : Opened). o .root) (opened-to q l h) ∙ same-some (f (goodParty H s q) (member q l h g))) in
       let own : opened H s (lowestGood s) .root ≡ v = of (lowestGood s) (chief .1) (omega (arith, chief .2)) (chief .0) in
       let all = all-roots (opened H s (lowestGood s) .root) n 1 (λ q l h g. of q l (omega arith) g ∙ sym own) in
       same-true z (opened H s (lowestGood s) .root)
@@ -509,17 +518,19 @@ module _ (H : List ℕ → List ℕ) (wide : (x : List ℕ) → length (H x) ≡
   from-second : (i p : ℕ) → i ≢ p → isGood s p ≡ true → secondFrom i p ≡ wroteIn (step4 H s p)
   from-second i p d g = sent-good n (goodIn s) true (λ q. wroteIn (step4 H s q)) (exchangeIn 1 s) i p (λ e. d (sym e)) g
 
+  numbers : map (λ (A : Good). A .own) good ≡ eachGood s (λ q. q) n 1
+  numbers = mapped s (goodParty H s) (λ (A : Good). A .own) (λ q. q) (λ q. refl) n 1
+
   -- all that agreement supposes, but for the hash
   pub premises : Clean H n t good → Premises H n t good z bit
-  unfolding opened
   premises clean =
       record {
         opened = record {
           bytes = each (λ A. Bytes (A .message)) (λ q l h g. message-bytes q);
           accepted = each (λ A. opening H n t (A .own) (A .message) .cause ≡ 0)
-              (λ q l h g. ap (λ (o : Opened). o .cause) (opened-as q l h));
-          apart = apart H s n 1;
-          bad = omega (arith, bad-count H s, few-bad);
+              (λ q l h g. ap (λ (o : Opened). o .cause) (sym (opened-to q l h) ∙ opened-as q l h));
+          apart = ap different numbers ∙ apart s n 1;
+          bad = subst (λ (l : List ℕ). absent n 1 l ≤ t) (sym numbers) (omega (arith, bad-count s, few-bad));
         };
         called = record {
           step2 = each (λ A. (e : Event) × (step H n t good 2 A ≡ some e) × (e .call ≡ agreeRoot z))
@@ -543,10 +554,18 @@ module _ (H : List ℕ → List ℕ) (wide : (x : List ℕ) → length (H x) ≡
         clean = clean;
       }
 
-  -- the figure after `sent` is the theorem's
-  pub sent-figure : sentFrom H s n 1 ≡ sent H n t good
+  -- the figure after `sent` is the theorem's, and the sender's packet to each other party
+  abbrev pub senderBytes : ℕ
+  senderBytes = goodSum s (λ q. (n - 1) * length (givenBy H s q)) n 1
+
+  pub sent-figure : sentFrom H s n 1 ≡ senderBytes + sent H n t good
   sent-figure =
-      sym (sum-of H s (λ (A : Good). sentBy H n t (A .own) (A .message) (A .calls)) n 1 (λ q l h g. sent-is q l (omega arith)))
+      sent-split s H n 1
+      ∙ ap (λ (k : ℕ). senderBytes + k)
+      (sym (sum-of s (goodParty H s) (λ (A : Good). sentBy H n t (A .own) (A .message) (A .calls)) (sentLater H s) n 1 (λ q l h g. sent-is q l (omega arith))))
+
+  pub none-sends : hasSender s ≡ false → senderBytes ≡ 0
+  none-sends e = sum-none s (λ q. (n - 1) * length (givenBy H s q)) (λ q. rw e (mul-zero (n - 1))) n 1
 
   -- what a party's step 5 gave, and so its line, is the one result
   gives-5 : (R : Result) → Conclusions H n t good bit R → (p : ℕ) → 1 ≤ p → p ≤ n → isGood s p ≡ true → bit ≡ 1 → step5 H s p .result ≡ some R
@@ -575,29 +594,107 @@ module _ (H : List ℕ → List ℕ) (wide : (x : List ℕ) → length (H x) ≡
       go (on g) = rw g (ap (lineWith p) (f p l (omega arith) g))
       go (off g) = rw g
 
+  -- where there is a sender, the session is one of broadcast: each opening by the sender was accepted, and a good sender's packet is handed to all
+  module _ (there : hasSender s ≡ true) where
+    abbrev q : ℕ
+    q = senderIn s
+
+    same-party : (p : ℕ) → partyOf (opener H s p) ≡ goodParty H s p
+    unfolding messageOf
+    same-party p = rw there
+
+    same-parties : parties H n t (openers H s) ≡ good
+    same-parties = mapped s (opener H s) partyOf (goodParty H s) same-party n 1
+
+    every : (P : Opener → Type 0) → ((p : ℕ) → 1 ≤ p → p ≤ n → isGood s p ≡ true → P (opener H s p)) → Every H n t (openers H s) P
+    every P f A h = let w = named s (opener H s) n 1 A h in subst P (sym (w .is)) (f (w .number) (w .low) (omega (arith, w .high)) (w .good))
+
+    accepted-by : (p : ℕ) → 1 ≤ p → p ≤ n → openedBySender H s p (handedTo H s p) .opened .cause ≡ 0
+    unfolding opened
+    accepted-by p l h =
+        ap (λ (o : Opened). o .cause) (ap (λ (b : Bool). cond b (openedBySender H s p (handedTo H s p) .opened) (opening H n t p (bookOf s p))) (sym there)
+        ∙ opened-as p l h)
+
+    gave-is : (p : ℕ) → p ≡ q → gave H n t (openers H s) (opener H s p) ≡ senderWrote H s
+    unfolding senderWrote openedBySender
+    gave-is p e =
+        ap (λ (i : ℕ). gave H n t (openers H s) (opener H s i)) e
+        ∙ ap (λ (b : List ℕ). let r = openBySenderOf H n t q q b (replicate maxMessagePacket 0) in take (r .value) (r .buffer))
+        (handed-own s (causes .0) H q refl)
+
+    good-there : (p : ℕ) → 1 ≤ p → p ≤ n → isGood s p ≡ true → p ≡ q → goodSender s ≡ true
+    good-there p l h g e = rw (there, sym e, numbered-within n p l h) g
+
+    premises-by : Clean H n t good → broadcast.Premises H n t (openers H s) q z bit
+    unfolding openedBySender
+    premises-by clean =
+        let P = premises clean in
+        let owns : map (λ (A : Opener). A .own) (openers H s) ≡ eachGood s (λ i. i) n 1 =
+        mapped s (opener H s) (λ (A : Opener). A .own) (λ i. i) (λ i. refl) n 1 in
+        record {
+          opened = record {
+            accepted = every (λ A. begun H n t (openers H s) A .opened .cause ≡ 0) (λ p l h g. accepted-by p l h);
+            named = every (λ A. A .sender ≡ q) (λ p l h g. refl);
+            bytes = every (λ A. Bytes (A .bytes)) (λ p l h g. handed-bytes s (causes .0) H there bytes p);
+            delivered = every (λ S. S .own ≡ q → Every H n t (openers H s) (λ A. A .own ≢ q → A .bytes ≡ gave H n t (openers H s) S))
+                (λ i l h g e. every (λ A. A .own ≢ q → A .bytes ≡ gave H n t (openers H s) (opener H s i))
+                (λ p k j f d. handed-good s (causes .0) H p d (good-there i l h g e) ∙ sym (gave-is i e)));
+            apart = ap different owns ∙ apart s n 1;
+            bad = subst (λ (l : List ℕ). absent n 1 l ≤ t) (sym owns) (omega (arith, bad-count s, few-bad));
+          };
+          called = subst (λ (l : List Good). CalledAll H n t l z bit) (sym same-parties) (P .called);
+          ruled = subst (λ (l : List Good). Ruled H n t l z bit) (sym same-parties) (P .ruled);
+          delivered = λ b. subst (λ (l : List Good). DeliveredAll H n t l) (sym same-parties) (P .delivered b);
+          clean = subst (λ (l : List Good). Clean H n t l) (sym same-parties) clean;
+        }
+
+    figure-by : senderBytes + sent H n t good ≡ sentInAll H n t (openers H s)
+    figure-by =
+        ap₂ (λ (a b : ℕ). a + b)
+        (sym (sum-of s (opener H s) (λ (A : Opener). (n - 1) * length (gave H n t (openers H s) A)) (λ p. (n - 1) * length (givenBy H s p)) n 1
+        (λ p l h g. ap (λ (b : List ℕ). (n - 1) * length b) (given-is p l (omega arith)))))
+        (ap (sent H n t) (sym same-parties))
+      where
+        given-is : (p : ℕ) → 1 ≤ p → p ≤ n → gave H n t (openers H s) (opener H s p) ≡ givenBy H s p
+        given-is p l h = ?
+
   -- and all lines give one result: that of the theorem, as is the figure behind them
   pub record Lines (R : Result) : Type 0 where
     pub agreed : Conclusions H n t good bit R
     pub lines : (p : ℕ) → 1 ≤ p → p ≤ n → isGood s p ≡ true → endsWith H s p ≡ R
-    pub figure : sentFrom H s n 1 ≡ sent H n t good
-    pub prints : output H s ≡ linesOf s R n 1 ++ sentLine (sent H n t good)
+    pub figure : sentFrom H s n 1 ≡ senderBytes + sent H n t good
+    pub prints : output H s ≡ linesOf s R n 1 ++ sentLine (senderBytes + sent H n t good)
+    -- with no sender no other bytes are sent than those of agreement; with one it is broadcast's claim, and its sum
+    pub own-books : hasSender s ≡ false → senderBytes ≡ 0
+    pub by-sender : hasSender s ≡ true
+        → Settled H n t (openers H s) (senderIn s) bit R × (senderBytes + sent H n t good ≡ sentInAll H n t (openers H s))
 
   printed-lines : (R : Result) → ((p : ℕ) → 1 ≤ p → p ≤ n → isGood s p ≡ true → endsWith H s p ≡ R)
-      → output H s ≡ linesOf s R n 1 ++ sentLine (sent H n t good)
+      → output H s ≡ linesOf s R n 1 ++ sentLine (senderBytes + sent H n t good)
   unfolding output
   printed-lines R f = ap₂ (λ (l : List ℕ) (k : ℕ). l ++ sentLine k) (lines-same R f n 1 (omega arith) (omega arith)) sent-figure
 
+  lines-of : (R : Result) → Conclusions H n t good bit R → (hasSender s ≡ true → Settled H n t (openers H s) (senderIn s) bit R) → Lines R
+  lines-of R C by =
+      record {
+        agreed = C;
+        lines = line-of R C;
+        figure = sent-figure;
+        prints = printed-lines R (line-of R C);
+        own-books = none-sends;
+        by-sender = λ e. (by e, figure-by e);
+      }
+
   pub one-result : Clean H n t good → (R : Result) × Lines R
-  one-result clean =
-      let a = agreement H wide n t good z bit (premises clean) in (
-        a .0,
-        record {
-          agreed = a .1;
-          lines = line-of (a .0) (a .1);
-          figure = sent-figure;
-          prints = printed-lines (a .0) (line-of (a .0) (a .1));
-        },
-      )
+  one-result clean = go (way (hasSender s))
+    where
+      go : Way (hasSender s) → (R : Result) × Lines R
+      go (on e) =
+          let a = broadcast H wide n t (openers H s) (senderIn s) z bit (premises-by e clean) in
+          (a .0, lines-of (a .0) (subst (λ (l : List Good). Conclusions H n t l bit (a .0)) (same-parties e) (a .1 .agreed)) (λ w. a .1))
+      go (off e) =
+          let a = agreement H wide n t good z bit (premises clean) in
+          (a .0, lines-of (a .0) (a .1) (λ w. clash w e))
 
 -- at SHA-256
 pub one-result-sha256 : (s : List ℕ) (bytes : Bytes s) (ok : sessionCause sha256 s ≡ 0)

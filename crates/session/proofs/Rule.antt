@@ -23,16 +23,17 @@ use Rattle.party.specs.Steps.{openOf, rootCause, withRoot, gives, refused, agre
 use Rattle.party.specs.declared.Party.{Party}
 use Rattle.party.specs.declared.Answer.the-variants.{Happy}
 use Rattle.plan.specs.Layout.{mapWidth, names, member, unnamed, lowest, fieldAt, nIn, tIn, optionsIn, hasRoot, hasBit, rootIn, bitIn, goodAt, goodIn, booksIn}
-use Rattle.plan.specs.Layout.{exchangeAt, laidOut}
+use Rattle.plan.specs.Layout.{hasSender, senderIn, holders, behindBooks, exchangeAt, laidOut}
 use Rattle.plan.specs.Plan.{planCause, planOf, bookGiven}
 use Rattle.plan.specs.declared.Plan.{Plan}
 use Rattle.plan.proofs.Maps.{named}
 use Rattle.plan.proofs.Maps as maps
 use Rattle.plan.proofs.Given.{book-none, book-some}
 use Rattle.plan.proofs.Blocks.{entry-none}
-use Rattle.plan.proofs.Accepted.{accepted, books-inside, book-short}
-use Rattle.session.specs.Session.{isGood, messageOf, lowestGood, opened, agreedRoot, step2, agreedBit, sameRoots, sameBits, unlawful}
+use Rattle.plan.proofs.Accepted.{accepted, books-inside, sender-there}
+use Rattle.session.specs.Session.{isGood, bookOf, lowestGood, openedBySender, handedTo, opened, agreedRoot, step2, agreedBit, sameRoots, sameBits, unlawful}
 use Rattle.session.specs.Private.{Ready, ownBit}
+use Rattle.session.proofs.Openings.{book-fits}
 
 -- the parts of a plan that is taken
 pub record Known (s : List ℕ) (parts : Plan) : Type 0 where
@@ -40,13 +41,17 @@ pub record Known (s : List ℕ) (parts : Plan) : Type 0 where
   pub t-is : parts .t ≡ tIn s
   pub options-are : parts .options ≡ optionsIn s
   pub good-is : parts .good ≡ goodIn s
+  pub sender-is : parts .sender ≡ cond (hasSender s) (senderIn s) 0
+  pub holders-are : parts .holders ≡ holders s
   pub books-are : parts .books ≡ goodAt s + mapWidth
+  pub packets-are : parts .packets ≡ length s - length (behindBooks s)
   pub low : 1 ≤ nIn s
   pub high : nIn s ≤ maxParties
   pub faults : 2 * tIn s < nIn s
   pub laid : laidOut s ≡ true
   pub inside : goodAt s + mapWidth ≤ length s
-  pub short : (q : ℕ) → length (messageOf s q) ≤ maxMessage
+  pub sender-one : hasSender s ≡ true → (1 ≤ senderIn s) × (senderIn s ≤ nIn s)
+  pub short : (q : ℕ) → length (bookOf s q) ≤ maxMessage
 
 abbrev takenPlan : List ℕ → Plan
 takenPlan s =
@@ -55,8 +60,11 @@ takenPlan s =
       n = nIn s;
       t = tIn s;
       options = optionsIn s;
+      sender = cond (hasSender s) (senderIn s) 0;
       good = goodIn s;
+      holders = holders s;
       books = goodAt s + mapWidth;
+      packets = length s - length (behindBooks s);
       exchanges = exchangeAt 0 s;
     }
 
@@ -65,7 +73,6 @@ unfolding planOf
 plan-is s e = rw e
 
 pub known : (s : List ℕ) (parts : Plan) → Ready s parts → Known s parts
-unfolding messageOf
 known s parts r =
     let e : parts ≡ takenPlan s = r .read ∙ plan-is s (r .taken) in
     let a = accepted s (r .taken) in
@@ -75,13 +82,17 @@ known s parts r =
       t-is = ap (λ (x : Plan). x .t) e;
       options-are = ap (λ (x : Plan). x .options) e;
       good-is = ap (λ (x : Plan). x .good) e;
+      sender-is = ap (λ (x : Plan). x .sender) e;
+      holders-are = ap (λ (x : Plan). x .holders) e;
       books-are = ap (λ (x : Plan). x .books) e;
+      packets-are = ap (λ (x : Plan). x .packets) e;
       low = g .low;
       high = g .high;
       faults = g .faults;
       laid = a .laid;
       inside = books-inside s (a .laid);
-      short = λ q. book-short (nIn s) (goodIn s) q (booksIn s) (a .books-fit);
+      sender-one = sender-there s a;
+      short = book-fits s (r .taken);
     }
 
 -- what the code reads of such a plan is what the definitions say
@@ -104,51 +115,43 @@ module _ (s : List ℕ) (parts : Plan) (k : Known s parts) where
   pub field-is : (j x : ℕ) → x ≡ fieldAt (parts .options) j → x ≡ fieldAt (optionsIn s) j
   field-is j x e = e ∙ ap (λ (o : ℕ). fieldAt o j) (k .options-are)
 
-  pub open-is : (H : List ℕ → List ℕ) (q : ℕ) (m : List ℕ) → m ≡ messageOf s q → openOf H (parts .n) (parts .t) q m ≡ opened H s q
+  pub sender-number : hasSender s ≡ true → parts .sender ≡ senderIn s
+  sender-number h = k .sender-is ∙ ap (λ (b : Bool). cond b (senderIn s) 0) h
+
+  pub packets-room : parts .packets ≤ length s
+  packets-room = omega (arith, k .packets-are)
+
+  pub open-is : (H : List ℕ → List ℕ) (q : ℕ) (m : List ℕ) → hasSender s ≡ false → m ≡ bookOf s q
+      → openOf H (parts .n) (parts .t) q m ≡ opened H s q
   unfolding opened
-  open-is H q m e = rw (k .n-is, k .t-is, e)
+  open-is H q m none e = rw (k .n-is, k .t-is, e, none)
 
-  -- the answer for a book, in a buffer of the greatest length
-  module _ (q : ℕ) (out : List ℕ) (long : length out ≡ maxMessage) (r : Written) (o : List ℕ)
-      (e : gave r o ≡ bookGiven (parts .n) (parts .good) q (drop (parts .books) s) out) where
-    -- a good party has one, and another party none
-    given : member (nIn s) (goodIn s) q ≡ true → gave r o ≡ gave (Done (length (messageOf s q))) (spliced out 0 (messageOf s q))
-    unfolding messageOf
-    given good =
-        e ∙ rw (k .n-is, k .good-is, k .books-are)
-        (book-some (nIn s) (goodIn s) q (booksIn s) out (k .low) (k .high) good
-        ∙ written-done (messageOf s q) out (omega (arith, long, k .short q)))
+  pub open-by : (H : List ℕ → List ℕ) (q : ℕ) → hasSender s ≡ true → openedBySender H s q (handedTo H s q) .opened ≡ opened H s q
+  unfolding opened
+  open-by H q h = rw h
 
-    not-taken : member (nIn s) (goodIn s) q ≡ false → gave r o ≡ gave (Refused 3) out
-    not-taken bad = e ∙ rw (k .n-is, k .good-is, k .books-are) (book-none (nIn s) (goodIn s) q (booksIn s) out (k .low) (k .high) bad)
+  -- the answer for a book: a party whose book is listed has one, and another none
+  pub book-told : (q : ℕ) (out : List ℕ) → maxMessage ≤ length out → (r : Written) (o : List ℕ)
+      → gave r o ≡ bookGiven (parts .n) (parts .holders) q (drop (parts .books) s) out
+      → (valueOf r ≤ maxMessage) × (take (valueOf r) o ≡ bookOf s q)
+  unfolding bookOf
+  book-told q out long r o e = go (member (nIn s) (holders s) q) refl
+    where
+      b : List ℕ
+      b = bookOf s q
 
-    -- one that is given is the party's message
-    done : (l : ℕ) → r ≡ Done l → gave r o ≡ gave (Done (length (messageOf s q))) (spliced out 0 (messageOf s q))
-    done l h = go (member (nIn s) (goodIn s) q) refl
-      where
-        go : (b : Bool) → member (nIn s) (goodIn s) q ≡ b → gave r o ≡ gave (Done (length (messageOf s q))) (spliced out 0 (messageOf s q))
-        go true good = given good
-        go false bad = absurd (omega (arith, ap causeOf (sym h), ap (λ (g : Given). g .cause) (not-taken bad)))
-
-    pub book-room : (l : ℕ) → r ≡ Done l → l ≤ length o
-    book-room l h =
-        let size : l ≡ length (messageOf s q) = ap valueOf (sym h) ∙ ap (λ (g : Given). g .value) (done l h) in
-        let bytes : length o ≡ length (spliced out 0 (messageOf s q)) = ap (λ (g : Given). length (g .buffer)) (done l h) in
-        omega (arith, size, bytes, length-spliced out 0 (messageOf s q) (omega (arith, long, k .short q)), long, k .short q)
-
-    pub book-bytes : (l : ℕ) → r ≡ Done l → take l o ≡ messageOf s q
-    book-bytes l h =
-        ap₂ take (ap valueOf (sym h) ∙ ap (λ (g : Given). g .value) (done l h)) (ap (λ (g : Given). g .buffer) (done l h))
-        ∙ take-spliced out (messageOf s q)
-
-    -- where none is given, the party has no message
-    pub book-missing : ((l : ℕ) → r ≡ Done l → ⊥) → messageOf s q ≡ []
-    unfolding messageOf
-    book-missing never = go (member (nIn s) (goodIn s) q) refl
-      where
-        go : (b : Bool) → member (nIn s) (goodIn s) q ≡ b → messageOf s q ≡ []
-        go true good = absurd (never (length (messageOf s q)) (ap (λ (g : Given). g .answer) (given good)))
-        go false bad = entry-none (nIn s) (goodIn s) q (booksIn s) bad
+      go : (x : Bool) → member (nIn s) (holders s) q ≡ x → (valueOf r ≤ maxMessage) × (take (valueOf r) o ≡ bookOf s q)
+      go true there =
+          let g : gave r o ≡ gave (Done (length b)) (spliced out 0 b) =
+          e ∙ rw (k .n-is, k .holders-are, k .books-are)
+          (book-some (nIn s) (holders s) q (booksIn s) out (k .low) (k .high) there ∙ written-done b out (omega (arith, long, k .short q))) in
+          let v : valueOf r ≡ length b = ap (λ (x : Given). x .value) g in
+          (omega (arith, v, k .short q), ap₂ take v (ap (λ (x : Given). x .buffer) g) ∙ take-spliced out b)
+      go false none =
+          let g : gave r o ≡ gave (Refused 3) out =
+          e ∙ rw (k .n-is, k .holders-are, k .books-are) (book-none (nIn s) (holders s) q (booksIn s) out (k .low) (k .high) none) in
+          let v : valueOf r ≡ 0 = ap (λ (x : Given). x .value) g in
+          (omega (arith, v), ap (λ (i : ℕ). take i o) v ∙ sym (entry-none (nIn s) (holders s) q (booksIn s) none))
 
 -- the agreed root and bit: given, or the lowest-numbered good party's
 module _ (H : List ℕ → List ℕ) (s : List ℕ) where

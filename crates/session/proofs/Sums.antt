@@ -19,7 +19,7 @@ use Rattle.party.specs.declared.Party.{Party}
 use Rattle.agreement.specs.Calls.{lengths}
 use Rattle.plan.specs.Layout.{nIn, goodIn}
 use Rattle.exchange.specs.Exchange.{Slots}
-use Rattle.session.specs.Session.{isGood, maxOutbox, wroteIn, agreedBit, step3, step4, sentOf, sentFrom}
+use Rattle.session.specs.Session.{isGood, maxOutbox, wroteIn, agreedBit, step3, step4, sentLater, sentOf, sentFrom}
 use Rattle.session.specs.Private.{States, Relayed, Sizes}
 
 -- the bytes of n packets: of none, and of a list with no packet left
@@ -74,8 +74,8 @@ times-none false k x = refl
 
 module _ (H : List ℕ → List ℕ) (s : List ℕ) where
   pub sent-is : (p : ℕ) → lengths (bodies (nIn s) (wroteIn (step3 H s p)))
-      + (nIn s - 1) * cond (eqb (agreedBit H s) 0) 0 (length (wroteIn (step4 H s p))) ≡ sentOf H s p
-  unfolding sentOf
+      + (nIn s - 1) * cond (eqb (agreedBit H s) 0) 0 (length (wroteIn (step4 H s p))) ≡ sentLater H s p
+  unfolding sentLater
   sent-is p =
       ap (λ (k : ℕ). lengths (bodies (nIn s) (wroteIn (step3 H s p))) + k)
       (times-none (eqb (agreedBit H s) 0) (nIn s - 1) (length (wroteIn (step4 H s p))))

@@ -57,6 +57,11 @@ isGood s p = names (goodIn s) p
 unfoldable pub bookOf : List ℕ → ℕ → List ℕ
 bookOf s p = partyEntry (nIn s) (holders s) p (booksIn s)
 
+-- of k parties from p on, what f says of each good one
+unfoldable pub eachGood : {A : Type 0} → List ℕ → (ℕ → A) → ℕ → ℕ → List A
+eachGood s f zero p = []
+eachGood s f (suc k) p = cond (isGood s p) (f p ∷ eachGood s f k (p + 1)) (eachGood s f k (p + 1))
+
 abbrev pub lowestGood : List ℕ → ℕ
 lowestGood s = lowest (nIn s) 1 (goodIn s)
 
@@ -184,21 +189,13 @@ module _ (H : List ℕ → List ℕ) (s : List ℕ) where
   abbrev pub goodParty : ℕ → Good
   goodParty p = record { own = p; message = messageOf p; calls = callsOf p }
 
-  unfoldable pub goodFrom : ℕ → ℕ → List Good
-  goodFrom zero p = []
-  goodFrom (suc k) p = cond (isGood s p) (goodParty p ∷ goodFrom k (p + 1)) (goodFrom k (p + 1))
-
   abbrev pub goodParties : List Good
-  goodParties = goodFrom (nIn s) 1
+  goodParties = eachGood s goodParty (nIn s) 1
 
   -- the same where there is a sender, with what their openings were handed and lent
   abbrev pub opener : ℕ → Opener
   opener p =
       record { own = p; sender = senderIn s; bytes = handedTo p; out = replicate maxMessagePacket 0; calls = callsOf p }
 
-  unfoldable pub openersFrom : ℕ → ℕ → List Opener
-  openersFrom zero p = []
-  openersFrom (suc k) p = cond (isGood s p) (opener p ∷ openersFrom k (p + 1)) (openersFrom k (p + 1))
-
   abbrev pub openers : List Opener
-  openers = openersFrom (nIn s) 1
+  openers = eachGood s opener (nIn s) 1

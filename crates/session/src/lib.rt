@@ -19,7 +19,7 @@ ghost use Rattle.report.specs.Output.{line};
 ghost use Rattle.session.specs.Session.{maxOutbox, sentLength, wroteIn, orNothing, lineWith, wholeIn, isGood, bookOf, senderWrote, handedTo, givenBy};
 ghost use Rattle.session.specs.Session.{openedBySender, opened, agreedRoot, step2, agreedBit};
 ghost use Rattle.session.specs.Session.{sameRoots, sameBits, unlawful, step4};
-ghost use Rattle.session.specs.Session.{step5, endsWith, sentOf, linesFrom, sentFrom, output, rehearseOf, printOf};
+ghost use Rattle.session.specs.Session.{step5, endsWith, sentLater, sentOf, linesFrom, sentFrom, output, rehearseOf, printOf};
 ghost use Rattle.session.specs.Private.{Ready, Turned, stepFor, stateFor, States, Behind, inboxRoom, maxLine, maxText, Dealt, Relayed, Sizes, Finishing, messageLength, ownBit};
 use buffer::Written;
 use commitment::MAX_OUTBOX;
@@ -219,13 +219,31 @@ fn sent_all(bytes: &[u8], parts: Plan, boxes: &[u8], lens: &[usize], sizes: &[us
     while p < n {
         p += 1;
         if plan::names(parts.good, p) {
-            sum += sent_by(bytes, parts, boxes, lens, sizes, p);
+            sum += sent_in_all(bytes, parts, boxes, lens, sizes, p);
         }
     }
     sum
 }
 
-// The bytes that party q sent: as the sender its packet to all others, its packets, and its relay to all others.
+// The bytes that party q sent: as the sender its packet to all others, and what it sent from step 3 on.
+fn sent_in_all(
+    bytes: &[u8],
+    parts: Plan,
+    boxes: &[u8],
+    lens: &[usize],
+    sizes: &[usize],
+    q: usize,
+) -> usize
+    requires { ⌜ Ready (now bytes) parts × Dealt (now bytes) (now boxes) (now lens) × Sizes (now bytes) (now sizes)
+        × (1 ≤ q) × (q ≤ nIn (now bytes)) × (isGood (now bytes) q ≡ true) ⌝ }
+    ensures { λ r. ⌜ (r ≡ sentOf sha256 (now (bytes .entry)) q) × (r ≤ maxParties * maxMessagePacket + (maxOutbox + maxParties * maxOutbox)) ⌝ }
+{
+    let n = parts.n;
+    let first = (n - 1) * given(bytes, parts, q);
+    first + sent_by(bytes, parts, boxes, lens, sizes, q)
+}
+
+// The bytes that party q sent from step 3 on: its packets, and its relay to all others.
 fn sent_by(
     bytes: &[u8],
     parts: Plan,
@@ -236,15 +254,14 @@ fn sent_by(
 ) -> usize
     requires { ⌜ Ready (now bytes) parts × Dealt (now bytes) (now boxes) (now lens) × Sizes (now bytes) (now sizes)
         × (1 ≤ q) × (q ≤ nIn (now bytes)) × (isGood (now bytes) q ≡ true) ⌝ }
-    ensures { λ r. ⌜ (r ≡ sentOf sha256 (now (bytes .entry)) q) × (r ≤ maxParties * maxMessagePacket + maxOutbox + maxParties * maxOutbox) ⌝ }
+    ensures { λ r. ⌜ (r ≡ sentLater sha256 (now (bytes .entry)) q) × (r ≤ maxOutbox + maxParties * maxOutbox) ⌝ }
 {
     let n = parts.n;
     let j = q - 1;
     let from = j * MAX_OUTBOX;
     let end = from + lens[j];
     let relayed = (n - 1) * sizes[j];
-    let whole = (n - 1) * given(bytes, parts, q);
-    whole + packet_bytes(n, &boxes[from..end]) + relayed
+    packet_bytes(n, &boxes[from..end]) + relayed
 }
 
 // The bytes of an outbox's packets, without their lengths; of one that runs short, those that are there.
@@ -338,14 +355,14 @@ fn handed(bytes: &[u8], parts: Plan, q: usize, out: &mut [u8]) -> usize
         return book(bytes, parts, q, out);
     }
     if plan::names(parts.good, sender) {
-        return wrote(bytes, parts, out);
+        return sender_wrote(bytes, parts, out);
     }
     let at = parts.packets;
     buffer::value_of(plan::block(&bytes[at..], parts.n, q, out))
 }
 
 // The packet that the sender writes in its opening, at the start of out; its length.
-fn wrote(bytes: &[u8], parts: Plan, out: &mut [u8]) -> usize
+fn sender_wrote(bytes: &[u8], parts: Plan, out: &mut [u8]) -> usize
     requires { ⌜ Ready (now bytes) parts × (hasSender (now bytes) ≡ true) × (maxMessagePacket ≤ length (now out)) ⌝ }
     ensures { λ r. ⌜ (r ≤ maxMessagePacket) × (take r (now (out .exit)) ≡ senderWrote sha256 (now (bytes .entry))) ⌝ }
 {
@@ -367,7 +384,7 @@ fn given(bytes: &[u8], parts: Plan, q: usize) -> usize
     if plan::names(parts.options, SENDER) {
         if q == parts.sender {
             let mut packet = [0u8; MAX_MESSAGE_PACKET];
-            return wrote(bytes, parts, &mut packet);
+            return sender_wrote(bytes, parts, &mut packet);
         }
     }
     0

@@ -7,6 +7,7 @@ use native.Mathlib.Nat.{sub-zero}
 use native.Mathlib.Omega.{arith}
 use Rattle.limits.specs.Limits.{maxParties}
 use Rattle.sha256.specs.Sha256.{sha256}
+use Rattle.packet.specs.Message.{maxMessagePacket}
 use Rattle.plan.specs.Layout.{nIn}
 use Rattle.session.specs.Session.{isGood, maxOutbox, sentFrom}
 use Rattle.session.proofs.Rule.{Known, known, good-named}
@@ -17,7 +18,7 @@ use Rattle.session.proofs.sent_all.Tie as tie
 
 abbrev Inv-loop : tie.InvT-loop
 Inv-loop bytes parts boxes lens sizes n sum₀ p₀ sum p =
-    (p ≤ n) × (sum ≤ p * (maxOutbox + maxParties * maxOutbox))
+    (p ≤ n) × (sum ≤ p * (maxParties * maxMessagePacket + (maxOutbox + maxParties * maxOutbox)))
     × (sentFrom sha256 bytes (nIn bytes) 1 ≡ sum + sentFrom sha256 bytes (n - p) (p + 1))
 
 abbrev μ-loop : tie.MeasureT-loop
@@ -59,8 +60,8 @@ add-p c = search needs
 names-requires : tie.Need-names-requires Inv-loop μ-loop
 names-requires c κs = search needs
 
-sent-by-requires : tie.Need-sent-by-requires Inv-loop μ-loop
-sent-by-requires c κs =
+sent-in-all-requires : tie.Need-sent-in-all-requires Inv-loop μ-loop
+sent-in-all-requires c κs =
     let g = c .before in
     let l = g .before .before in
     let st = Entry l in
@@ -70,7 +71,7 @@ add-sum : tie.Need-add-sum Inv-loop μ-loop
 add-sum c =
     let l = c .before .before .before .before in
     let st = Entry l in
-    omega (arith, l .loop .inv .1, c .sent-by .ensures .1, plan st .n-is, plan st .high)
+    omega (arith, l .loop .inv .1, c .sent-in-all .ensures .1, plan st .n-is, plan st .high)
 
 loop-less : tie.Need-loop-less Inv-loop μ-loop
 loop-less c = search needs
@@ -81,7 +82,7 @@ loop-again c =
     let g = t .before in
     let l = g .before .before in
     let st = Entry l in
-    let w = c .sent-by .ensures in (
+    let w = c .sent-in-all .ensures in (
       omega arith,
       omega (arith, l .loop .inv .1, w .1),
       omega (
@@ -124,7 +125,7 @@ sent-all-spec =
     loop-holds
     add-p
     names-requires
-    sent-by-requires
+    sent-in-all-requires
     add-sum
     loop-less
     loop-again
