@@ -86,7 +86,7 @@ cleanOf-sound x y (w ∷ l) c h e = go (way (same (toy x) (toy w))) (way (same x
     go (off p) (on q) (inr k) r = r (rw p at c) k e
     go (off p) (off q) (inr k) r = r (rw p at c) k e
 
-clean-sound : (x y : List ℕ) (xs l : List (List ℕ)) → clean xs l ≡ true → List·Memᴰ x xs → List·Memᴰ y l → toy x ≡ toy y → x ≡ y
+pub clean-sound : (x y : List ℕ) (xs l : List (List ℕ)) → clean xs l ≡ true → List·Memᴰ x xs → List·Memᴰ y l → toy x ≡ toy y → x ≡ y
 unfolding clean
 clean-sound x y [] l c h k e = absurd (List·Memᴰ·not-nil h)
 clean-sound x y (w ∷ xs) l c h k e = go (way (cleanOf w l)) (List·Memᴰ·cases-cons h) (clean-sound x y xs l)
@@ -185,7 +185,7 @@ idle = Q2 ∷ Q3 ∷ []
 pub only : (A : Good) (P : Good → Type 0) → P A → (D : Good) → List·Memᴰ D (A ∷ []) → P D
 only A P a D h = subst P (sym (List·Memᴰ·eq-of-singleton h)) a
 
-pub each : (A B : Good) (P : Good → Type 0) → P A → P B → (D : Good) → List·Memᴰ D (A ∷ B ∷ []) → P D
+pub each : {X : Type 0} (A B : X) (P : X → Type 0) → P A → P B → (D : X) → List·Memᴰ D (A ∷ B ∷ []) → P D
 each A B P a b D h = go (List·Memᴰ·cases-cons h)
   where
     last : (D ≡ B) ⊎ List·Memᴰ D [] → P D

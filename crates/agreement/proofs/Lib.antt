@@ -12,3 +12,4 @@ pub mod AgreedRoot
 pub mod Instances
 pub mod Forged
 pub mod Broadcast
+pub mod Senders
