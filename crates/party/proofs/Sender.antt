@@ -142,11 +142,11 @@ module _ (n t own sender : ℕ) (bs : List ℕ) where
   pub packet-fits : senderCause n t own sender bs ≡ 0 → length (packetBy n own sender bs) ≤ maxMessagePacket
   packet-fits e = elim (ℕ-discrete own sender) [
     | yes q ↦ omega (
-        arith,
-        packet-short n own sender bs,
-        open-bounds n t own (length (messageBy own sender bs)) (cause-bounds e .0) .3,
-        ap length (sender-message own sender bs q),
-      )
+      arith,
+      packet-short n own sender bs,
+      open-bounds n t own (length (messageBy own sender bs)) (cause-bounds e .0) .3,
+      ap length (sender-message own sender bs q),
+    )
     | no d ↦ omega (arith, ap length (other-packet own sender bs n d))
   ]
 
@@ -199,3 +199,10 @@ module _ (n t own sender : ℕ) (bs : List ℕ) where
       accepted-wrote =
           let f = accepted-fits accepted in
           ap (λ (r : Begun). take (r .value) (r .buffer)) (begun-given (f .0) (f .1)) ∙ take-spliced out packet
+
+    -- whatever comes of it, no more is written than the buffer has, where it has room for any packet
+    pub value-fits : maxMessagePacket ≤ length out → openBySenderOf H n t own sender bs out .value ≤ maxMessagePacket
+    value-fits room = elim (ℕ-discrete (senderCause n t own sender bs) 0) [
+      | yes f ↦ let p = packet-fits f in omega (arith, ap (λ (r : Begun). r .value) (begun-given f (omega (arith, p, room))), p)
+      | no d ↦ omega (arith, ap (λ (r : Begun). r .value) (begun-refused d))
+    ]

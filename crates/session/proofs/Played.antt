@@ -20,6 +20,7 @@ use Rattle.limits.proofs.Group.{group-of}
 use Rattle.limits.proofs.Ranges.{numbered-within}
 use Rattle.packet.specs.Message.{maxMessagePacket}
 use Rattle.party.specs.Sender.{openBySenderOf}
+use Rattle.party.proofs.Sender.{other-packet, accepted-wrote}
 use Rattle.buffer.specs.Bounds.{Bytes}
 use Rattle.buffer.specs.Splice.{tabulate}
 use Rattle.buffer.specs.Entries.{fills, bodies}
@@ -649,6 +650,7 @@ module _ (H : List ℕ → List ℕ) (wide : (x : List ℕ) → length (H x) ≡
         }
 
     figure-by : senderBytes + sent H n t good ≡ sentInAll H n t (openers H s)
+    unfolding openedBySender
     figure-by =
         ap₂ (λ (a b : ℕ). a + b)
         (sym (sum-of s (opener H s) (λ (A : Opener). (n - 1) * length (gave H n t (openers H s) A)) (λ p. (n - 1) * length (givenBy H s p)) n 1
@@ -656,7 +658,11 @@ module _ (H : List ℕ → List ℕ) (wide : (x : List ℕ) → length (H x) ≡
         (ap (sent H n t) (sym same-parties))
       where
         given-is : (p : ℕ) → 1 ≤ p → p ≤ n → gave H n t (openers H s) (opener H s p) ≡ givenBy H s p
-        given-is p l h = ?
+        given-is p l h = elim (ℕ-discrete p q) [
+          | yes e ↦ gave-is p e ∙ sym (rw (there, eq-eqb p q e))
+          | no d ↦ accepted-wrote n t p q (handedTo H s p) H (replicate maxMessagePacket 0) (accepted-by p l h)
+              ∙ other-packet p q (handedTo H s p) n d ∙ sym (rw (there, ne-eqb p q d))
+        ]
 
   -- and all lines give one result: that of the theorem, as is the figure behind them
   pub record Lines (R : Result) : Type 0 where

@@ -8,9 +8,11 @@ use native.Mathlib.Decide.{ℕ-discrete}
 use native.Mathlib.Omega.{arith}
 use borrow.Author.Tests.{lt-ltb, le-ltb, eq-eqb, ne-eqb}
 use lib.Dec.{ltb, eqb}
-use lib.ListN.{length, take, drop}
-use Rattle.limits.specs.Limits.{maxParties, maxMessage}
+use lib.ListN.{length, take, drop, length-drop}
+use Rattle.limits.specs.Limits.{maxParties, maxMessage, maxPlan}
+use Rattle.limits.proofs.Ranges.{numbered-within}
 use Rattle.limits.proofs.Group.{group-of}
+use Rattle.buffer.specs.Entries.{size}
 use Rattle.buffer.specs.Splice.{spliced}
 use Rattle.buffer.specs.Given.{Given, gave, causeOf, valueOf}
 use Rattle.buffer.specs.declared.Written.{Written}
@@ -23,12 +25,14 @@ use Rattle.party.specs.Steps.{openOf, rootCause, withRoot, gives, refused, agre
 use Rattle.party.specs.declared.Party.{Party}
 use Rattle.party.specs.declared.Answer.the-variants.{Happy}
 use Rattle.plan.specs.Layout.{mapWidth, names, member, unnamed, lowest, fieldAt, nIn, tIn, optionsIn, hasRoot, hasBit, rootIn, bitIn, goodAt, goodIn, booksIn}
-use Rattle.plan.specs.Layout.{hasSender, senderIn, holders, behindBooks, exchangeAt, laidOut}
-use Rattle.plan.specs.Plan.{planCause, planOf, bookGiven}
+use Rattle.plan.specs.Layout.{hasSender, senderIn, goodSender, badSender, holders, behindBooks, blockEntry, senderPacket, exchangeAt, laidOut}
+use Rattle.plan.specs.Plan.{planCause, planOf, bookGiven, blockGiven}
 use Rattle.plan.specs.declared.Plan.{Plan}
 use Rattle.plan.proofs.Maps.{named}
 use Rattle.plan.proofs.Maps as maps
-use Rattle.plan.proofs.Given.{book-none, book-some}
+use Rattle.plan.proofs.Given.{book-none, book-some, block-given}
+use Rattle.plan.proofs.Tails.{behind-there, behind-short}
+use Rattle.plan.proofs.Packets.{entries-fit}
 use Rattle.plan.proofs.Blocks.{entry-none}
 use Rattle.plan.proofs.Accepted.{accepted, books-inside, sender-there}
 use Rattle.session.specs.Session.{isGood, bookOf, lowestGood, openedBySender, handedTo, opened, agreedRoot, step2, agreedBit, sameRoots, sameBits, unlawful}
@@ -48,6 +52,7 @@ pub record Known (s : List ℕ) (parts : Plan) : Type 0 where
   pub low : 1 ≤ nIn s
   pub high : nIn s ≤ maxParties
   pub faults : 2 * tIn s < nIn s
+  pub length-fits : length s ≤ maxPlan
   pub laid : laidOut s ≡ true
   pub inside : goodAt s + mapWidth ≤ length s
   pub sender-one : hasSender s ≡ true → (1 ≤ senderIn s) × (senderIn s ≤ nIn s)
@@ -89,6 +94,7 @@ known s parts r =
       low = g .low;
       high = g .high;
       faults = g .faults;
+      length-fits = a .length-fits;
       laid = a .laid;
       inside = books-inside s (a .laid);
       sender-one = sender-there s a;
@@ -129,6 +135,46 @@ module _ (s : List ℕ) (parts : Plan) (k : Known s parts) where
   pub open-by : (H : List ℕ → List ℕ) (q : ℕ) → hasSender s ≡ true → openedBySender H s q (handedTo H s q) .opened ≡ opened H s q
   unfolding opened
   open-by H q h = rw h
+
+  -- whether a sender is good, and what the plan says that a bad one sends
+  pub sender-good : hasSender s ≡ true → (b : Bool) → b ≡ names (parts .good) (parts .sender) → b ≡ goodSender s
+  sender-good h b e =
+      let r = k .sender-one h in
+      e ∙ ap₂ names (k .good-is) (sender-number h) ∙ sym (rw (h, numbered-within (nIn s) (senderIn s) (r .0) (r .1)))
+
+  pub block-told : hasSender s ≡ true → goodSender s ≡ false → (q : ℕ) (out : List ℕ) → maxPlan ≤ length out → (r : Written) (o : List ℕ)
+      → gave r o ≡ blockGiven (parts .n) q (drop (parts .packets) s) out
+      → (valueOf r ≤ length o) × (take (valueOf r) o ≡ senderPacket q s)
+  unfolding senderPacket
+  block-told h bad q out long r o e =
+      let x = blockEntry (nIn s) q (behindBooks s) in
+      let fits : length x ≤ length out =
+      omega (
+        arith,
+        long,
+        k .length-fits,
+        behind-short s,
+        length-drop mapWidth (behindBooks s),
+        entries-fit (nIn s) (size (behindBooks s)) q (drop mapWidth (behindBooks s)),
+      ) in
+      let g : gave r o ≡ gave (Done (length x)) (spliced out 0 x) =
+      e ∙ rw (k .n-is, k .packets-are, behind-there s)
+      (block-given (nIn s) q (behindBooks s) out (k .low) (k .high) ∙ written-done x out fits) in
+      let v : valueOf r ≡ length x = ap (λ (y : Given). y .value) g in
+      let b : o ≡ spliced out 0 x = ap (λ (y : Given). y .buffer) g in (
+        omega (arith, v, ap length b, length-spliced out 0 x (omega (arith, fits)), fits),
+        ap₂ take v b ∙ take-spliced out x ∙ sym (bad-block h bad),
+      )
+    where
+      bad-block : hasSender s ≡ true → goodSender s ≡ false
+          → cond (badSender s) (blockEntry (nIn s) q (behindBooks s)) [] ≡ blockEntry (nIn s) q (behindBooks s)
+      bad-block a b = go (hasSender s) (member (nIn s) (goodIn s) (senderIn s)) a b
+        where
+          go : (x y : Bool) → x ≡ true → x && y ≡ false
+              → cond (x && not y) (blockEntry (nIn s) q (behindBooks s)) [] ≡ blockEntry (nIn s) q (behindBooks s)
+          go true true e f = absurd (true≢false f)
+          go true false e f = refl
+          go false y e f = absurd (false≢true e)
 
   -- the answer for a book: a party whose book is listed has one, and another none
   pub book-told : (q : ℕ) (out : List ℕ) → maxMessage ≤ length out → (r : Written) (o : List ℕ)

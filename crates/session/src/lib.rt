@@ -6,7 +6,7 @@ ghost use Prim.Native.Nat.{_+_, _*_, _/_, _%_, _≤_, _<_};
 ghost use lib.Dec.{eqb};
 ghost use lib.ListN.{length, take, replicate};
 ghost use Rattle.sha256.specs.Sha256.{sha256};
-ghost use Rattle.limits.specs.Limits.{maxParties, maxMessage, maxEntry};
+ghost use Rattle.limits.specs.Limits.{maxParties, maxMessage, maxPlan};
 ghost use Rattle.buffer.specs.Splice.{spliced};
 ghost use Rattle.buffer.specs.Entries.{bodies};
 ghost use Rattle.buffer.specs.Given.{gave};
@@ -24,7 +24,6 @@ ghost use Rattle.session.specs.Private.{Ready, Turned, stepFor, stateFor
 use buffer::Written;
 use commitment::MAX_OUTBOX;
 use exchange::Mail;
-use limits::MAX_ENTRY;
 use limits::MAX_MESSAGE;
 use limits::MAX_PARTIES;
 use limits::MAX_PLAN;
@@ -338,7 +337,7 @@ fn opened_by_sender(bytes: &[u8], parts: Plan, q: usize) -> Opened
     requires { ⌜ Ready (now bytes) parts × (hasSender (now bytes) ≡ true) ⌝ }
     ensures { λ r. ⌜ r ≡ openedBySender sha256 (now (bytes .entry)) q (handedTo sha256 (now (bytes .entry)) q) .opened ⌝ }
 {
-    let mut room = blank_entry();
+    let mut room = blank_packet();
     let len = handed(bytes, parts, q, &mut room);
     let mut out = [0u8; MAX_MESSAGE_PACKET];
     let begun = Party::open_by_sender(parts.n, parts.t, q, parts.sender, &room[..len], &mut out);
@@ -347,7 +346,7 @@ fn opened_by_sender(bytes: &[u8], parts: Plan, q: usize) -> Opened
 
 // What party q's opening by the sender is handed, at the start of out; its length.
 fn handed(bytes: &[u8], parts: Plan, q: usize, out: &mut [u8]) -> usize
-    requires { ⌜ Ready (now bytes) parts × (hasSender (now bytes) ≡ true) × (length (now out) ≡ maxEntry) ⌝ }
+    requires { ⌜ Ready (now bytes) parts × (hasSender (now bytes) ≡ true) × (length (now out) ≡ maxPlan) ⌝ }
     ensures { λ r. ⌜ (r ≤ length (now (out .exit))) × (take r (now (out .exit)) ≡ handedTo sha256 (now (bytes .entry)) q) ⌝ }
 {
     let sender = parts.sender;
@@ -399,11 +398,11 @@ fn book(bytes: &[u8], parts: Plan, q: usize, out: &mut [u8]) -> usize
     buffer::value_of(plan::book(&bytes[from..], parts.n, parts.holders, q, out))
 }
 
-// Room for the longest entry, in a function of its own: its callers' proofs then meet its length and not its bytes.
-fn blank_entry() -> [u8; MAX_ENTRY]
-    ensures { λ r. ⌜ length r ≡ maxEntry ⌝ }
+// Room for a book or any packet of a plan, in a function of its own: its callers' proofs then meet its length and not its bytes.
+fn blank_packet() -> [u8; MAX_PLAN]
+    ensures { λ r. ⌜ length r ≡ maxPlan ⌝ }
 {
-    [0; MAX_ENTRY]
+    [0; MAX_PLAN]
 }
 
 // The given root, or that of the lowest-numbered good party.

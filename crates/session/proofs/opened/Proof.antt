@@ -1,18 +1,16 @@
--- `session::opened` meets its contract: a good party's book is within its limit, so it is given, and the party opens with it; another has none.
--- Assumes nothing.
+-- `session::opened` meets its contract: by the sender where there is one, and else with the book. Assumes nothing.
 use mathlib.Core.Path.{_≡_, sym, ap, _∙_}
-use mathlib.Core.List.{List, []}
-use Prim.Native.Nat.{ℕ, zero, _-_, _≤_}
+use mathlib.Core.Bool.{true, false}
+use mathlib.Core.List.{List}
+use Prim.Native.Nat.{ℕ, _≤_}
 use native.Mathlib.Omega.{arith}
-use lib.ListN.{length, take, drop, replicate, length-replicate, length-drop}
-use lib.Seq.{length-take-le, take-all}
+use lib.ListN.{length, take, length-replicate}
+use lib.Seq.{length-take-le}
 use Rattle.limits.specs.Limits.{maxMessage}
-use Rattle.buffer.specs.Given.{gave}
-use Rattle.commitment.proofs.Answers.{not-done}
-use Rattle.plan.specs.Plan.{bookGiven}
-use Rattle.session.proofs.Rule.{Known, known, books-room, open-is, book-missing, book-room, book-bytes}
-use borrow.Author.Needs.{needs}
 use Rattle.sha256.specs.Sha256.{sha256}
+use Rattle.plan.specs.Layout.{hasSender, senderOption}
+use Rattle.session.proofs.Rule.{Known, known, option-named, open-is, open-by}
+use borrow.Author.Needs.{needs}
 use Rattle.session.proofs.opened.Statement.{statement}
 use Rattle.session.proofs.opened.Tie as tie
 
@@ -22,48 +20,28 @@ S st = st .args .bytes .now
 plan : (st : tie.Start) → Known (S st) (st .args .parts)
 plan st = known (S st) (st .args .parts) (st .pre)
 
-room : (st : tie.Start) → st .args .parts .books ≤ length (S st)
-room st = books-room (S st) (st .args .parts) (plan st)
+abbrev Entry : tie.After-names → tie.Start
+Entry k = k .before .before
 
--- the call for the book: the function's entry, the buffer after it, and what it gave
-abbrev Entry : tie.After-book → tie.Start
-Entry d = d .before .before .before .before
+named : (k : tie.After-names) → let st = Entry k in k .names .result ≡ hasSender (S st)
+named k = let st = Entry k in option-named (S st) (st .args .parts) (plan st) senderOption (k .names .result) (k .names .ensures)
 
-abbrev O : tie.After-book → List ℕ
-O d = d .book .last .1 .1 .1 .1 .0
+-- the book has room
+inside : (b : tie.After-book) → b .book .result ≤ length (b .book .last .1 .1 .1 .0)
+inside b = omega (arith, b .book .ensures .0, b .book .kept .1 .1 .1 .0, length-replicate {A = ℕ} maxMessage 0)
 
-abbrev Zeros : List ℕ
-Zeros = replicate maxMessage 0
+names-requires : tie.Need-names-requires
+names-requires c κs = search needs
 
-gives : (d : tie.After-book) → let a = Entry d .args in
-    gave (d .book .result) (O d) ≡ bookGiven (a .parts .n) (a .parts .good) (a .q) (drop (a .parts .books) (S (Entry d))) Zeros
-gives d =
-    let st = Entry d in
-    let a = st .args in
-    let from = a .parts .books in
-    d .book .ensures
-    ∙ ap (λ (l : List ℕ). bookGiven (a .parts .n) (a .parts .good) (a .q) l Zeros)
-    (take-all (length (S st) - from) (drop from (S st)) (omega (arith, length-drop from (S st))))
+opened-by-sender-requires : tie.Need-opened-by-sender-requires
+opened-by-sender-requires c κs = let k = c .before in (Entry k .pre, sym (named k) ∙ c .if1 .taken)
 
--- it gave as many bytes as the book has
-abbrev Len : tie.After-len → ℕ
-Len k = k .len .given .0 .0
-
-inside : (k : tie.After-len) → let d = k .before .before .before in Len k ≤ length (O d)
-inside k =
-    let d = k .before .before .before in
-    let st = Entry d in
-    book-room (S st) (st .args .parts) (plan st) (st .args .q) Zeros (length-replicate maxMessage zero) (d .book .result) (O d) (gives d)
-    (Len k) (k .len .given .1)
-
-sub-book : tie.Need-sub-book
-sub-book c = omega (arith, room (c .before))
-
-part-book-start : tie.Need-part-book-start
-part-book-start c = omega (arith, room (c .before))
-
-part-book-end : tie.Need-part-book-end
-part-book-end c = search needs
+returns : tie.Need-returns
+returns c =
+    let t = c .before in
+    let k = t .before in
+    let st = Entry k in
+    c .opened-by-sender .ensures ∙ open-by (S st) (st .args .parts) (plan st) sha256 (st .args .q) (sym (named k) ∙ t .if1 .taken)
 
 slice-aggregate-book : tie.Need-slice-aggregate-book
 slice-aggregate-book c = search needs
@@ -71,60 +49,34 @@ slice-aggregate-book c = search needs
 book-requires : tie.Need-book-requires
 book-requires c κs = search needs
 
-enum-known-len : tie.Need-enum-known-len
-enum-known-len c = search needs
+array-share-prefix-message : tie.Need-array-share-prefix-message
+array-share-prefix-message c = search needs
 
 slice-aggregate-open : tie.Need-slice-aggregate-open
-slice-aggregate-open c = search needs
+slice-aggregate-open c = let b = c .before .before in sym (length-take-le (b .book .result) _ (inside b))
 
 open-requires : tie.Need-open-requires
 open-requires c κs = search needs
 
-returns : tie.Need-returns
-returns c =
-    let e = c .before .before in
-    let d = e .before .before in
-    let st = Entry d in
-    c .open .ensures
-    ∙ open-is (S st) (st .args .parts) (plan st) sha256 (st .args .q) []
-    (sym (book-missing (S st) (st .args .parts) (plan st) (st .args .q) Zeros (length-replicate maxMessage zero) (d .book .result) (O d) (gives d)
-    (λ l h. not-done (d .book .result) l h (e .match .keys2))))
-
-array-share-prefix-message : tie.Need-array-share-prefix-message
-array-share-prefix-message c = inside (c .before)
-
-slice-aggregate-open-2 : tie.Need-slice-aggregate-open-2
-slice-aggregate-open-2 c =
-    let k = c .before .before in
-    sym (length-take-le (Len k) (O (k .before .before .before)) (inside k))
-
-open-requires-2 : tie.Need-open-requires-2
-open-requires-2 c κs = search needs
-
 returns-2 : tie.Need-returns-2
 returns-2 c =
-    let k = c .before .before .before in
-    let d = k .before .before .before in
-    let st = Entry d in
-    c .open2 .ensures
-    ∙ open-is (S st) (st .args .parts) (plan st) sha256 (st .args .q) (take (Len k) (O d))
-    (book-bytes (S st) (st .args .parts) (plan st) (st .args .q) Zeros (length-replicate maxMessage zero) (d .book .result) (O d) (gives d)
-    (Len k) (k .len .given .1))
+    let b = c .before .before .before in
+    let e = b .before .before in
+    let k = e .before in
+    let st = Entry k in
+    c .open .ensures
+    ∙ open-is (S st) (st .args .parts) (plan st) sha256 (st .args .q) _ (sym (named k) ∙ e .if1 .left) (b .book .ensures .1)
 
 pub opened-spec : {M : Type 1} → statement M
 opened-spec =
     tie.close
     (tie.spec
-    sub-book
-    part-book-start
-    part-book-end
+    names-requires
+    opened-by-sender-requires
+    returns
     slice-aggregate-book
     book-requires
-    enum-known-len
+    array-share-prefix-message
     slice-aggregate-open
     open-requires
-    returns
-    array-share-prefix-message
-    slice-aggregate-open-2
-    open-requires-2
     returns-2)
