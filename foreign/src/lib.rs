@@ -9,6 +9,7 @@ pub mod field;
 pub mod inbox;
 pub mod liars;
 pub mod limits;
+pub mod message_packet;
 pub mod packet;
 pub mod party;
 pub mod plans;

@@ -1,6 +1,7 @@
 //! The greatest numbers, each once, and what follows from them. All other code here and in `words`
 //! cites these; `tests/limits.rs` holds them to those of the proved crate `limits`.
 
+use crate::message_packet;
 use crate::packet::HEADER;
 use crate::sha256::Hash;
 
@@ -34,6 +35,9 @@ pub const LONGEST_SHARE: usize = LONGEST_MESSAGE + 2;
 
 /// The greatest length of a packet.
 pub const LONGEST_PACKET: usize = HEADER + LONGEST_SHARE + MOST_HASHES * size_of::<Hash>();
+
+/// The greatest length of a packet with a whole message.
+pub const LONGEST_MESSAGE_PACKET: usize = message_packet::HEADER + LONGEST_MESSAGE;
 
 /// Room for all shares of a message, which are fewer than 2·b and have together less than twice the
 /// bytes of the longest frame with its zeros.

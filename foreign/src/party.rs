@@ -1,10 +1,11 @@
-//! One party: its state, its opening and steps 2 to 5. A step takes the state apart into
-//! lawful values, works on those, and builds the next state anew.
+//! One party: its state, its opening, with a message of its own or by a sender, and steps 2 to 5. A
+//! step takes the state apart into lawful values, works on those, and builds the next state anew.
 
 use crate::coder::{find_message, frame_of, shares_of};
 use crate::commitment;
 use crate::inbox::{entries, lay_out};
 use crate::limits::{LONGEST_MESSAGE, LONGEST_SHARE, MOST_PARTIES};
+use crate::message_packet;
 use crate::packet::{self, classify, Standing};
 use crate::sha256::Hash;
 use crate::tree;
@@ -56,6 +57,14 @@ pub struct State {
 pub struct Refusal {
     pub cause: u32,
     pub needed: usize,
+}
+
+/// What an opening by a sender answers: the root that goes to the agreement, and how many bytes were
+/// written for the other parties.
+#[derive(Clone, Copy, Debug, PartialEq, Eq)]
+pub struct Begun {
+    pub root: Hash,
+    pub written: usize,
 }
 
 /// What a step gives back: the next state, and its answer or a refusal.
@@ -144,6 +153,38 @@ impl State {
         match opened {
             Ok(party) => (party.awaiting(Stage::Root), Ok(party.own_root())),
             Err(cause) => (State::blank(), Err(cause.into())),
+        }
+    }
+
+    /// Step 1 where one party alone, the sender, has a message. It is handed that, and writes the
+    /// packet which goes to all others. Each of these is handed the packet that came, and opens with
+    /// the empty message where it reads none.
+    pub fn open_by_sender(
+        (n, t): (u64, u64),
+        own: u64,
+        sender: u64,
+        bytes: &[u8],
+        out: &mut [u8],
+    ) -> Given<Begun> {
+        let message = match (own == sender, message_packet::read(bytes)) {
+            (true, _) => bytes.to_vec(),
+            (false, message_packet::Reading::Message(message)) => message,
+            (false, _) => Vec::new(),
+        };
+        let numbers = group(n, t, own).and_then(|_| group(n, t, sender));
+        let (state, opened) = State::open(n, t, own, &message);
+        let begun = numbers.map_err(Refusal::from).and_then(|_| {
+            let root = opened?;
+            let packet = match own == sender && n > 1 {
+                true => message_packet::write(&message),
+                false => Vec::new(),
+            };
+            let written = place(&packet, out)?;
+            Ok(Begun { root, written })
+        });
+        match begun {
+            Ok(_) => (state, begun),
+            Err(_) => (State::blank(), begun),
         }
     }
 
@@ -540,6 +581,99 @@ mod tests {
             assert_eq!(given.0, State::blank());
             assert_eq!(cause(given), want, "n {n}, t {t}, own {own}");
         }
+    }
+
+    /// What the ordinary opening with this message gives, and so many bytes written.
+    fn like_the_ordinary(
+        (n, t): (u64, u64),
+        own: u64,
+        message: &[u8],
+        written: usize,
+    ) -> Given<Begun> {
+        let (state, root) = State::open(n, t, own, message);
+        (state, root.map(|root| Begun { root, written }))
+    }
+
+    #[test]
+    fn a_sender_opens_with_its_message_and_the_others_with_its_packet() {
+        let group = (3, 1);
+        for message in [&b""[..], b"A", b"AB", &[7; LONGEST_MESSAGE]] {
+            let packet = [&[8][..], &lay_out(&[message])].concat();
+            let mut out = vec![LENT; packet.len() + 2];
+            let given = State::open_by_sender(group, 2, 2, message, &mut out);
+            assert_eq!(given, like_the_ordinary(group, 2, message, packet.len()));
+            assert_eq!(out, [&packet[..], &[LENT; 2]].concat());
+            for own in [1, 3] {
+                let given = State::open_by_sender(group, own, 2, &packet, &mut []);
+                assert_eq!(given, like_the_ordinary(group, own, message, 0));
+            }
+        }
+        let mut out = [LENT; 9];
+        let alone = State::open_by_sender((1, 0), 1, 1, b"AB", &mut out);
+        assert_eq!(alone, like_the_ordinary((1, 0), 1, b"AB", 0));
+        let alone = State::open_by_sender((1, 0), 1, 1, b"AB", &mut []);
+        assert_eq!(alone, like_the_ordinary((1, 0), 1, b"AB", 0));
+        assert_eq!(out, [LENT; 9]);
+    }
+
+    #[test]
+    fn what_is_not_read_is_the_empty_message() {
+        let long = [&[8][..], &lay_out(&[[7; LONGEST_MESSAGE + 1]])].concat();
+        let share = Sharing::of(3, 1, b"AB").packet(2);
+        let came: [&[u8]; 10] = [
+            &[],
+            &[0],
+            &[0, 0],
+            &[8],
+            &[8, 0, 0],
+            &[8, 0, 2, 65],
+            &[8, 0, 1, 65, 66],
+            &[255; 70_000],
+            &long,
+            &share,
+        ];
+        for bytes in came {
+            let mut out = [LENT; 5];
+            let given = State::open_by_sender((3, 1), 2, 1, bytes, &mut out);
+            assert_eq!(given, like_the_ordinary((3, 1), 2, b"", 0));
+            assert_eq!(out, [LENT; 5]);
+        }
+    }
+
+    #[test]
+    fn an_opening_by_a_sender_is_refused_by_its_lowest_cause() {
+        let long = vec![7; LONGEST_MESSAGE + 1];
+        let (most, half) = (MOST_PARTIES as u64, MOST_FAULTS as u64);
+        let mut out = [LENT; 4];
+        for (n, t, own, sender, want) in [
+            (0, 0, 0, 0, (1, 0)),
+            (most + 1, half + 2, most + 2, most + 2, (1, 0)),
+            (u64::MAX, 0, 1, 1, (1, 0)),
+            (most, half + 1, most + 1, 0, (2, 0)),
+            (1, 1 << 63, 0, 0, (2, 0)),
+            (most, half, most + 1, most + 1, (3, 0)),
+            (most, half, most + 1, 1, (3, 0)),
+            (most, half, 0, 0, (3, 0)),
+            (most, half, 1, most + 1, (3, 0)),
+            (most, half, 1, 0, (3, 0)),
+            (most, half, 1, u64::MAX, (3, 0)),
+            (most, half, most, most, (4, 0)),
+            (1, 0, 1, 1, (4, 0)),
+        ] {
+            let given = State::open_by_sender((n, t), own, sender, &long, &mut out);
+            assert_eq!(given.0, State::blank());
+            assert_eq!(
+                short(given),
+                want,
+                "n {n}, t {t}, own {own}, sender {sender}"
+            );
+        }
+        for (bytes, needed) in [(&b"AB"[..], 5), (&long[1..], 3 + LONGEST_MESSAGE)] {
+            let given = State::open_by_sender((2, 0), 2, 2, bytes, &mut out);
+            assert_eq!(given.0, State::blank());
+            assert_eq!(short(given), (9, needed));
+        }
+        assert_eq!(out, [LENT; 4]);
     }
 
     #[test]
