@@ -2,30 +2,59 @@
 //! send, and tells how each good party ended and how many bytes they sent. A plan is read
 //! to its end, then judged, then played by the steps of party.rs; it can also be played whatever
 //! is judged of it. What was seen on the way is kept for whoever explains a session.
+//!
+//! In a plan with a sender that party alone has a message, which it gives to all others before they
+//! open.
+
+#[cfg(test)]
+mod senders;
+
+use std::collections::BTreeMap;
 
 use crate::inbox::{entries, lay_out};
-use crate::limits::{LONGEST_MESSAGE, LONGEST_OUTBOX, LONGEST_PLAN, MOST_NAMED, MOST_PARTIES};
+use crate::limits::{LONGEST_MESSAGE, LONGEST_MESSAGE_PACKET, LONGEST_OUTBOX, LONGEST_PLAN};
+use crate::limits::{MOST_NAMED, MOST_PARTIES};
 use crate::party::{Given, Outcome, Rebuilt, Stage, State};
 use crate::sha256::{hex, Hash};
 
-/// The option that a root is given, and the option that a bit is.
+/// The option that a root is given, the option that a bit is, and the one that a sender is named.
 pub const ROOT_GIVEN: u8 = 1;
 pub const BIT_GIVEN: u8 = 2;
+pub const SENDER_GIVEN: u8 = 4;
 
-/// What is sent in one exchange: for each sender a row, in it for each receiver a packet, or
-/// none where nothing is sent.
-pub type Exchange = Vec<Vec<Option<Vec<u8>>>>;
+/// What one party sends in one exchange: for each receiver a packet, or none where nothing is sent.
+pub type Row = Vec<Option<Vec<u8>>>;
 
-/// A plan that is well laid out, with the good parties' numbers upward and their messages.
+/// What is sent in one exchange: for each sender a row.
+pub type Exchange = Vec<Row>;
+
+/// A plan that is well laid out, with the good parties' numbers upward, and by number the messages
+/// that are listed: of all good parties, or where there is a sender its own, if it is good.
 pub struct Plan {
     pub n: usize,
     pub t: usize,
     pub root: Option<Hash>,
     pub bit: Option<u8>,
+    pub sender: Option<Sender>,
     pub good: Vec<usize>,
-    pub messages: Vec<Vec<u8>>,
+    pub messages: BTreeMap<usize, Vec<u8>>,
     pub first: Exchange,
     pub second: Exchange,
+}
+
+/// The party that alone has a message, by the number that the plan gives, which may be none of the n
+/// parties', and what it sends before the others open.
+pub struct Sender {
+    pub number: usize,
+    pub row: Row,
+}
+
+/// An exchange: that of the sender, and the two of every session.
+#[derive(Clone, Copy, Debug, PartialEq, Eq)]
+pub enum Round {
+    Sender,
+    First,
+    Second,
 }
 
 /// Why a plan is refused.
@@ -35,6 +64,8 @@ pub enum Fault {
     Limit,
     TooLong,
     Layout(Misfit),
+    /// The sender's number, which no party has.
+    NoSender(usize),
     /// The party whose message is too long.
     LongMessage(usize),
     TooManyBad,
@@ -48,6 +79,7 @@ impl Fault {
         match self {
             Fault::Parties => 1,
             Fault::Limit => 2,
+            Fault::NoSender(_) => 3,
             Fault::LongMessage(_) => 4,
             Fault::TooLong | Fault::Layout(_) => 13,
             Fault::TooManyBad | Fault::BitAbove | Fault::RootAgainst | Fault::BitAgainst => 14,
@@ -64,21 +96,22 @@ pub struct Misfit {
     pub missing: usize,
 }
 
-/// A part of a plan. Exchanges are 0 and 1.
+/// A part of a plan.
 #[derive(Clone, Copy, Debug, PartialEq, Eq)]
 pub enum Part {
     Head,
     Options,
     Root,
     Bit,
+    Sender,
     Good,
     Message(usize),
     Receivers {
-        exchange: usize,
+        round: Round,
         sender: usize,
     },
     Packet {
-        exchange: usize,
+        round: Round,
         sender: usize,
         receiver: usize,
     },
@@ -90,6 +123,8 @@ pub enum Part {
 pub struct Session {
     /// The plan, its exchanges completed with what the good parties sent.
     pub plan: Plan,
+    /// The messages that the parties opened with.
+    pub messages: Vec<Vec<u8>>,
     pub roots: Vec<Hash>,
     pub root: Hash,
     pub bits: Vec<u8>,
@@ -150,16 +185,21 @@ impl Session {
         text + &format!("sent {sent}\n")
     }
 
-    /// The packets' bytes in the rows of the good parties, exchange by exchange.
-    pub fn bytes_sent(&self) -> [usize; 2] {
-        [&self.plan.first, &self.plan.second].map(|exchange| {
+    /// The packets' bytes in the rows of the good parties, exchange by exchange: the sender's, the
+    /// first and the second.
+    pub fn bytes_sent(&self) -> [usize; 3] {
+        let bytes = |row: &Row| row.iter().flatten().map(Vec::len).sum::<usize>();
+        let [first, second] = [&self.plan.first, &self.plan.second].map(|exchange| {
             let rows = self.plan.good.iter().map(|own| &exchange[own - 1]);
-            rows.flatten().flatten().map(Vec::len).sum()
-        })
+            rows.map(bytes).sum()
+        });
+        let sender = self.plan.sender.as_ref();
+        let good = sender.filter(|it| self.plan.good.contains(&it.number));
+        [good.map_or(0, |it| bytes(&it.row)), first, second]
     }
 }
 
-/// The plan, or the first cause in the order 13 for under two bytes, 1, 2, 13, 4.
+/// The plan, or the first cause in the order 13 for under two bytes, 1, 2, 13, 3, 4.
 fn formed(bytes: &[u8]) -> Result<Plan, Fault> {
     let &[n, t, ..] = bytes else {
         return read(bytes).map_err(Fault::Layout);
@@ -175,8 +215,12 @@ fn formed(bytes: &[u8]) -> Result<Plan, Fault> {
         return Err(Fault::TooLong);
     }
     let plan = read(bytes).map_err(Fault::Layout)?;
-    let mut books = plan.good.iter().zip(&plan.messages);
-    if let Some((&party, _)) = books.find(|it| it.1.len() > LONGEST_MESSAGE) {
+    let mut sender = plan.sender.iter().map(|sender| sender.number);
+    if let Some(number) = sender.find(|number| !(1..=n).contains(number)) {
+        return Err(Fault::NoSender(number));
+    }
+    let mut messages = plan.messages.iter();
+    if let Some((&party, _)) = messages.find(|it| it.1.len() > LONGEST_MESSAGE) {
         return Err(Fault::LongMessage(party));
     }
     Ok(plan)
@@ -235,33 +279,31 @@ impl<'a> Rest<'a> {
     fn plan(&mut self) -> Option<Plan> {
         let (n, t) = (self.one()?.into(), self.one()?.into());
         let options = self.part(Part::Options).one()?;
-        if options & !(ROOT_GIVEN | BIT_GIVEN) != 0 {
+        if options & !(ROOT_GIVEN | BIT_GIVEN | SENDER_GIVEN) != 0 {
             return None;
         }
-        let root = match options & ROOT_GIVEN {
-            0 => None,
-            _ => Some(self.part(Part::Root).root()?),
-        };
-        let bit = match options & BIT_GIVEN {
-            0 => None,
-            _ => Some(self.part(Part::Bit).one()?),
-        };
+        let root = self.optional(options & ROOT_GIVEN, Part::Root, Self::root)?;
+        let bit = self.optional(options & BIT_GIVEN, Part::Bit, Self::one)?;
+        let sender = self.optional(options & SENDER_GIVEN, Part::Sender, Self::one)?;
         let good = self.part(Part::Good).parties()?;
         if good.iter().any(|&party| party > n) {
             return None;
         }
-        let messages = good
-            .iter()
-            .map(|&party| self.part(Part::Message(party)).counted());
-        let messages = messages.collect::<Option<_>>()?;
-        let first = self.exchange(0, n, &good)?;
-        let second = self.exchange(1, n, &good)?;
+        let sender = sender.map(usize::from);
+        let messages = self.messages(&good, sender)?;
+        let sender = match sender {
+            Some(number) => Some(self.sender(number, n, &good)?),
+            None => None,
+        };
+        let first = self.exchange(Round::First, n, &good)?;
+        let second = self.exchange(Round::Second, n, &good)?;
         self.part(Part::End).take(0)?;
         self.bytes.is_empty().then_some(Plan {
             n,
             t,
             root,
             bit,
+            sender,
             good,
             messages,
             first,
@@ -281,6 +323,19 @@ impl<'a> Rest<'a> {
         let (taken, behind) = self.bytes.split_at_checked(length)?;
         self.bytes = behind;
         Some(taken)
+    }
+
+    /// The field of an option, if that is given.
+    fn optional<T>(
+        &mut self,
+        given: u8,
+        part: Part,
+        field: fn(&mut Self) -> Option<T>,
+    ) -> Option<Option<T>> {
+        match given {
+            0 => Some(None),
+            _ => Some(Some(field(self.part(part))?)),
+        }
     }
 
     fn one(&mut self) -> Option<u8> {
@@ -309,42 +364,69 @@ impl<'a> Rest<'a> {
         Some(named.collect())
     }
 
-    /// What the bad parties send in one exchange; the rows of the good ones stay empty. Only
-    /// good parties are receivers.
-    fn exchange(&mut self, exchange: usize, n: usize, good: &[usize]) -> Option<Exchange> {
-        let mut rows = vec![vec![None; n]; n];
-        for sender in (1..=n).filter(|party| !good.contains(party)) {
-            let receivers = self.part(Part::Receivers { exchange, sender }).parties()?;
-            if receivers.iter().any(|receiver| !good.contains(receiver)) {
-                return None;
-            }
-            for receiver in receivers {
-                let part = Part::Packet {
-                    exchange,
-                    sender,
-                    receiver,
-                };
-                rows[sender - 1][receiver - 1] = Some(self.part(part).counted()?);
-            }
+    /// The messages of the good parties, or that of a good sender alone.
+    fn messages(
+        &mut self,
+        good: &[usize],
+        sender: Option<usize>,
+    ) -> Option<BTreeMap<usize, Vec<u8>>> {
+        let listed = |party: &usize| sender.is_none_or(|number| number == *party);
+        let parties = good.iter().copied().filter(listed);
+        parties
+            .map(|party| Some((party, self.part(Part::Message(party)).counted()?)))
+            .collect()
+    }
+
+    /// The sender with the packets that it sends if it is bad; those of a good one the plan does not
+    /// tell. A number that no party has counts as bad.
+    fn sender(&mut self, number: usize, n: usize, good: &[usize]) -> Option<Sender> {
+        let row = match good.contains(&number) {
+            true => vec![None; n],
+            false => self.block((Round::Sender, number), n, good)?,
+        };
+        Some(Sender { number, row })
+    }
+
+    /// What the bad parties send in one exchange; the rows of the good ones stay empty.
+    fn exchange(&mut self, round: Round, n: usize, good: &[usize]) -> Option<Exchange> {
+        let row = |sender| match good.contains(&sender) {
+            true => Some(vec![None; n]),
+            false => self.block((round, sender), n, good),
+        };
+        (1..=n).map(row).collect()
+    }
+
+    /// What one bad party sends in one exchange. Only good parties are receivers.
+    fn block(&mut self, (round, sender): (Round, usize), n: usize, good: &[usize]) -> Option<Row> {
+        let receivers = self.part(Part::Receivers { round, sender }).parties()?;
+        if receivers.iter().any(|receiver| !good.contains(receiver)) {
+            return None;
         }
-        Some(rows)
+        let mut row = vec![None; n];
+        for receiver in receivers {
+            let part = Part::Packet {
+                round,
+                sender,
+                receiver,
+            };
+            row[receiver - 1] = Some(self.part(part).counted()?);
+        }
+        Some(row)
     }
 }
 
 /// Steps 1 and 2: the good parties with the session as far as both short agreements, each of
 /// which gives the plan's value, or else the lowest party's.
-fn agreed(plan: Plan) -> Option<(Vec<State>, Session)> {
-    let (n, t) = (plan.n as u64, plan.t as u64);
-    let books = plan.good.iter().zip(&plan.messages).collect();
-    let (states, roots) = each(books, |(&own, message)| {
-        State::open(n, t, own as u64, message)
-    })?;
+fn agreed(mut plan: Plan) -> Option<(Vec<State>, Session)> {
+    let (states, roots) = opened(&mut plan)?;
+    let messages = states.iter().map(message).collect();
     let root = plan.root.unwrap_or(*roots.first()?);
     let (states, happy) = each(states, |state| state.agree_root(&root))?;
     let bits: Vec<u8> = happy.into_iter().map(u8::from).collect();
     let bit = plan.bit.unwrap_or(*bits.first()?);
     let session = Session {
         plan,
+        messages,
         roots,
         root,
         bits,
@@ -353,6 +435,39 @@ fn agreed(plan: Plan) -> Option<(Vec<State>, Session)> {
         results: Vec::new(),
     };
     Some((states, session))
+}
+
+/// Step 1 of each good party: with its message, or by the sender, of which a good one hands its packet
+/// to all others first.
+fn opened(plan: &mut Plan) -> Option<(Vec<State>, Vec<Hash>)> {
+    let (n, t) = (plan.n as u64, plan.t as u64);
+    let Some(sender) = &mut plan.sender else {
+        let books = plan.messages.iter().collect();
+        return each(books, |(&own, message)| {
+            State::open(n, t, own as u64, message)
+        });
+    };
+    let number = sender.number;
+    let open = |own: usize, bytes: &[u8], out: &mut [u8]| {
+        State::open_by_sender((n, t), own as u64, number as u64, bytes, out)
+    };
+    let own_message = plan.messages.get(&number).map(Vec::as_slice);
+    if let Some(message) = own_message {
+        let mut out = [0; LONGEST_MESSAGE_PACKET];
+        let begun = open(number, message, &mut out).1.ok()?;
+        sender.row = to_all_others(plan.n, number, &out[..begun.written]);
+    }
+    let came = |own: usize| sender.row[own - 1].as_deref().unwrap_or_default();
+    each(plan.good.clone(), |own| {
+        let bytes = own_message.filter(|_| own == number).unwrap_or(came(own));
+        let (state, begun) = open(own, bytes, &mut [0; LONGEST_MESSAGE_PACKET]);
+        (state, begun.map(|it| it.root))
+    })
+}
+
+/// The message of a state that was opened.
+fn message(state: &State) -> Vec<u8> {
+    state.message[..state.len as usize].to_vec()
 }
 
 /// Step 3 and, on bit 1, steps 4 and 5: the session to its end.
@@ -428,11 +543,11 @@ fn sent(packet: &[u8]) -> Option<Vec<u8>> {
     (!packet.is_empty()).then(|| packet.to_vec())
 }
 
-/// A sender's row in the second exchange.
-fn to_all_others(n: usize, own: usize, relay: &[u8]) -> Vec<Option<Vec<u8>>> {
+/// The row of a party that writes one packet for all others, a relay or a sender's.
+fn to_all_others(n: usize, own: usize, packet: &[u8]) -> Row {
     let packet = |receiver| match receiver == own {
         true => None,
-        false => sent(relay),
+        false => sent(packet),
     };
     (1..=n).map(packet).collect()
 }
@@ -456,21 +571,21 @@ mod tests {
     const MOST: u8 = MOST_PARTIES as u8;
 
     /// No packet from one bad party, in either exchange.
-    const SILENT: &[u8] = &[0, 0, 0, 0];
+    pub(super) const SILENT: &[u8] = &[0, 0, 0, 0];
 
-    fn printed(plan: &[u8]) -> String {
+    pub(super) fn printed(plan: &[u8]) -> String {
         String::from_utf8(rehearse(plan)).expect("a text")
     }
 
     /// The cause that the plan is refused for, 0 if it is not.
-    fn cause(plan: &[u8]) -> u32 {
+    pub(super) fn cause(plan: &[u8]) -> u32 {
         let text = printed(plan);
         let number = text.strip_prefix("refused ");
         number.map_or(0, |it| it.trim_end().parse().expect("a cause"))
     }
 
     /// A plan: n, t and options in `head`, the good map, the messages, what the bad ones send.
-    fn plan(head: &[u8], good: u16, messages: &[&[u8]], behind: &[u8]) -> Vec<u8> {
+    pub(super) fn plan(head: &[u8], good: u16, messages: &[&[u8]], behind: &[u8]) -> Vec<u8> {
         let messages = lay_out(messages);
         [head, &good.to_be_bytes(), &messages, behind].concat()
     }
@@ -586,9 +701,11 @@ mod tests {
     #[test]
     fn parties_before_all_else() {
         let long = vec![0; LONGEST_MESSAGE + 1];
-        let behind: [Vec<u8>; 6] = [
+        let behind: [Vec<u8>; 8] = [
             vec![],
             vec![4],
+            vec![8],
+            vec![4, 0, 0, 0],
             vec![0; LONGEST_PLAN - 2],
             vec![0; LONGEST_PLAN - 1],
             plan(&[0], 3, &[&long, b"A"], SILENT),
@@ -616,7 +733,7 @@ mod tests {
         for more in [&[0][..], &[1], &[0, 0], SILENT] {
             assert_eq!(cause(&[&sound, more].concat()), 13);
         }
-        for option in 2..8 {
+        for option in 3..8 {
             assert_eq!(cause(&of_three(&[1 << option], [b"AB", b"AB"])), 13);
         }
         for beyond in 3..MOST_NAMED {
@@ -688,7 +805,7 @@ mod tests {
             // The layout is read to its end before the length is judged.
             assert_eq!(cause(&refused[..refused.len() - 1]), 13);
             assert_eq!(cause(&[&refused[..], &[0]].concat()), 13);
-            assert_eq!(cause(&of_three(&[4], [b"A", long])), 13);
+            assert_eq!(cause(&of_three(&[8], [b"A", long])), 13);
             assert_eq!(
                 cause(&plan(&[3, 1, 0], 3, &[b"A", long], &[0, 4, 0, 0])),
                 13
@@ -733,7 +850,7 @@ mod tests {
         assert_eq!(cause(&refused), 14);
         assert_eq!(cause(&[&refused[..], &[0]].concat()), 13);
         assert_eq!(cause(&refused[..refused.len() - 1]), 13);
-        assert_eq!(cause(&of_three(&[6, 2], [b"A", b"B"])), 13);
+        assert_eq!(cause(&of_three(&[10, 2], [b"A", b"B"])), 13);
     }
 
     /// Party 1 lies to party 3 and is honest to party 4; both are unhappy.
@@ -768,6 +885,9 @@ mod tests {
             assert_eq!(found.report(), expected.report());
             assert_eq!((found.root, found.bit), (expected.root, expected.bit));
             assert_eq!((found.roots, found.bits), (expected.roots, expected.bits));
+            assert_eq!(found.messages, expected.messages);
+            let row = |sender: Option<Sender>| sender.map(|it| it.row);
+            assert_eq!(row(found.plan.sender), row(expected.plan.sender));
             assert_eq!(found.plan.first, expected.plan.first);
             assert_eq!(found.plan.second, expected.plan.second);
             let seen =
@@ -778,7 +898,7 @@ mod tests {
     }
 
     /// The fault, and what is printed of the plan all the same.
-    fn regardless(plan: &[u8]) -> (Option<Fault>, Option<String>) {
+    pub(super) fn regardless(plan: &[u8]) -> (Option<Fault>, Option<String>) {
         let session = play_regardless(plan);
         (play(plan).err(), session.map(|it| it.report()))
     }
@@ -831,22 +951,22 @@ mod tests {
     fn a_misfit_tells_its_offset() {
         let sound = of_three(&[2, 1], [b"AB", b"AB"]);
         let misfit = |bytes: &[u8]| read(bytes).err().map(|it| (it.offset, it.part, it.missing));
-        let receivers = |exchange| Part::Receivers {
-            exchange,
-            sender: 3,
-        };
+        let receivers = |round| Part::Receivers { round, sender: 3 };
         assert_eq!(misfit(&sound), None);
         assert_eq!(misfit(&sound[..1]), Some((1, Part::Head, 1)));
         assert_eq!(misfit(&sound[..3]), Some((3, Part::Bit, 1)));
         assert_eq!(misfit(&sound[..5]), Some((4, Part::Good, 1)));
         assert_eq!(misfit(&sound[..9]), Some((8, Part::Message(1), 1)));
-        assert_eq!(misfit(&sound[..17]), Some((16, receivers(1), 1)));
+        assert_eq!(
+            misfit(&sound[..17]),
+            Some((16, receivers(Round::Second), 1))
+        );
         let more = [&sound[..], &[0]].concat();
         assert_eq!(misfit(&more), Some((18, Part::End, 0)));
         let mut changed = sound.clone();
         changed[15] = 4;
-        assert_eq!(misfit(&changed), Some((14, receivers(0), 0)));
-        changed[2] = 4;
+        assert_eq!(misfit(&changed), Some((14, receivers(Round::First), 0)));
+        changed[2] = 8;
         assert_eq!(misfit(&changed), Some((2, Part::Options, 0)));
     }
 }

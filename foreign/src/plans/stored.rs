@@ -329,7 +329,7 @@ mod tests {
             let plan = session.plan;
             given.insert((plan.root.is_some(), plan.bit));
             lengths.extend(session.results.into_iter().flatten().map(|it| it.len()));
-            let alike = plan.messages.iter().all(|it| *it == plan.messages[0]);
+            let alike = session.messages.windows(2).all(|pair| pair[0] == pair[1]);
             equal[usize::from(alike)] += 1;
         }
         assert_eq!(given.len(), 6);

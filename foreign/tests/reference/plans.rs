@@ -2,7 +2,8 @@
 
 use foreign::examples::{planned, Example};
 use foreign::inbox::lay_out;
-use foreign::rehearsal::{read, rehearse, Exchange, Plan};
+use foreign::rehearsal::{read, rehearse, Plan, Row};
+use foreign::rehearsal::{BIT_GIVEN, ROOT_GIVEN, SENDER_GIVEN};
 
 use crate::Told;
 
@@ -15,8 +16,8 @@ fn map(boxes: impl Iterator<Item = usize>) -> [u8; 2] {
 }
 
 /// What a bad box sends in an exchange.
-fn sent(told: &mut Told, name: &str, sender: usize, exchange: &Exchange) {
-    let row = (1..).zip(&exchange[sender - 1]);
+fn sent(told: &mut Told, name: &str, sender: usize, row: &Row) {
+    let row = (1..).zip(row);
     let packets = row.filter_map(|(receiver, packet)| Some((receiver, packet.as_ref()?)));
     let packets: Vec<(usize, &Vec<u8>)> = packets.collect();
     let receivers = map(packets.iter().map(|it| it.0));
@@ -26,26 +27,43 @@ fn sent(told: &mut Told, name: &str, sender: usize, exchange: &Exchange) {
     }
 }
 
-/// The parts of a plan.
-fn parts(plan: &Plan, told: &mut Told) {
-    let root = plan.root.as_ref();
+/// The head of a plan, as far as the map of good boxes.
+fn head(plan: &Plan, told: &mut Told) {
+    let sender = plan.sender.as_ref().map(|it| it.number as u8);
     told.bytes("n", &[plan.n as u8]);
     told.bytes("t", &[plan.t as u8]);
-    let options = u8::from(root.is_some()) + 2 * u8::from(plan.bit.is_some());
+    let given = [
+        (plan.root.is_some(), ROOT_GIVEN),
+        (plan.bit.is_some(), BIT_GIVEN),
+        (sender.is_some(), SENDER_GIVEN),
+    ];
+    let options = given.iter().filter(|it| it.0).map(|it| it.1).sum();
     told.bytes("options", &[options]);
-    if let Some(root) = root {
+    if let Some(root) = &plan.root {
         told.bytes("root", root);
     }
     if let Some(bit) = plan.bit {
         told.bytes("bit", &[bit]);
     }
+    if let Some(number) = sender {
+        told.bytes("sender", &[number]);
+    }
     told.bytes("good boxes", &map(plan.good.iter().copied()));
-    for (own, book) in plan.good.iter().zip(&plan.messages) {
+}
+
+/// The parts of a plan.
+fn parts(plan: &Plan, told: &mut Told) {
+    head(plan, told);
+    for (own, book) in &plan.messages {
         told.bytes(format!("book of box {own}"), &lay_out(&[book]));
     }
+    let bad = |number: &usize| !plan.good.contains(number);
+    if let Some(sender) = plan.sender.iter().find(|it| bad(&it.number)) {
+        sent(told, "sender's", sender.number, &sender.row);
+    }
     for (name, exchange) in EXCHANGES.iter().zip([&plan.first, &plan.second]) {
-        for sender in (1..=plan.n).filter(|number| !plan.good.contains(number)) {
-            sent(told, name, sender, exchange);
+        for sender in (1..=plan.n).filter(bad) {
+            sent(told, name, sender, &exchange[sender - 1]);
         }
     }
 }
