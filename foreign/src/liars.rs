@@ -1,8 +1,11 @@
 //! What a bad party may send where a good one would send a packet: the packet itself,
 //! something close to it, or something else altogether.
 
+pub mod senders;
+
 use crate::coder::{frame_of, shares_of};
 use crate::limits::{LONGEST_PACKET, LONGEST_SHARE, MOST_PARTIES};
+use crate::message_packet;
 use crate::packet::write;
 use crate::random::Random;
 use crate::sha256::Hash;
@@ -50,13 +53,15 @@ pub enum Lie {
     FieldMap,
     /// A number that is not a party's.
     NumberOutside,
+    /// A packet of a whole message, which only a sender's exchange has; the message is the share.
+    WholeMessage,
     /// More bytes than any packet has.
     Huge,
 }
 
 impl Lie {
     /// Every lie but the huge one, which would make most plans long.
-    pub const SMALL: [Lie; 24] = [
+    pub const SMALL: [Lie; 25] = [
         Lie::Honest,
         Lie::Unnamed,
         Lie::Empty,
@@ -81,6 +86,7 @@ impl Lie {
         Lie::LengthField,
         Lie::FieldMap,
         Lie::NumberOutside,
+        Lie::WholeMessage,
     ];
 }
 
@@ -183,6 +189,7 @@ impl Scene {
             Lie::Huge => huge(&agreed.packet(j), random),
             Lie::Honest => agreed.packet(j),
             Lie::OtherMessage => self.other.packet(j),
+            Lie::WholeMessage => message_packet::write(agreed.share(j)),
             Lie::Replay => agreed.packet(self.another(j, random)),
             Lie::Crossed => agreed.packet(way.sender + way.receiver - j),
             Lie::Renumbered | Lie::OthersShare | Lie::OthersPath => self.mixed(lie, j, random),
@@ -226,7 +233,7 @@ impl Scene {
                 let lengths = [0, length - 1, length + 1, length + 32, over, u16::MAX];
                 packet[2..4].copy_from_slice(&random.pick(&lengths).to_be_bytes());
             }
-            Lie::FieldMap => packet[0] = random.pick(&[0, 1, 3, 5, 6, 15, 135, 255]),
+            Lie::FieldMap => packet[0] = random.pick(&[0, 1, 3, 5, 6, 8, 15, 135, 255]),
             _ => packet[1] = random.pick(&[0, self.n() as u8 + 1, MOST_PARTIES as u8 + 1, 255]),
         }
         packet

@@ -1,19 +1,22 @@
 //! Random plans for the rehearsal, plan k from the number k alone: about two thirds of them
-//! valid, with liars of every kind, the rest damaged in one way or two.
+//! valid, with liars of every kind, the rest damaged in one way or two. Some two in five name a
+//! sender, which is bad more often than good.
 //!
 //! Where the agreed bit is 1, good parties end with the agreed message whatever the bad ones
 //! send. A program that takes a lie shows it only where a good party is unhappy and the liar
 //! has a low number, so that such plans are made often.
 
+mod senders;
 pub mod stored;
 
 use std::collections::{BTreeMap, BTreeSet};
 
+use crate::liars::senders::SenderLie;
 use crate::liars::{flip, Lie, Scene, Sharing, Way, LONGEST_LIE};
 use crate::limits::{INSIDE, LONGEST_ENTRY, LONGEST_MESSAGE, LONGEST_PLAN};
 use crate::limits::{MOST_NAMED, MOST_PARTIES};
 use crate::random::Random;
-use crate::rehearsal::{BIT_GIVEN, ROOT_GIVEN};
+use crate::rehearsal::{BIT_GIVEN, ROOT_GIVEN, SENDER_GIVEN};
 use crate::sha256::Hash;
 
 /// A plan, and what was put into it.
@@ -22,6 +25,7 @@ pub struct Made {
     pub size: Size,
     pub damages: Vec<Damage>,
     pub lies: BTreeSet<Lie>,
+    pub sender_lies: BTreeSet<SenderLie>,
     /// Before any damage the agreed bit was 1 and a good party unhappy.
     pub divided: bool,
 }
@@ -47,6 +51,8 @@ pub enum Damage {
     Oversize,
     Cut,
     Over,
+    /// The sender's number is no party's.
+    NoSender,
     LongMessage,
     TooMany,
     BitAbove,
@@ -56,7 +62,7 @@ pub enum Damage {
 }
 
 impl Damage {
-    pub const ALL: [Damage; 14] = [
+    pub const ALL: [Damage; 15] = [
         Damage::Parties,
         Damage::Faults,
         Damage::Options,
@@ -65,6 +71,7 @@ impl Damage {
         Damage::Oversize,
         Damage::Cut,
         Damage::Over,
+        Damage::NoSender,
         Damage::LongMessage,
         Damage::TooMany,
         Damage::BitAbove,
@@ -82,20 +89,40 @@ struct Block {
     strays: BTreeSet<usize>,
 }
 
+/// The sender that a plan names: its number, which need not be a party's, and what it sends. The
+/// block is written only if it is bad.
+struct Source {
+    number: usize,
+    block: Block,
+}
+
+impl Source {
+    fn new(number: usize) -> Source {
+        Source {
+            number,
+            block: Block::default(),
+        }
+    }
+}
+
 /// A plan before it is laid out.
 struct Draft {
     n: usize,
     t: usize,
     /// n and t as they are written.
     head: [u8; 2],
-    more_options: u8,
+    /// Options that are written though their fields are not, or not written though these are.
+    turned_options: u8,
     root: Option<Hash>,
     bit: Option<u8>,
+    source: Option<Source>,
     good: BTreeSet<usize>,
     bad: Vec<usize>,
+    /// What the good parties open with.
     messages: Vec<Vec<u8>>,
     exchanges: [Vec<Block>; 2],
     lies: BTreeSet<Lie>,
+    sender_lies: BTreeSet<SenderLie>,
     divided: bool,
 }
 
@@ -134,6 +161,16 @@ pub fn map_of<'a>(parties: impl IntoIterator<Item = &'a usize>) -> [u8; 2] {
     bits.fold(0, |map, bit| map | bit).to_be_bytes()
 }
 
+/// How long so many messages of a plan may be.
+fn longest(size: Size, count: usize, random: &mut Random) -> usize {
+    let most = match size == Size::Small {
+        true if random.once_in(10) => 1_500 / count.max(1),
+        true => 40,
+        false => LONGEST_MESSAGE,
+    };
+    most.min(LONGEST_MESSAGE)
+}
+
 fn two_bytes(length: usize) -> [u8; 2] {
     u16::try_from(length).expect("a short length").to_be_bytes()
 }
@@ -146,6 +183,7 @@ impl Draft {
             size,
             damages,
             lies: self.lies,
+            sender_lies: self.sender_lies,
             divided: self.divided,
         }
     }
@@ -153,16 +191,25 @@ impl Draft {
     fn bytes(&self) -> Vec<u8> {
         let root_given = if self.root.is_some() { ROOT_GIVEN } else { 0 };
         let bit_given = if self.bit.is_some() { BIT_GIVEN } else { 0 };
-        let options = self.more_options | root_given | bit_given;
+        let sender = self.source.as_ref().map(|it| it.number as u8);
+        let sender_given = if sender.is_some() { SENDER_GIVEN } else { 0 };
+        let options = self.turned_options ^ (root_given | bit_given | sender_given);
         let mut bytes = [&self.head[..], &[options]].concat();
         bytes.extend(self.root.iter().flatten());
         bytes.extend(self.bit);
+        bytes.extend(sender);
         bytes.extend(map_of(&self.good));
-        for message in &self.messages {
+        for message in self.listed() {
             bytes.extend(two_bytes(message.len()));
             bytes.extend(message);
         }
-        for block in self.exchanges.iter().flatten() {
+        let blocks = self.exchanges.iter().flatten();
+        for block in self
+            .bad_sender()
+            .map(|it| &it.block)
+            .into_iter()
+            .chain(blocks)
+        {
             block.lay_out(&mut bytes);
         }
         bytes
@@ -170,6 +217,12 @@ impl Draft {
 }
 
 impl Block {
+    fn length(&self) -> usize {
+        let mut bytes = Vec::new();
+        self.lay_out(&mut bytes);
+        bytes.len()
+    }
+
     fn lay_out(&self, bytes: &mut Vec<u8>) {
         bytes.extend(map_of(self.packets.keys().chain(&self.strays)));
         for packet in self.packets.values() {
@@ -188,21 +241,27 @@ impl Draft {
             n,
             t,
             head: [n as u8, t as u8],
-            more_options: 0,
+            turned_options: 0,
             root: None,
             bit: None,
+            source: None,
             good: Vec::into_iter(good).collect(),
             bad,
             messages: Vec::new(),
             exchanges: [Vec::new(), Vec::new()],
             lies: BTreeSet::new(),
+            sender_lies: BTreeSet::new(),
             divided: false,
         }
     }
 
     fn new(size: Size, damages: &[Damage], random: &mut Random) -> Draft {
         let mut draft = Draft::group(size, damages, random);
-        draft.messages = draft.some_messages(size, random);
+        draft.name_sender(damages, random);
+        match draft.source {
+            Some(_) => draft.hand_out(size, random),
+            None => draft.messages = draft.some_messages(size, random),
+        }
         let scene = draft.agree(random);
         draft.lie(&scene, size, random);
         draft
@@ -237,12 +296,7 @@ impl Draft {
     /// The good parties' messages: all equal, or of two kinds, or each another one.
     fn some_messages(&self, size: Size, random: &mut Random) -> Vec<Vec<u8>> {
         let count = self.good.len();
-        let most = match size == Size::Small {
-            true if random.once_in(10) => 1_500 / count.max(1),
-            true => 40,
-            false => LONGEST_MESSAGE,
-        };
-        let most = most.min(LONGEST_MESSAGE);
+        let most = longest(size, count, random);
         let one = self.some_message(most, random);
         let other = self.other_message(&one, most, random);
         let odd = random.below(count.max(1));
@@ -369,29 +423,29 @@ impl Draft {
     }
 }
 
-/// How a bad party chooses its lies.
+/// How a bad party chooses among the lies that there are, of which the first is the truth.
 #[derive(Clone, Copy)]
-enum Manner {
+enum Manner<L> {
     /// The same for everybody.
-    Steady(Lie),
+    Steady(L),
     /// The good packet to one, a lie to the next.
-    TwoFaced(Lie),
+    TwoFaced(L),
     Mixed,
 }
 
-impl Manner {
-    fn some(random: &mut Random) -> Manner {
-        let lie = random.pick(&Lie::SMALL);
+impl<L: Copy> Manner<L> {
+    fn some(lies: &[L], random: &mut Random) -> Manner<L> {
+        let lie = random.pick(lies);
         random.pick(&[Manner::Steady(lie), Manner::TwoFaced(lie), Manner::Mixed])
     }
 
     /// The lie to the receiver in this place among the good ones.
-    fn lie(self, place: usize, random: &mut Random) -> Lie {
+    fn lie(self, place: usize, lies: &[L], random: &mut Random) -> L {
         match self {
             Manner::Steady(lie) => lie,
-            Manner::TwoFaced(_) if place.is_multiple_of(2) => Lie::Honest,
+            Manner::TwoFaced(_) if place.is_multiple_of(2) => lies[0],
             Manner::TwoFaced(lie) => lie,
-            Manner::Mixed => random.pick(&Lie::SMALL),
+            Manner::Mixed => random.pick(lies),
         }
     }
 }
@@ -419,7 +473,8 @@ impl Purse {
 /// What the bad parties send.
 impl Draft {
     fn lie(&mut self, scene: &Scene, size: Size, random: &mut Random) {
-        let manners: Vec<Manner> = self.bad.iter().map(|_| Manner::some(random)).collect();
+        let some = |random: &mut Random| Manner::some(&Lie::SMALL, random);
+        let manners: Vec<Manner<Lie>> = self.bad.iter().map(|_| some(random)).collect();
         let mut purse = self.purse(scene, size);
         for exchange in 0..2 {
             for (place, &manner) in manners.iter().enumerate() {
@@ -434,10 +489,10 @@ impl Draft {
     }
 
     /// Everybody gets something if that fits; else so many that about all is spent. Then a huge packet
-    /// has room yet.
+    /// has room yet. In a small plan what a sender hands out is not counted, since it may be long.
     fn purse(&self, scene: &Scene, size: Size) -> Purse {
         let most: usize = match size {
-            Size::Small => 1_950,
+            Size::Small => 1_950 + self.bad_sender().map_or(0, |it| it.block.length()),
             _ => LONGEST_PLAN - 2 - LONGEST_LIE,
         };
         let maps = 4 * self.bad.len();
@@ -456,7 +511,7 @@ impl Draft {
         &mut self,
         scene: &Scene,
         (exchange, sender): (usize, usize),
-        manner: Manner,
+        manner: Manner<Lie>,
         purse: &mut Purse,
         random: &mut Random,
     ) -> Block {
@@ -464,7 +519,7 @@ impl Draft {
         for (place, &receiver) in self.good.iter().enumerate() {
             let way = Way::new(exchange, sender, receiver);
             let lie = match purse.offers(random) {
-                true => manner.lie(place, random),
+                true => manner.lie(place, &Lie::SMALL, random),
                 false => Lie::Unnamed,
             };
             let packet = scene.told(lie, way, random);
@@ -527,7 +582,7 @@ impl Draft {
                 let above = least + random.below(240) as u8;
                 self.head[1] = random.pick(&[least, least, least + 1, 127, 128, 129, 255, above]);
             }
-            Damage::Options => self.more_options |= random.pick(&[4, 8, 16, 32, 64, 128, 252]),
+            Damage::Options => self.turned_options |= random.pick(&[4, 8, 16, 32, 64, 128, 248]),
             Damage::GoodBeyond => self.name_beyond(random),
             Damage::Receiver => self.name_not_good(random),
             Damage::Oversize => {
@@ -541,7 +596,9 @@ impl Draft {
                 self.root = Some(self.strange_root(random));
             }
             Damage::BitAgainst => self.set_bit_against(random),
-            Damage::TooMany | Damage::Cut | Damage::Over | Damage::Flip => {}
+            // Who is bad and who sends is chosen with the group; the others are done to the bytes.
+            Damage::TooMany | Damage::NoSender => {}
+            Damage::Cut | Damage::Over | Damage::Flip => {}
         }
     }
 
@@ -566,7 +623,10 @@ impl Draft {
             .collect();
         let other = random.pick(&others);
         let receiver = random.pick(&[sender, other]);
-        let block = &mut self.exchanges[random.below(2)][place];
+        let block = match self.bad_sender().is_some() && random.once_in(2) {
+            true => &mut self.bad_sender_mut().expect("a bad one").block,
+            false => &mut self.exchanges[random.below(2)][place],
+        };
         match random.below(3) {
             0 => {
                 block.packets.insert(receiver, random.bytes(4));
@@ -580,9 +640,10 @@ impl Draft {
         }
     }
 
-    /// Makes a message too long.
+    /// Makes a message too long that is listed.
     fn lengthen(&mut self, random: &mut Random) {
-        let place = random.below(self.messages.len().max(1));
+        let any = random.below(self.messages.len().max(1));
+        let place = self.place_of_sender().unwrap_or(any);
         let over = LONGEST_MESSAGE + 1;
         let far = over + random.below(300);
         let length = match random.once_in(10) {
@@ -595,6 +656,10 @@ impl Draft {
     }
 
     fn equalize(&mut self) {
+        if let Some(source) = self.bad_sender_mut() {
+            source.block = Block::default();
+            self.messages.fill(Vec::new());
+        }
         let first = self.messages.first().cloned().unwrap_or_default();
         self.messages.fill(first);
     }

@@ -13,6 +13,8 @@ pub struct Tally {
     pub kinds: BTreeMap<String, BTreeMap<String, usize>>,
     /// By lie, in accepted plans, and in those of them in which a lie could do harm.
     pub lies: BTreeMap<String, [usize; 2]>,
+    /// The same of the lies of senders.
+    pub sender_lies: BTreeMap<String, [usize; 2]>,
     /// By n and t, in accepted plans.
     pub groups: BTreeMap<(u8, u8), usize>,
     pub small: usize,
@@ -39,16 +41,28 @@ fn kind(made: &Made) -> String {
     }
 }
 
+/// Counts the lies of one plan.
+fn tell(
+    counts: &mut BTreeMap<String, [usize; 2]>,
+    lies: impl Iterator<Item = String>,
+    divided: bool,
+) {
+    for lie in lies {
+        let count = counts.entry(lie).or_default();
+        count[0] += 1;
+        count[1] += usize::from(divided);
+    }
+}
+
 impl Tally {
     pub fn count(&mut self, made: &Made, output: &[u8]) {
         let outcome = outcome(output).to_string();
         let accepted = !outcome.starts_with("refused");
         if accepted {
-            for lie in &made.lies {
-                let counts = self.lies.entry(format!("{lie:?}")).or_default();
-                counts[0] += 1;
-                counts[1] += usize::from(made.divided);
-            }
+            let lies = made.lies.iter().map(|lie| format!("{lie:?}"));
+            tell(&mut self.lies, lies, made.divided);
+            let lies = made.sender_lies.iter().map(|lie| format!("{lie:?}"));
+            tell(&mut self.sender_lies, lies, made.divided);
             let group = (made.bytes[0], made.bytes[1]);
             *self.groups.entry(group).or_default() += 1;
         }
@@ -70,7 +84,9 @@ impl Display for Tally {
     fn fmt(&self, f: &mut Formatter) -> Result {
         lines(f, "outcomes", &self.outcomes)?;
         lines(f, "kinds", &self.kinds)?;
-        lines(f, "lies: accepted plans, of these divided", &self.lies)?;
+        let title = "lies: accepted plans, of these divided";
+        lines(f, title, &self.lies)?;
+        lines(f, &format!("senders' {title}"), &self.sender_lies)?;
         lines(f, "n and t of accepted plans", &self.groups)?;
         writeln!(f, "under 2000 bytes: {}", self.small)?;
         writeln!(f, "longest: {}", self.longest)

@@ -1,9 +1,11 @@
 //! The plans that are stored and run by the tests: random ones, and beside them those that
 //! chance may leave out, made one by one.
 
+mod senders;
+
 use std::collections::BTreeSet;
 
-use super::{plan, Block, Damage, Draft, Made, Size};
+use super::{plan, Block, Damage, Draft, Made, Size, Source};
 use crate::liars::{flip, Lie, Scene, Sharing, Way};
 use crate::limits::{INSIDE, LONGEST_MESSAGE, LONGEST_PLAN, MOST_PARTIES};
 use crate::random::Random;
@@ -35,6 +37,7 @@ pub fn stored() -> impl Iterator<Item = Made> {
         .chain(longest())
         .chain(lengths())
         .chain(no_codewords())
+        .chain(senders::stored())
         .chain(small().map(|bytes| laid_out(bytes, vec![])))
         .chain(small().into_iter().flat_map(damaged))
 }
@@ -90,14 +93,25 @@ fn liars((n, t): (usize, usize), lies: &mut impl Iterator<Item = Lie>) -> Made {
     draft.root = Some(scene.agreed.root);
     draft.bit = Some(1);
     draft.divided = n > 1;
-    let places = (0..2 * t).map(|it| (it / t, it % t));
-    for (place, lie) in places.zip(lies) {
-        draft.two_faced(&scene, place, lie, &mut random);
-    }
+    draft.lie_in_turn(&scene, lies, &mut random);
     draft.made(Size::Small, vec![])
 }
 
 impl Draft {
+    /// Every bad party tells the next one of these lies, in the first exchange and in the second.
+    fn lie_in_turn(
+        &mut self,
+        scene: &Scene,
+        lies: &mut impl Iterator<Item = Lie>,
+        random: &mut Random,
+    ) {
+        let count = self.bad.len();
+        let places = (0..2 * count).map(|it| (it / count, it % count));
+        for (place, lie) in places.zip(lies) {
+            self.two_faced(scene, place, lie, random);
+        }
+    }
+
     /// The bad party in this place is honest to one good party, and lies to the next, who is
     /// unhappy. There are more good parties than bad ones.
     fn two_faced(
@@ -126,6 +140,7 @@ fn laid_out(bytes: Vec<u8>, damages: Vec<Damage>) -> Made {
         size: Size::Small,
         damages,
         lies: BTreeSet::new(),
+        sender_lies: BTreeSet::new(),
         divided: false,
     }
 }
@@ -161,7 +176,7 @@ pub fn parted() -> impl Iterator<Item = Vec<u8>> {
 
 /// A plan as long as may be, and plans that are one byte longer: causes 1 and 2 come before
 /// that, the others after it.
-fn longest() -> [Made; 5] {
+fn longest() -> [Made; 6] {
     let over = |damages: &[Damage], change: fn(&mut Draft)| {
         let mut draft = of_three(1);
         change(&mut draft);
@@ -175,6 +190,9 @@ fn longest() -> [Made; 5] {
             draft.head[0] = MOST_PARTIES as u8 + 1
         }),
         over(&[Damage::Faults], |draft| draft.head[1] = 2),
+        over(&[Damage::NoSender], |draft| {
+            draft.source = Some(Source::new(0))
+        }),
         over(&[Damage::LongMessage, Damage::BitAbove], |draft| {
             draft.messages[0].resize(LONGEST_MESSAGE + 1, 0x42);
             draft.bit = Some(2);
@@ -237,8 +255,9 @@ fn no_codeword((n, t): (usize, usize), bit: Option<u8>) -> Draft {
 }
 
 /// The sound plans that are damaged in every way: the first worked one, one with root and bit,
-/// and one whose bad party sends the packets that a good one would send.
-fn small() -> [Vec<u8>; 3] {
+/// one whose bad party sends the packets that a good one would send, one with a good sender, and one
+/// with a bad sender that gives two messages.
+fn small() -> [Vec<u8>; 5] {
     let agreed = Sharing::of(3, 1, b"A");
     let mut given = of_three(3);
     given.root = Some(agreed.root);
@@ -248,7 +267,13 @@ fn small() -> [Vec<u8>; 3] {
         let block = &mut sending.exchanges[exchange][0];
         block.packets.insert(3, agreed.packet(number));
     }
-    [KEPT[0].to_vec(), given.bytes(), sending.bytes()]
+    [
+        KEPT[0].to_vec(),
+        given.bytes(),
+        sending.bytes(),
+        senders::small_good().bytes(),
+        senders::small_bad().bytes(),
+    ]
 }
 
 /// The plan cut short at every offset, with a byte more, and with every bit turned.
@@ -270,7 +295,8 @@ fn damaged(plan: Vec<u8>) -> Vec<Made> {
 #[cfg(test)]
 mod tests {
     use super::*;
-    use crate::rehearsal::{play, rehearse, Session, BIT_GIVEN, ROOT_GIVEN};
+    use crate::liars::senders::SenderLie;
+    use crate::rehearsal::{play, rehearse, Session, BIT_GIVEN, ROOT_GIVEN, SENDER_GIVEN};
     use crate::tally::{outcome, Tally};
 
     /// What is counted here is what is run: the stored plans, no others.
@@ -282,14 +308,17 @@ mod tests {
         }
         let seen = |outcome: &str| tally.outcomes.get(outcome).copied().unwrap_or(0);
         assert!(seen("message") >= 1_000 && seen("nothing") >= 200);
-        for cause in [1, 2, 4, 13, 14] {
+        for cause in [1, 2, 3, 4, 13, 14] {
             assert!(seen(&format!("refused {cause}")) >= 30, "cause {cause}");
         }
-        assert_eq!(tally.outcomes.len(), 7);
+        assert_eq!(tally.outcomes.len(), 8);
         for lie in Lie::SMALL {
             assert!(tally.lies[&format!("{lie:?}")][1] >= 40, "{lie:?}");
         }
         assert!(tally.lies["Huge"][1] >= 10);
+        for lie in SenderLie::SMALL.into_iter().chain(SenderLie::LARGE) {
+            assert!(tally.sender_lies[&format!("{lie:?}")][1] >= 8, "{lie:?}");
+        }
         let damages = Damage::ALL.map(|damage| format!("{damage:?}"));
         let others = ["Small", "Large", "Brim", "two damages"].map(String::from);
         for kind in damages.iter().chain(&others) {
@@ -383,12 +412,13 @@ mod tests {
         assert_eq!(rehearse(&over), b"refused 13\n");
     }
 
-    /// The small plans are sound, and the last one has packets in both exchanges.
+    /// The small plans are sound, and the third one has packets in both exchanges.
     #[test]
     fn kept_and_damaged_plans_are_stored() {
         let stored: BTreeSet<Vec<u8>> = stored().map(|made| made.bytes).collect();
         assert!(KEPT.iter().all(|plan| stored.contains(*plan)));
-        for (plan, options) in small().iter().zip([0, ROOT_GIVEN | BIT_GIVEN, 0]) {
+        let options = [0, ROOT_GIVEN | BIT_GIVEN, 0, SENDER_GIVEN, SENDER_GIVEN];
+        for (plan, options) in small().iter().zip(options) {
             assert!(stored.contains(plan) && play(plan).is_ok() && plan[2] == options);
             assert!((0..plan.len()).all(|length| stored.contains(&plan[..length])));
             assert!(stored.contains(&[&plan[..], &[0]].concat()));
