@@ -11,13 +11,16 @@ use crate::limits::{INSIDE, LONGEST_MESSAGE, LONGEST_PLAN, MOST_PARTIES};
 use crate::random::Random;
 
 /// The plans that a person can run.
-const KEPT: [&[u8]; 6] = [
+const KEPT: [&[u8]; 9] = [
     include_bytes!("../../../plans/worked-1.plan"),
     include_bytes!("../../../plans/worked-2.plan"),
     include_bytes!("../../../plans/worked-3.plan"),
     include_bytes!("../../../plans/liar.plan"),
     include_bytes!("../../../plans/longest.plan"),
     include_bytes!("../../../plans/alone.plan"),
+    include_bytes!("../../../plans/sender.plan"),
+    include_bytes!("../../../plans/two-books.plan"),
+    include_bytes!("../../../plans/silent-sender.plan"),
 ];
 
 /// So many random plans from this number on; without a count, the stored plans.

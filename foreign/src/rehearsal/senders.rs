@@ -25,6 +25,29 @@ fn by_bad(options: &[u8], block: &[u8]) -> Vec<u8> {
     plan(&head, 3, &[], &[block, SILENT].concat())
 }
 
+/// The plans with a sender that a person can run, with what they are to show.
+#[test]
+fn worked_plans() {
+    let sender = include_bytes!("../../../plans/sender.plan");
+    let kept = include_bytes!("../../../plans/sender.out");
+    assert_eq!(rehearse(sender), kept);
+    let session = play(sender).expect("a sound plan");
+    // Three others get the packet of 20 bytes; then each of three sends three of 75, twice.
+    assert_eq!(session.bytes_sent(), [60, 675, 675]);
+    assert_eq!(session.bits, [1; 3]);
+
+    let two_books = include_bytes!("../../../plans/two-books.plan");
+    let kept = include_bytes!("../../../plans/two-books.out");
+    assert_eq!(rehearse(two_books), kept);
+    let session = play(two_books).expect("a sound plan");
+    assert_eq!(session.bits, [1, 0]);
+
+    let silent = include_bytes!("../../../plans/silent-sender.plan");
+    let kept = include_bytes!("../../../plans/silent-sender.out");
+    assert_eq!(rehearse(silent), kept);
+    assert_eq!(kept, b"1 =\n2 =\nsent 488\n");
+}
+
 #[test]
 fn a_good_senders_message_is_the_result() {
     assert_eq!(
