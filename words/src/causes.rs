@@ -3,13 +3,14 @@
 use foreign::limits::{LONGEST_MESSAGE, LONGEST_PLAN, MOST_PARTIES};
 use foreign::rehearsal::{Fault, Misfit, Part};
 
-use crate::phrases::{bytes, grouped, EXCHANGES};
+use crate::phrases::{bytes, grouped, name};
 
 /// The words of the table of causes, for those that a plan can have.
 pub fn words(cause: u32) -> String {
     match cause {
         1 => format!("n is not 1 to {MOST_PARTIES}"),
         2 => "2·t is n or more".to_string(),
+        3 => "the sender's number is not 1 to n".to_string(),
         4 => format!("a book is longer than {} bytes", grouped(LONGEST_MESSAGE)),
         13 => format!(
             "the plan is badly laid out, or longer than {} bytes",
@@ -28,6 +29,7 @@ pub fn detail(fault: Fault, plan: &[u8]) -> String {
         Fault::Limit => format!("The plan has n {} and t {}.", plan[0], plan[1]),
         Fault::TooLong => format!("The plan has {} bytes.", plan.len()),
         Fault::Layout(misfit) => place(misfit, plan.len()),
+        Fault::NoSender(number) => format!("The plan has n {} and sender {number}.", plan[0]),
         Fault::LongMessage(number) => format!("Box {number}'s book is too long."),
         Fault::TooManyBad => "More boxes are bad than the limit allows.".to_string(),
         Fault::BitAbove => "The bit that is given is neither 0 nor 1.".to_string(),
@@ -65,18 +67,19 @@ fn named(part: Part) -> String {
         Part::Options => "the option map".to_string(),
         Part::Root => "the root".to_string(),
         Part::Bit => "the bit".to_string(),
+        Part::Sender => "the sender's number".to_string(),
         Part::Good => "the map of good boxes".to_string(),
         Part::Message(number) => format!("box {number}'s book or its length"),
-        Part::Receivers { exchange, sender } => {
-            let exchange = EXCHANGES[exchange];
+        Part::Receivers { round, sender } => {
+            let exchange = name(round);
             format!("box {sender}'s map of receivers in the {exchange} exchange")
         }
         Part::Packet {
-            exchange,
+            round,
             sender,
             receiver,
         } => {
-            let exchange = EXCHANGES[exchange];
+            let exchange = name(round);
             format!("the packet from {sender} to {receiver} in the {exchange} exchange")
         }
         Part::End => "the end".to_string(),

@@ -4,7 +4,7 @@ use std::collections::BTreeMap;
 
 use foreign::inbox::lay_out;
 use foreign::plans::map_of;
-use foreign::rehearsal::{BIT_GIVEN, ROOT_GIVEN};
+use foreign::rehearsal::{Round, BIT_GIVEN, ROOT_GIVEN, SENDER_GIVEN};
 use foreign::sha256::Hash;
 
 use crate::books::{Books, Named};
@@ -14,13 +14,15 @@ pub type Packets = BTreeMap<(usize, usize), Vec<u8>>;
 
 pub struct Draft {
     pub books: Books,
-    /// Options besides those that root and bit bring.
+    /// Options besides those that root, bit and sender bring.
     pub options: u8,
     pub root: Option<Hash>,
     pub bit: Option<u8>,
-    /// The good parties' messages.
-    pub good: BTreeMap<usize, Vec<u8>>,
-    pub exchanges: [Packets; 2],
+    pub sender: Option<usize>,
+    /// The good parties, with the message of each whose message the plan lists.
+    pub good: BTreeMap<usize, Option<Vec<u8>>>,
+    /// What bad parties send, round by round.
+    exchanges: [Packets; 3],
     /// Bytes behind the plan, and how many are then left out at its end.
     pub behind: Vec<u8>,
     pub cut: usize,
@@ -33,6 +35,7 @@ impl Draft {
             options: 0,
             root: None,
             bit: None,
+            sender: None,
             good: BTreeMap::new(),
             exchanges: Default::default(),
             behind: Vec::new(),
@@ -42,6 +45,24 @@ impl Draft {
 
     pub fn is_good(&self, party: usize) -> bool {
         self.good.contains_key(&party)
+    }
+
+    /// Whether the plan lists the party's message if it is good: where there is a sender, only that
+    /// of the sender, which is one of the n parties.
+    pub fn has_listed(&self, party: usize) -> bool {
+        let only = |sender| sender == party && party <= self.books.n;
+        self.sender.is_none_or(only)
+    }
+
+    /// The sender, if it is not good; one that is none of the n parties is not.
+    pub fn bad_sender(&self) -> Option<usize> {
+        let bad = |sender: &usize| !self.is_good(*sender) || *sender > self.books.n;
+        self.sender.filter(bad)
+    }
+
+    /// The packets of a round.
+    pub fn packets(&mut self, round: Round) -> &mut Packets {
+        &mut self.exchanges[round as usize]
     }
 
     /// The books that have names of their own.
@@ -64,13 +85,21 @@ impl Draft {
     pub fn uncut(&self) -> Vec<u8> {
         let root = self.root.map_or(0, |_| ROOT_GIVEN);
         let bit = self.bit.map_or(0, |_| BIT_GIVEN);
-        let options = self.options | root | bit;
+        let sender = self.sender.map_or(0, |_| SENDER_GIVEN);
+        let options = self.options | root | bit | sender;
         let mut bytes = vec![self.books.n as u8, self.books.t as u8, options];
         bytes.extend(self.root.iter().flatten());
         bytes.extend(self.bit);
+        bytes.extend(self.sender.map(|it| it as u8));
         bytes.extend(map_of(self.good.keys()));
-        bytes.extend(lay_out(&self.good.values().collect::<Vec<_>>()));
-        for packets in &self.exchanges {
+        bytes.extend(lay_out(&self.good.values().flatten().collect::<Vec<_>>()));
+        let [before, exchanges @ ..] = &self.exchanges;
+        bytes.extend(
+            self.bad_sender()
+                .into_iter()
+                .flat_map(|it| block(before, it)),
+        );
+        for packets in exchanges {
             for sender in (1..=self.books.n).filter(|party| !self.is_good(*party)) {
                 bytes.extend(block(packets, sender));
             }

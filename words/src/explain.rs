@@ -5,7 +5,7 @@ use foreign::rehearsal::{Fault, Takings};
 
 use crate::books::Named;
 use crate::causes::{detail, words};
-use crate::phrases::{boxes, bytes, numbers, short, EXCHANGES};
+use crate::phrases::{boxes, bytes, name, numbers, short, EXCHANGES};
 use crate::text::written;
 use crate::view::View;
 
@@ -86,14 +86,15 @@ impl View {
 
     fn exchanges(&self, takings: &Takings) -> String {
         let mut text = String::new();
-        for (exchange, name) in EXCHANGES.iter().enumerate() {
+        for (exchange, round) in EXCHANGES.into_iter().enumerate() {
+            let name = name(round);
             text += &format!("\nThe {name} exchange\n{}", self.packets(exchange));
             for (place, number) in self.session.plan.good.iter().enumerate() {
                 let step = self.step(exchange, takings, place);
                 text += &format!("  box {number} {step}\n");
             }
         }
-        let [first, second] = self.session.bytes_sent();
+        let [_, first, second] = self.session.bytes_sent();
         text += "\nResults\n";
         for (place, number) in self.session.plan.good.iter().enumerate() {
             text += &format!("  box {number} {}\n", self.ending(place));

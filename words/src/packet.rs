@@ -1,10 +1,10 @@
-//! What a bad party sends, as words say it: nothing, bytes, or a share of a book with the
-//! changes made to its packet.
+//! What a bad party sends, as words say it: nothing, bytes, or a share of a book or a whole book
+//! with the changes made to its packet.
 
 use std::fmt;
 
 use foreign::limits::{LONGEST_ENTRY, LONGEST_MESSAGE, MOST_PARTIES};
-use foreign::packet::HEADER;
+use foreign::message_packet;
 
 use crate::books::{Books, Coded};
 
@@ -18,9 +18,14 @@ pub enum Packet {
         book: String,
         changes: Vec<Change>,
     },
+    /// What a good sender that has this book gives to all.
+    Book {
+        book: String,
+        changes: Vec<Change>,
+    },
 }
 
-/// One change to the packet of a share; changes are made in the order in which they stand.
+/// One change to the packet of a share or of a book; changes are made in the order in which they stand.
 #[derive(Clone, Debug, PartialEq, Eq)]
 pub enum Change {
     Map(u8),
@@ -31,12 +36,9 @@ pub enum Change {
         number: usize,
         book: String,
     },
-    /// The byte at this offset with these bits turned.
-    ShareByte {
-        offset: usize,
-        bits: u8,
-    },
-    PathByte {
+    /// The byte at this offset of the field with these bits turned.
+    Byte {
+        field: Field,
         offset: usize,
         bits: u8,
     },
@@ -45,11 +47,22 @@ pub enum Change {
     Cut(usize),
 }
 
+/// What stands behind the header of a packet.
+#[derive(Clone, Copy, Debug, PartialEq, Eq)]
+pub enum Field {
+    Share,
+    Path,
+    Book,
+}
+
 /// A packet cut where its fields meet.
 struct Fields {
-    header: [u8; HEADER],
-    share: Vec<u8>,
-    path: Vec<u8>,
+    /// The map, a share's number, and a length in two bytes.
+    header: Vec<u8>,
+    /// The share or the book.
+    body: Vec<u8>,
+    /// None behind a book.
+    path: Option<Vec<u8>>,
     behind: Vec<u8>,
     cut: usize,
 }
@@ -57,34 +70,51 @@ struct Fields {
 impl Packet {
     /// The packet's bytes, none if the receiver gets nothing; an error says what is wrong.
     pub fn bytes(&self, books: &Books) -> Result<Option<Vec<u8>>, String> {
-        let bytes = match self {
+        let (mut fields, changes) = match self {
             Packet::Nothing => return Ok(None),
-            Packet::Raw(bytes) => bytes.clone(),
+            Packet::Raw(bytes) => return fitting(bytes.clone()),
             Packet::Share {
                 number,
                 book,
                 changes,
-            } => changed(books, *number, book, changes)?,
+            } => (Fields::of_share(books, *number, book)?, changes),
+            Packet::Book { book, changes } => (Fields::of_book(books, book)?, changes),
         };
-        match bytes.len() > LONGEST_ENTRY {
-            true => Err(format!(
-                "the packet has {} bytes, over {LONGEST_ENTRY}",
-                bytes.len()
-            )),
-            false => Ok(Some(bytes)),
+        for change in changes {
+            fields.change(books, change)?;
+        }
+        fitting(fields.bytes()?)
+    }
+
+    /// The changes that are made to a good packet.
+    pub fn changes(&self) -> &[Change] {
+        match self {
+            Packet::Nothing | Packet::Raw(_) => &[],
+            Packet::Share { changes, .. } | Packet::Book { changes, .. } => changes,
         }
     }
 
     /// The names of the books that are spoken of.
     pub fn books(&self) -> Vec<&str> {
-        let Packet::Share { book, changes, .. } = self else {
-            return Vec::new();
+        let book = match self {
+            Packet::Nothing | Packet::Raw(_) => None,
+            Packet::Share { book, .. } | Packet::Book { book, .. } => Some(&book[..]),
         };
-        let others = changes.iter().filter_map(|change| match change {
+        let others = self.changes().iter().filter_map(|change| match change {
             Change::Path { book, .. } => Some(&book[..]),
             _ => None,
         });
-        others.chain([&book[..]]).collect()
+        others.chain(book).collect()
+    }
+}
+
+/// The bytes, if their length can be told in two.
+fn fitting(bytes: Vec<u8>) -> Result<Option<Vec<u8>>, String> {
+    match bytes.len() {
+        length if length > LONGEST_ENTRY => Err(format!(
+            "the packet has {length} bytes, over {LONGEST_ENTRY}"
+        )),
+        _ => Ok(Some(bytes)),
     }
 }
 
@@ -106,73 +136,90 @@ fn coded<'a>(books: &'a Books, name: &str, number: usize) -> Result<&'a Coded, S
     }
 }
 
-fn changed(
-    books: &Books,
-    number: usize,
-    book: &str,
-    changes: &[Change],
-) -> Result<Vec<u8>, String> {
-    let (header, share, path) = coded(books, book, number)?.fields(number);
-    let mut fields = Fields {
-        header: *header,
-        share: share.to_vec(),
-        path: path.to_vec(),
-        behind: Vec::new(),
-        cut: 0,
-    };
-    for change in changes {
-        fields.change(books, change)?;
-    }
-    fields.bytes()
-}
-
 impl Fields {
+    fn of_share(books: &Books, number: usize, book: &str) -> Result<Fields, String> {
+        let (header, share, path) = coded(books, book, number)?.fields(number);
+        Ok(Fields {
+            header: header.to_vec(),
+            body: share.to_vec(),
+            path: Some(path.to_vec()),
+            behind: Vec::new(),
+            cut: 0,
+        })
+    }
+
+    fn of_book(books: &Books, book: &str) -> Result<Fields, String> {
+        let mut header = message_packet::write(&books.find(book)?.message);
+        Ok(Fields {
+            body: header.split_off(message_packet::HEADER),
+            header,
+            path: None,
+            behind: Vec::new(),
+            cut: 0,
+        })
+    }
+
     fn change(&mut self, books: &Books, change: &Change) -> Result<(), String> {
         match change {
             Change::Map(map) => self.header[0] = *map,
-            Change::Number(number) => self.header[1] = *number,
-            Change::Length(length) => self.header[2..].copy_from_slice(&length.to_be_bytes()),
-            Change::Path { number, book } => {
-                self.path = coded(books, book, *number)?.fields(*number).2.to_vec();
+            Change::Number(_) | Change::Path { .. } if self.path.is_none() => {
+                return Err("a book's packet has no number and no path".to_string())
             }
-            Change::ShareByte { offset, bits } => turn(&mut self.share, *offset, *bits, "share")?,
-            Change::PathByte { offset, bits } => turn(&mut self.path, *offset, *bits, "path")?,
+            Change::Number(number) => self.header[1] = *number,
+            Change::Length(length) => {
+                let from = self.header.len() - 2;
+                self.header[from..].copy_from_slice(&length.to_be_bytes());
+            }
+            Change::Path { number, book } => {
+                let path = coded(books, book, *number)?.fields(*number).2;
+                self.path = Some(path.to_vec());
+            }
+            Change::Byte {
+                field,
+                offset,
+                bits,
+            } => turn(self.field(*field)?, *offset, *bits, *field)?,
             Change::Followed(bytes) => self.behind.extend(bytes),
             Change::Cut(count) => self.cut += count,
         }
         Ok(())
     }
 
+    fn field(&mut self, field: Field) -> Result<&mut [u8], String> {
+        match (field, &mut self.path) {
+            (Field::Path, Some(path)) => Ok(path),
+            (Field::Share, Some(_)) | (Field::Book, None) => Ok(&mut self.body),
+            (_, Some(_)) => Err(format!("a share's packet has no {field}")),
+            (_, None) => Err(format!("a book's packet has no {field}")),
+        }
+    }
+
     fn bytes(self) -> Result<Vec<u8>, String> {
-        let mut bytes = [&self.header[..], &self.share, &self.path, &self.behind].concat();
+        let path = self.path.unwrap_or_default();
+        let mut bytes = [self.header, self.body, path, self.behind].concat();
         let left = bytes.len().checked_sub(self.cut);
         bytes.truncate(left.ok_or_else(|| format!("the packet has {} bytes to cut", bytes.len()))?);
         Ok(bytes)
     }
 }
 
-fn turn(bytes: &mut [u8], offset: usize, bits: u8, what: &str) -> Result<(), String> {
+fn turn(bytes: &mut [u8], offset: usize, bits: u8, field: Field) -> Result<(), String> {
     let length = bytes.len();
     let byte = bytes.get_mut(offset);
-    *byte.ok_or_else(|| format!("the {what} has {length} bytes, counted from 0"))? ^= bits;
+    *byte.ok_or_else(|| format!("the {field} has {length} bytes, counted from 0"))? ^= bits;
     Ok(())
 }
 
 impl fmt::Display for Packet {
     fn fmt(&self, f: &mut fmt::Formatter) -> fmt::Result {
         match self {
-            Packet::Nothing => write!(f, "nothing"),
-            Packet::Raw(bytes) if bytes.is_empty() => write!(f, "empty"),
-            Packet::Raw(bytes) => write!(f, "{}", Hex(bytes)),
-            Packet::Share {
-                number,
-                book,
-                changes,
-            } => {
-                write!(f, "share {number} of {book}")?;
-                changes.iter().try_for_each(|it| write!(f, ", {it}"))
-            }
+            Packet::Nothing => write!(f, "nothing")?,
+            Packet::Raw(bytes) if bytes.is_empty() => write!(f, "empty")?,
+            Packet::Raw(bytes) => write!(f, "{}", Hex(bytes))?,
+            Packet::Share { number, book, .. } => write!(f, "share {number} of {book}")?,
+            Packet::Book { book, .. } => write!(f, "book {book}")?,
         }
+        self.changes().iter().try_for_each(|it| write!(f, ", {it}"))
     }
 }
 
@@ -183,19 +230,29 @@ impl fmt::Display for Change {
             Change::Number(number) => write!(f, "number {number}"),
             Change::Length(length) => write!(f, "length {length}"),
             Change::Path { number, book } => write!(f, "path {number} of {book}"),
-            Change::ShareByte { offset, bits } => damaged(f, "share", *offset, *bits),
-            Change::PathByte { offset, bits } => damaged(f, "path", *offset, *bits),
+            Change::Byte {
+                field,
+                offset,
+                bits: 1,
+            } => write!(f, "{field} byte {offset} damaged"),
+            Change::Byte {
+                field,
+                offset,
+                bits,
+            } => write!(f, "{field} byte {offset} damaged by {bits:02x}"),
             Change::Followed(bytes) => write!(f, "followed by {}", Hex(bytes)),
             Change::Cut(count) => write!(f, "cut by {count}"),
         }
     }
 }
 
-fn damaged(f: &mut fmt::Formatter, what: &str, offset: usize, bits: u8) -> fmt::Result {
-    write!(f, "{what} byte {offset} damaged")?;
-    match bits {
-        1 => Ok(()),
-        _ => write!(f, " by {bits:02x}"),
+impl fmt::Display for Field {
+    fn fmt(&self, f: &mut fmt::Formatter) -> fmt::Result {
+        f.write_str(match self {
+            Field::Share => "share",
+            Field::Path => "path",
+            Field::Book => "book",
+        })
     }
 }
 

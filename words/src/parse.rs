@@ -1,24 +1,25 @@
 //! Reads a plan in words. What a line uses stands above it: the numbers of boxes and of bad
 //! ones first, books before their shares, boxes before what they send or get.
 
+mod sendings;
+
 use std::collections::{BTreeMap, BTreeSet};
 
-use foreign::limits::{LONGEST_ENTRY, MOST_NAMED, MOST_PARTIES};
+use foreign::limits::{LONGEST_ENTRY, MOST_NAMED};
+use foreign::rehearsal::Round;
 use foreign::sha256::Hash;
 
 use crate::books::Book;
 use crate::draft::Draft;
 use crate::lines::{lines, pairs, Error, Line};
-use crate::packet::{Change, Packet};
-use crate::phrases::EXCHANGES;
+use crate::phrases;
 
 /// Words that cannot name a book.
 const KEYWORDS: [&str; 2] = ["box", "hex"];
 
 const BOOK_EXPECTED: &str = "a book: its name, a text in quotes, or 'hex' and digits";
-const STATEMENTS: &str = "'root', 'bit', 'book', 'box', 'first exchange', 'second exchange', \
-    'options', 'behind', 'cut by' or a sender's number";
-const CHANGES: &str = "'map', 'number', 'length', 'path', 'share byte', 'followed by' or 'cut by'";
+const STATEMENTS: &str = "'sender', 'root', 'bit', 'book', 'box', 'sender's exchange', \
+    'first exchange', 'second exchange', 'options', 'behind', 'cut by' or a sender's number";
 
 pub fn parse(text: &str) -> Result<Draft, Error> {
     let mut lines = lines(text)?.into_iter();
@@ -37,7 +38,7 @@ pub fn parse(text: &str) -> Result<Draft, Error> {
     let mut reader = Reader {
         draft: Draft::new(n, t),
         bad: BTreeSet::new(),
-        exchange: None,
+        round: None,
         said: BTreeMap::new(),
     };
     for mut line in lines {
@@ -51,7 +52,8 @@ pub fn parse(text: &str) -> Result<Draft, Error> {
 struct Reader {
     draft: Draft,
     bad: BTreeSet<usize>,
-    exchange: Option<usize>,
+    /// The exchange that the sendings belong to.
+    round: Option<Round>,
     /// What may be said once, and the line where it was.
     said: BTreeMap<String, usize>,
 }
@@ -60,12 +62,14 @@ impl Reader {
     fn statement(&mut self, line: &mut Line) -> Result<(), Error> {
         let unknown = || line.expected(STATEMENTS);
         match line.word().ok_or_else(unknown)? {
+            "sender" => self.sender(line),
             "root" => self.root(line),
             "bit" => self.bit(line),
             "book" => self.book(line),
             "box" => self.member(line),
-            "first" => self.exchange(line, 0),
-            "second" => self.exchange(line, 1),
+            "sender's" => self.exchange(line, Round::Sender),
+            "first" => self.exchange(line, Round::First),
+            "second" => self.exchange(line, Round::Second),
             "options" => self.options(line),
             "behind" => self.behind(line),
             "cut" => self.cut(line),
@@ -89,6 +93,27 @@ impl Reader {
     fn keyword(&mut self, line: &mut Line, keyword: &str) -> Result<(), Error> {
         self.once(format!("'{keyword}'"), line)?;
         line.expect(keyword)
+    }
+
+    /// Which boxes have a book depends on it, so it stands above them.
+    fn sender(&mut self, line: &mut Line) -> Result<(), Error> {
+        self.keyword(line, "sender")?;
+        let number = line.number("the sender's number", 0..=255)?;
+        if !(self.bad.is_empty() && self.draft.good.is_empty()) {
+            return Err(line.error("'sender' must stand above the boxes"));
+        }
+        let n = self.draft.books.n;
+        match ((1..=n).contains(&number), line.accept("outside")) {
+            (true, true) => Err(line.error(format!("sender {number} is one of the {n} boxes"))),
+            (false, false) => Err(line.error(format!(
+                "sender {number} is none of the {n} boxes; a plan that is refused for it has \
+                 'sender {number} outside'"
+            ))),
+            _ => {
+                self.draft.sender = Some(number);
+                Ok(())
+            }
+        }
     }
 
     fn root(&mut self, line: &mut Line) -> Result<(), Error> {
@@ -144,22 +169,19 @@ impl Reader {
         Ok(())
     }
 
-    /// A good box with its book, or a bad box.
+    /// A good box, with its book if the plan lists that, or a bad box.
     fn member(&mut self, line: &mut Line) -> Result<(), Error> {
         line.expect("box")?;
         let number = line.number("a box number", 1..=255)?;
         self.once(format!("box {number}"), line)?;
         if line.accept("is") {
-            line.expect("bad")?;
-            return self.bad(line, number);
+            return self.kind(line, number);
+        }
+        if !self.draft.has_listed(number) {
+            return Err(line.expected("'is good' or 'is bad', as only a good sender has a book"));
         }
         if !line.accept("has") {
             return Err(line.expected("'has' and a book, or 'is bad'"));
-        }
-        if number > MOST_NAMED {
-            return Err(line.error(format!(
-                "box {number} cannot be good: a plan's maps end at {MOST_NAMED}"
-            )));
         }
         let message = match written(line)? {
             Some(message) => message,
@@ -170,7 +192,34 @@ impl Reader {
             }
         };
         self.draft.books.add(&format!("box {number}"), &message);
-        self.draft.good.insert(number, message);
+        self.good(line, number, Some(message))
+    }
+
+    /// What a box is of which no book is said.
+    fn kind(&mut self, line: &mut Line, number: usize) -> Result<(), Error> {
+        if line.accept("bad") {
+            return self.bad(line, number);
+        }
+        let listed = self.draft.has_listed(number);
+        match (line.accept("good"), listed, self.draft.sender) {
+            (true, false, _) => self.good(line, number, None),
+            (true, true, sender) => {
+                let why = sender.map_or("no line above names a sender", |_| "it is the sender");
+                let book = format!("if box {number} is good, its book stands behind 'has'");
+                Err(line.error(format!("{book}, as {why}")))
+            }
+            (false, true, _) => Err(line.expected("'bad'")),
+            (false, false, _) => Err(line.expected("'good' or 'bad'")),
+        }
+    }
+
+    fn good(&mut self, line: &Line, number: usize, book: Option<Vec<u8>>) -> Result<(), Error> {
+        if number > MOST_NAMED {
+            return Err(line.error(format!(
+                "box {number} cannot be good: a plan's maps end at {MOST_NAMED}"
+            )));
+        }
+        self.draft.good.insert(number, book);
         Ok(())
     }
 
@@ -183,13 +232,34 @@ impl Reader {
         Ok(())
     }
 
-    fn exchange(&mut self, line: &mut Line, exchange: usize) -> Result<(), Error> {
-        let keyword = EXCHANGES[exchange];
-        self.once(format!("'{keyword} exchange'"), line)?;
-        line.expect(keyword)?;
+    fn exchange(&mut self, line: &mut Line, round: Round) -> Result<(), Error> {
+        let name = phrases::name(round);
+        self.once(format!("'{name} exchange'"), line)?;
+        line.expect(name)?;
         line.expect("exchange")?;
-        self.exchange = Some(exchange);
+        if round == Round::Sender {
+            self.sender_is_bad(line)?;
+        }
+        self.round = Some(round);
         Ok(())
+    }
+
+    /// Of what a good sender sends a plan says nothing.
+    fn sender_is_bad(&self, line: &Line) -> Result<(), Error> {
+        let Some(sender) = self.draft.sender else {
+            return Err(line.error("no line above names a sender"));
+        };
+        let outside = !(1..=self.draft.books.n).contains(&sender);
+        if outside || self.bad.contains(&sender) {
+            return Ok(());
+        }
+        Err(line.error(match self.draft.is_good(sender) {
+            true => format!(
+                "box {sender} is good and gives its book to all; 'sender's exchange' is for a \
+                 bad sender"
+            ),
+            false => format!("no line above says that box {sender} is bad"),
+        }))
     }
 
     /// A known book's name, or `box` and a good box's number.
@@ -209,108 +279,15 @@ impl Reader {
         book.map_err(|text| line.error(text))
     }
 
-    /// What a bad box sends to one or several.
-    fn sending(&mut self, line: &mut Line) -> Result<(), Error> {
-        let Some(exchange) = self.exchange else {
-            return Err(line.error("'first exchange' or 'second exchange' must stand above"));
-        };
-        let sender = line.number("a sender", 1..=255)?;
-        if !self.bad.contains(&sender) {
-            return Err(line.error(format!("no line above says that box {sender} is bad")));
-        }
-        line.expect("to")?;
-        let mut receivers = vec![line.number("a receiver", 1..=MOST_NAMED)?];
-        while !line.accept_mark(':') {
-            let receiver = line.number("':' or a receiver", 1..=MOST_NAMED)?;
-            receivers.push(receiver);
-        }
-        let packet = self.packet(line)?;
-        let bytes = packet.bytes(&self.draft.books);
-        let bytes = bytes.map_err(|text| line.error(text))?;
-        for receiver in receivers {
-            let place = EXCHANGES[exchange];
-            self.once(
-                format!("{sender} to {receiver} in the {place} exchange"),
-                line,
-            )?;
-            let packets = &mut self.draft.exchanges[exchange];
-            packets.extend(bytes.clone().map(|bytes| ((sender, receiver), bytes)));
-        }
-        Ok(())
-    }
-
-    fn packet(&self, line: &mut Line) -> Result<Packet, Error> {
-        if line.accept("nothing") {
-            return Ok(Packet::Nothing);
-        }
-        if line.accept("empty") {
-            return Ok(Packet::Raw(Vec::new()));
-        }
-        if line.accept("hex") {
-            return Ok(Packet::Raw(line.hex()?));
-        }
-        if !line.accept("share") {
-            return Err(line.expected("'share', 'hex', 'empty' or 'nothing'"));
-        }
-        let number = line.number("a share number", 1..=MOST_PARTIES)?;
-        line.expect("of")?;
-        let book = self.reference(line)?;
-        let mut changes = Vec::new();
-        while line.accept_mark(',') {
-            changes.push(self.change(line)?);
-        }
-        Ok(Packet::Share {
-            number,
-            book,
-            changes,
-        })
-    }
-
-    fn change(&self, line: &mut Line) -> Result<Change, Error> {
-        let known = |word: &str| {
-            let mut all = [
-                "map", "number", "length", "path", "share", "followed", "cut",
-            ]
-            .iter();
-            all.find(|it| **it == word).copied()
-        };
-        let keyword = line.take(known);
-        match keyword.ok_or_else(|| line.expected(CHANGES))? {
-            "map" => Ok(Change::Map(line.number("a map", 0..=255)? as u8)),
-            "number" => Ok(Change::Number(line.number("a number", 0..=255)? as u8)),
-            "length" => Ok(Change::Length(
-                line.number("a length", 0..=LONGEST_ENTRY)? as u16
-            )),
-            "path" if line.word() != Some("byte") => {
-                let number = line.number("'byte' or a share number", 1..=MOST_PARTIES)?;
-                line.expect("of")?;
-                let book = self.reference(line)?;
-                Ok(Change::Path { number, book })
-            }
-            "path" => damage(line).map(|(offset, bits)| Change::PathByte { offset, bits }),
-            "share" => damage(line).map(|(offset, bits)| Change::ShareByte { offset, bits }),
-            "followed" => {
-                line.expect("by")?;
-                line.expect("hex")?;
-                Ok(Change::Followed(line.hex()?))
-            }
-            _ => {
-                line.expect("by")?;
-                Ok(Change::Cut(
-                    line.number("a number of bytes", 1..=LONGEST_ENTRY)?,
-                ))
-            }
-        }
-    }
-
     /// The plan, if every box up to n is named and there is as much as is cut.
     fn finished(self, last: usize) -> Result<Draft, Error> {
         let error = |line, text| Err(Error { line, text });
         let named = |number: &usize| self.bad.contains(number) || self.draft.is_good(*number);
         if let Some(number) = (1..=self.draft.books.n).find(|number| !named(number)) {
-            let good = match number <= MOST_NAMED {
-                true => format!("'box {number} has' and a book, or "),
-                false => String::new(),
+            let good = match (number <= MOST_NAMED, self.draft.has_listed(number)) {
+                (true, true) => format!("'box {number} has' and a book, or "),
+                (true, false) => format!("'box {number} is good' or "),
+                _ => String::new(),
             };
             let lines = format!("{good}'box {number} is bad'");
             return error(last, format!("expected {lines}, found the end of the plan"));
@@ -352,21 +329,4 @@ fn written(line: &mut Line) -> Result<Option<Vec<u8>>, Error> {
         }
         _ => Ok(Some(part.repeat(times))),
     }
-}
-
-/// A byte's offset, and the bits that are turned in it; the lowest one if none are said.
-fn damage(line: &mut Line) -> Result<(usize, u8), Error> {
-    line.expect("byte")?;
-    let offset = line.number("a byte's place", 0..=LONGEST_ENTRY)?;
-    line.expect("damaged")?;
-    if !line.accept("by") {
-        return Ok((offset, 1));
-    }
-    // Bits 00 would leave the byte as it is.
-    let bits = line.take(|word| match pairs(word)?[..] {
-        [bits] if bits != 0 => Some(bits),
-        _ => None,
-    });
-    let bits = bits.ok_or_else(|| line.expected("two hexadecimal digits other than 00"))?;
-    Ok((offset, bits))
 }

@@ -1,9 +1,19 @@
 //! Short phrases that text and picture have in common.
 
+use foreign::rehearsal::Round;
 use foreign::sha256::{hex, Hash};
 
-/// What the exchanges are called.
-pub const EXCHANGES: [&str; 2] = ["first", "second"];
+/// The exchanges of shares.
+pub const EXCHANGES: [Round; 2] = [Round::First, Round::Second];
+
+/// What an exchange is called.
+pub fn name(round: Round) -> &'static str {
+    match round {
+        Round::Sender => "sender's",
+        Round::First => "first",
+        Round::Second => "second",
+    }
+}
 
 /// The first digits of a root.
 pub fn short(root: &Hash) -> String {

@@ -4,7 +4,7 @@ use foreign::rehearsal::{Fault, Takings};
 
 use crate::books::Named;
 use crate::explain::{preface, refused};
-use crate::phrases::{boxes, bytes, cut, short, EXCHANGES};
+use crate::phrases::{boxes, bytes, cut, name, short, EXCHANGES};
 use crate::svg::{wrapped, Svg};
 use crate::text::written;
 use crate::view::{Parcel, View, Worth};
@@ -177,9 +177,9 @@ impl Picture<'_> {
     }
 
     fn exchanges(&mut self, takings: &Takings) -> i32 {
-        let sent = self.view.session.bytes_sent();
-        for (exchange, name) in EXCHANGES.iter().enumerate() {
-            let sent = bytes(sent[exchange]);
+        let [_, sent @ ..] = self.view.session.bytes_sent();
+        for (exchange, round) in EXCHANGES.into_iter().enumerate() {
+            let (name, sent) = (name(round), bytes(sent[exchange]));
             self.bar(&format!("The {name} exchange: the good boxes send {sent}"));
             self.exchange(exchange);
             self.steps(|view, place| view.step(exchange, takings, place));

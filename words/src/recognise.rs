@@ -1,36 +1,39 @@
-//! Finds the words for a packet's bytes: the share of a known book that they are closest to,
-//! with what was changed in it, or else the bytes themselves.
+//! Finds the words for a packet's bytes: the share of a known book, or the whole book, that they
+//! are closest to, with what was changed in it, or else the bytes themselves.
 
+use foreign::message_packet;
 use foreign::packet::HEADER;
 
-use crate::books::{Books, Coded};
-use crate::packet::{Change, Packet};
+use crate::books::{Book, Books, Coded};
+use crate::packet::{Change, Field, Packet};
 
 /// What the bytes are, in the fewest changes; the words always give the same bytes back.
 pub fn recognise(books: &Books, bytes: &[u8]) -> Packet {
-    let alike = books.shares().filter_map(|(book, coded, number)| {
-        let changes = changes(books, coded, number, bytes)?;
-        Some((book, number, changes))
-    });
-    match alike.min_by_key(|(_, _, changes)| changes.len()) {
-        Some((book, number, changes)) => Packet::Share {
+    let shares = books.shares().filter_map(|(book, coded, number)| {
+        Some(Packet::Share {
             number,
             book: book.to_string(),
-            changes,
-        },
-        None => Packet::Raw(bytes.to_vec()),
-    }
+            changes: changes(books, coded, number, bytes)?,
+        })
+    });
+    let whole = books.known.iter().filter_map(|book| {
+        Some(Packet::Book {
+            book: book.name.clone(),
+            changes: book_change(book, bytes)?.into_iter().collect(),
+        })
+    });
+    let alike = shares.chain(whole).min_by_key(|it| it.changes().len());
+    alike.unwrap_or_else(|| Packet::Raw(bytes.to_vec()))
 }
 
 /// What makes the share's packet into these bytes; none if they are too far from it.
 fn changes(books: &Books, coded: &Coded, number: usize, bytes: &[u8]) -> Option<Vec<Change>> {
     let (good_header, good_share, good_path) = coded.fields(number);
-    let (header, behind) = bytes.split_first_chunk()?;
+    let (header, behind) = bytes.split_first_chunk::<HEADER>()?;
     let (share, path) = behind.split_at_checked(good_share.len())?;
     let mut changes = header_changes(good_header, header);
     if share != good_share {
-        let (offset, bits) = one_byte(good_share, share)?;
-        changes.push(Change::ShareByte { offset, bits });
+        changes.push(one_byte(Field::Share, good_share, share)?);
     }
     if path == good_path {
         return Some(changes);
@@ -44,22 +47,52 @@ fn changes(books: &Books, coded: &Coded, number: usize, bytes: &[u8]) -> Option<
     Some(changes)
 }
 
-fn header_changes(good: &[u8; HEADER], header: &[u8; HEADER]) -> Vec<Change> {
-    let &[map, number, high, low] = header;
-    let length = Change::Length(u16::from_be_bytes([high, low]));
-    let candidates = [
-        (map != good[0], Change::Map(map)),
-        (number != good[1], Change::Number(number)),
-        ([high, low] != good[2..], length),
-    ];
-    let changed = candidates.into_iter().filter(|(differs, _)| *differs);
-    changed.map(|(_, change)| change).collect()
+/// The change, if there is any, that makes the book's packet into these bytes; none at all if they
+/// are farther from it, since a short book is close to much.
+fn book_change(book: &Book, bytes: &[u8]) -> Option<Option<Change>> {
+    let good = message_packet::write(&book.message);
+    let (good_header, message) = good.split_at(message_packet::HEADER);
+    let (header, body) = bytes.split_at_checked(message_packet::HEADER)?;
+    let changes = header_changes(good_header, header);
+    match &changes[..] {
+        [] if body == message => Some(None),
+        [change] if body == message => Some(Some(change.clone())),
+        [] => Some(Some(body_change(message, body)?)),
+        _ => None,
+    }
+}
+
+/// How a damaged, longer or shorter book stands in the place of this one.
+fn body_change(message: &[u8], found: &[u8]) -> Option<Change> {
+    if let Some(behind) = found.strip_prefix(message) {
+        return Some(Change::Followed(behind.to_vec()));
+    }
+    match message.starts_with(found) {
+        true => Some(Change::Cut(message.len() - found.len())),
+        false => one_byte(Field::Book, message, found),
+    }
+}
+
+/// Map, number and length, of which a book's packet has no number.
+fn header_changes(good: &[u8], header: &[u8]) -> Vec<Change> {
+    let mut changes = Vec::new();
+    if header[0] != good[0] {
+        changes.push(Change::Map(header[0]));
+    }
+    if header.len() == HEADER && header[1] != good[1] {
+        changes.push(Change::Number(header[1]));
+    }
+    let length = header.last_chunk().expect("a length");
+    if !good.ends_with(length) {
+        changes.push(Change::Length(u16::from_be_bytes(*length)));
+    }
+    changes
 }
 
 /// How another path, or a damaged or longer one, stands in the place of this path.
 fn path_change(books: &Books, path: &[u8], found: &[u8]) -> Option<Change> {
-    if let Some((offset, bits)) = one_byte(path, found) {
-        return Some(Change::PathByte { offset, bits });
+    if let Some(change) = one_byte(Field::Path, path, found) {
+        return Some(change);
     }
     if let Some(behind) = found.strip_prefix(path) {
         return Some(Change::Followed(behind.to_vec()));
@@ -72,13 +105,17 @@ fn path_change(books: &Books, path: &[u8], found: &[u8]) -> Option<Change> {
     })
 }
 
-/// Where the two differ, if that is in one byte alone, and in which bits.
-fn one_byte(good: &[u8], found: &[u8]) -> Option<(usize, u8)> {
+/// The damage to a field, if it is in one byte alone.
+fn one_byte(field: Field, good: &[u8], found: &[u8]) -> Option<Change> {
     if good.len() != found.len() {
         return None;
     }
     let mut pairs = good.iter().zip(found).enumerate();
     let (offset, (good, other)) = pairs.find(|(_, (good, other))| good != other)?;
     let more = pairs.any(|(_, (good, other))| good != other);
-    (!more).then_some((offset, good ^ other))
+    (!more).then_some(Change::Byte {
+        field,
+        offset,
+        bits: good ^ other,
+    })
 }

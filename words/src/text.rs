@@ -2,11 +2,13 @@
 
 use std::collections::BTreeSet;
 
-use foreign::rehearsal::{Exchange, Plan};
+use foreign::message_packet::{self, Reading};
+use foreign::rehearsal::{Plan, Round, Row, Sender};
 use foreign::sha256::{hex, Hash};
 
 use crate::books::{Book, Books, Coded, Named};
 use crate::packet::Hex;
+use crate::phrases::name;
 use crate::recognise::recognise;
 
 /// Lines are broken where they get longer than this.
@@ -22,33 +24,50 @@ pub fn text(plan: &Plan, named: &[Named]) -> String {
     };
     let agreed = words.agreed();
     let members = words.members();
-    let first = words.sendings(&plan.first);
-    let second = words.sendings(&plan.second);
-    let head = [
-        format!("boxes {}", plan.n),
-        format!("limit {}", plan.t),
-        String::new(),
-    ];
-    let title = |exchange: &str| [String::new(), format!("{exchange} exchange")];
-    let mut lines = [&head[..], &words.definitions(), &agreed, &[String::new()]].concat();
-    lines.extend(members);
-    lines.extend(title("first").into_iter().chain(first));
-    lines.extend(title("second").into_iter().chain(second));
-    lines.iter().map(|line| broken(line)).collect()
+    let exchanges = words.exchanges();
+    // The other lines tell which books are spoken of.
+    let agreed = [words.definitions(), agreed].concat();
+    let parts = [vec![words.head(), agreed, members], exchanges].concat();
+    let parts = parts.into_iter().filter(|lines| !lines.is_empty());
+    let parts = parts.map(|lines| lines.iter().map(|line| broken(line)).collect());
+    parts.collect::<Vec<String>>().join("\n")
 }
 
-/// The books, the good parties' ones named by letters where they have no name.
+/// The books: the named ones, and by letters those that are listed or sent in the sender's exchange.
 pub fn known(plan: &Plan, named: &[Named]) -> Books {
     let mut books = Books::new(plan.n, plan.t);
     for (name, message) in named {
         books.add(name, message);
     }
-    for message in &plan.messages {
-        if books.name_of(message).is_none() {
-            books.add(&books.free_name(), message);
+    for message in plan.messages.values().cloned().chain(sent(plan)) {
+        if books.name_of(&message).is_none() {
+            books.add(&books.free_name(), &message);
         }
     }
     books
+}
+
+/// What a bad sender sends that is laid out as a book, also one that is too long, and the empty book
+/// if a good box reads none.
+fn sent(plan: &Plan) -> Vec<Vec<u8>> {
+    let Some(sender) = bad_sender(plan) else {
+        return Vec::new();
+    };
+    let packets = sender.row.iter().flatten();
+    let whole = packets.filter_map(|packet| {
+        let message = packet.get(message_packet::HEADER..)?;
+        (message_packet::write(message) == *packet).then(|| message.to_vec())
+    });
+    let came = |own: &usize| sender.row[own - 1].as_deref().unwrap_or_default();
+    let is_read = |bytes| matches!(message_packet::read(bytes), Reading::Message(_));
+    let all_read = plan.good.iter().map(came).all(is_read);
+    whole.chain((!all_read).then(Vec::new)).collect()
+}
+
+/// The sender, if it is not good; only of such a one a plan says what it sends.
+fn bad_sender(plan: &Plan) -> Option<&Sender> {
+    let sender = plan.sender.as_ref();
+    sender.filter(|it| !plan.good.contains(&it.number))
 }
 
 /// The book whose root this is.
@@ -67,6 +86,19 @@ struct Words<'a> {
 }
 
 impl Words<'_> {
+    fn head(&self) -> Vec<String> {
+        let plan = self.plan;
+        let mut lines = vec![format!("boxes {}", plan.n), format!("limit {}", plan.t)];
+        lines.extend(plan.sender.as_ref().map(|sender| {
+            let outside = match (1..=plan.n).contains(&sender.number) {
+                true => "",
+                false => " outside",
+            };
+            format!("sender {}{outside}", sender.number)
+        }));
+        lines
+    }
+
     /// The lines of the books that are spoken of.
     fn definitions(&self) -> Vec<String> {
         let known = self.books.known.iter();
@@ -88,39 +120,61 @@ impl Words<'_> {
     }
 
     fn members(&mut self) -> Vec<String> {
-        let mut messages = self.plan.messages.iter();
         let mut lines = Vec::new();
         for number in 1..=self.plan.n {
-            if !self.plan.good.contains(&number) {
-                lines.push(format!("box {number} is bad"));
-                continue;
-            }
-            let message = messages.next().expect("each good party has a message");
-            let name = self.books.name_of(message).expect("all are known");
-            self.spoken_of.insert(name.to_string());
-            lines.push(format!("box {number} has {name}"));
+            let is = match self.plan.messages.get(&number) {
+                Some(message) => {
+                    let name = self.books.name_of(message).expect("all are known");
+                    self.spoken_of.insert(name.to_string());
+                    format!("has {name}")
+                }
+                None if self.plan.good.contains(&number) => "is good".to_string(),
+                None => "is bad".to_string(),
+            };
+            lines.push(format!("box {number} {is}"));
         }
         lines
     }
 
-    /// What the bad parties send in one exchange, receivers of one packet together.
-    fn sendings(&mut self, exchange: &Exchange) -> Vec<String> {
+    /// What the bad parties send, exchange by exchange.
+    fn exchanges(&mut self) -> Vec<Vec<String>> {
         let plan = self.plan;
+        let mut parts = Vec::new();
+        if let Some(sender) = bad_sender(plan) {
+            parts.push(self.exchange(Round::Sender, [(sender.number, &sender.row)]));
+        }
+        parts.push(self.exchange(Round::First, (1..).zip(&plan.first)));
+        parts.push(self.exchange(Round::Second, (1..).zip(&plan.second)));
+        parts
+    }
+
+    fn exchange<'a>(
+        &mut self,
+        round: Round,
+        rows: impl IntoIterator<Item = (usize, &'a Row)>,
+    ) -> Vec<String> {
+        let mut lines = vec![format!("{} exchange", name(round))];
+        for (sender, row) in rows {
+            lines.extend(self.sendings(sender, row));
+        }
+        lines
+    }
+
+    /// What one party sends in one exchange, receivers of one packet together.
+    fn sendings(&mut self, sender: usize, row: &Row) -> Vec<String> {
         let mut lines = Vec::new();
-        for sender in (1..=plan.n).filter(|party| !plan.good.contains(party)) {
-            for (receivers, bytes) in by_packet(&exchange[sender - 1]) {
-                let packet = recognise(&self.books, bytes);
-                let books = packet.books().into_iter().map(String::from);
-                self.spoken_of.extend(books);
-                lines.push(format!("{sender} to{receivers}: {packet}"));
-            }
+        for (receivers, bytes) in by_packet(row) {
+            let packet = recognise(&self.books, bytes);
+            let books = packet.books().into_iter().map(String::from);
+            self.spoken_of.extend(books);
+            lines.push(format!("{sender} to{receivers}: {packet}"));
         }
         lines
     }
 }
 
 /// The packets of a row, each once, with the receivers' numbers.
-fn by_packet(row: &[Option<Vec<u8>>]) -> Vec<(String, &[u8])> {
+fn by_packet(row: &Row) -> Vec<(String, &[u8])> {
     let mut packets: Vec<(String, &[u8])> = Vec::new();
     for (receiver, packet) in (1..).zip(row) {
         let Some(packet) = packet else {

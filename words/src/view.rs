@@ -109,7 +109,7 @@ impl View {
     }
 
     pub fn book_of(&self, place: usize) -> &str {
-        let name = self.books.name_of(&self.session.plan.messages[place]);
+        let name = self.books.name_of(&self.session.messages[place]);
         name.expect("every good box's book is known")
     }
 

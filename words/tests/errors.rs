@@ -1,6 +1,7 @@
 //! Wrong words: the line and what was expected there.
 
 use foreign::limits::{LONGEST_ENTRY, LONGEST_MESSAGE, MOST_PARTIES};
+use foreign::message_packet::HEADER;
 use words::input::draft;
 use words::parse::parse;
 
@@ -75,13 +76,13 @@ fn the_first_lines() {
 const STATEMENTS: &Cases = &[
     (
         "boxes 3",
-        "expected 'root', 'bit', 'book', 'box', 'first exchange', 'second exchange', \
-             'options', 'behind', 'cut by' or a sender's number, found 'boxes'",
+        "expected 'sender', 'root', 'bit', 'book', 'box', 'sender's exchange', 'first exchange', \
+             'second exchange', 'options', 'behind', 'cut by' or a sender's number, found 'boxes'",
     ),
     (
         ": 3",
-        "expected 'root', 'bit', 'book', 'box', 'first exchange', 'second exchange', \
-             'options', 'behind', 'cut by' or a sender's number, found ':'",
+        "expected 'sender', 'root', 'bit', 'book', 'box', 'sender's exchange', 'first exchange', \
+             'second exchange', 'options', 'behind', 'cut by' or a sender's number, found ':'",
     ),
     ("first round", "expected 'exchange', found 'round'"),
     (
@@ -164,7 +165,11 @@ const MEMBERS: &Cases = &[
         ("book B 2 times", "expected a text in quotes, or 'hex' and digits, found the end of the line"),
         ("book B 2 times 2 times \"B\"", "expected a text in quotes, or 'hex' and digits, found '2'"),
         ("box 2", "expected 'has' and a book, or 'is bad', found the end of the line"),
-        ("box 2 is good", "expected 'bad', found 'good'"),
+        ("box 2 is fine", "expected 'bad', found 'fine'"),
+        (
+            "box 2 is good",
+            "if box 2 is good, its book stands behind 'has', as no line above names a sender",
+        ),
         ("box 2 has", "expected a book: its name, a text in quotes, or 'hex' and digits, found the end of the line"),
         ("box 2 has C", "no line above has a book C"),
         ("box 0 is bad", "expected a box number from 1 to 255, found '0'"),
@@ -198,7 +203,7 @@ const SENDINGS: &Cases = &[
     ),
     (
         "3 to 1: silence",
-        "expected 'share', 'hex', 'empty' or 'nothing', found 'silence'",
+        "expected 'share', 'book', 'hex', 'empty' or 'nothing', found 'silence'",
     ),
     (
         "3 to 1: hex 7",
@@ -224,8 +229,8 @@ const SENDINGS: &Cases = &[
     ),
     (
         "3 to 1: share 1 of A, damaged",
-        "expected 'map', 'number', 'length', 'path', 'share byte', 'followed by' or 'cut by', \
-             found 'damaged'",
+        "expected 'map', 'number', 'length', 'path', 'share byte', 'book byte', 'followed by' \
+             or 'cut by', found 'damaged'",
     ),
     (
         "3 to 1: share 1 of A, number 256",
@@ -268,6 +273,10 @@ const SENDINGS: &Cases = &[
         "expected two hexadecimal digits other than 00, found '00'",
     ),
     (
+        "3 to 1: share 1 of A, book byte 0 damaged",
+        "a share's packet has no book",
+    ),
+    (
         "3 to 1: share 1 of A, cut by 71",
         "the packet has 70 bytes to cut",
     ),
@@ -292,13 +301,206 @@ fn sendings() {
         "line 6: ",
         &[(
             "3 to 1: empty",
-            "'first exchange' or 'second exchange' must stand above",
+            "'sender's exchange', 'first exchange' or 'second exchange' must stand above",
         )],
     );
     check(&format!("{SOUND}first exchange\n"), "line 7: ", SENDINGS);
     let twice = format!("{SOUND}first exchange\n3 to 1: nothing\n3 to 2 1: empty\n");
     let expected = "line 8: 3 to 1 in the first exchange stands in line 7 already";
     assert_eq!(error(&twice), expected);
+}
+
+const BOOKS: &Cases = &[
+    (
+        "3 to 1: book",
+        "expected a book's name, found the end of the line",
+    ),
+    ("3 to 1: book of A", "no line above has a book of"),
+    ("3 to 1: book box 1", "expected a book's name, found 'box'"),
+    (
+        "3 to 1: book \"AB\"",
+        "expected a book's name, found a text in quotes",
+    ),
+    ("3 to 1: book C", "no line above has a book C"),
+    (
+        "3 to 1: book A number 2",
+        "expected the end of the line, found 'number'",
+    ),
+    (
+        "3 to 1: book A, number 2",
+        "a book's packet has no number and no path",
+    ),
+    (
+        "3 to 1: book A, path 1 of A",
+        "a book's packet has no number and no path",
+    ),
+    (
+        "3 to 1: book A, path byte 0 damaged",
+        "a book's packet has no path",
+    ),
+    (
+        "3 to 1: book A, share byte 0 damaged",
+        "a book's packet has no share",
+    ),
+    (
+        "3 to 1: book A, book 0 damaged",
+        "expected 'byte', found '0'",
+    ),
+    (
+        "3 to 1: book A, book byte 2 damaged",
+        "the book has 2 bytes, counted from 0",
+    ),
+    ("3 to 1: book A, cut by 6", "the packet has 5 bytes to cut"),
+];
+
+/// Whole books are sent in any exchange.
+#[test]
+fn whole_books() {
+    check(&format!("{SOUND}first exchange\n"), "line 7: ", BOOKS);
+    check(
+        &format!("{BAD_SENDER}sender's exchange\n"),
+        "line 8: ",
+        BOOKS,
+    );
+    let most = LONGEST_ENTRY - HEADER;
+    let of_length = |length: usize| {
+        format!("{BAD_SENDER}book B {length} times \"x\"\nsender's exchange\n3 to 1: book B\n")
+    };
+    let (length, over) = (LONGEST_ENTRY + 1, error(&of_length(most + 1)));
+    let expected = format!("line 9: the packet has {length} bytes, over {LONGEST_ENTRY}");
+    assert_eq!(over, expected);
+    assert!(parse(&(of_length(most) + "box 2 is good\n")).is_ok());
+}
+
+/// Two lines that are sound, and what is said of the third.
+const SENDER: &Cases = &[
+    (
+        "sender",
+        "expected the sender's number from 0 to 255, found the end of the line",
+    ),
+    (
+        "sender box 3",
+        "expected the sender's number from 0 to 255, found 'box'",
+    ),
+    (
+        "sender 256",
+        "expected the sender's number from 0 to 255, found '256'",
+    ),
+    (
+        "sender 4",
+        "sender 4 is none of the 3 boxes; a plan that is refused for it has 'sender 4 outside'",
+    ),
+    (
+        "sender 0",
+        "sender 0 is none of the 3 boxes; a plan that is refused for it has 'sender 0 outside'",
+    ),
+    ("sender 3 outside", "sender 3 is one of the 3 boxes"),
+    (
+        "sender 3 inside",
+        "expected the end of the line, found 'inside'",
+    ),
+    ("sender's exchange", "no line above names a sender"),
+    ("sender's round", "expected 'exchange', found 'round'"),
+];
+
+/// Five sound lines whose sender is good.
+const GOOD_SENDER: &str = "boxes 3\nlimit 1\nsender 3\nbook A \"AB\"\nbox 3 has A\n";
+
+const BY_GOOD: &Cases = &[
+    ("sender 3", "'sender' stands in line 3 already"),
+    (
+        "box 2 has A",
+        "expected 'is good' or 'is bad', as only a good sender has a book, found 'has'",
+    ),
+    (
+        "box 2",
+        "expected 'is good' or 'is bad', as only a good sender has a book, found the end of the \
+         line",
+    ),
+    ("box 2 is fine", "expected 'good' or 'bad', found 'fine'"),
+    (
+        "box 17 is good",
+        "box 17 cannot be good: a plan's maps end at 16",
+    ),
+    ("root of box 2", "no line above says what box 2 has"),
+    (
+        "sender's exchange",
+        "box 3 is good and gives its book to all; 'sender's exchange' is for a bad sender",
+    ),
+];
+
+/// Six sound lines whose sender is bad.
+const BAD_SENDER: &str = "boxes 3\nlimit 1\nsender 3\nbook A \"AB\"\nbox 3 is bad\nbox 1 is good\n";
+
+const BY_BAD: &Cases = &[
+    (
+        "sender's exchange\nsender's exchange",
+        "line 8: 'sender's exchange' stands in line 7 already",
+    ),
+    (
+        "sender's exchange\n1 to 2: empty",
+        "line 8: only the sender sends in this exchange",
+    ),
+    (
+        "sender's exchange\n3 to 2: empty\n3 to 1 2: empty",
+        "line 9: 3 to 2 in the sender's exchange stands in line 8 already",
+    ),
+    (
+        "sender's exchange\n3 to 17: empty",
+        "line 8: expected a receiver from 1 to 16, found '17'",
+    ),
+    ("box 1 has A", "line 7: box 1 stands in line 6 already"),
+    (
+        "first exchange",
+        "line 7: expected 'box 2 is good' or 'box 2 is bad', found the end of the plan",
+    ),
+];
+
+#[test]
+fn senders() {
+    check("boxes 3\nlimit 1\n", "line 3: ", SENDER);
+    check(
+        SOUND,
+        "line 6: ",
+        &[("sender 3", "'sender' must stand above the boxes")],
+    );
+    check(GOOD_SENDER, "line 6: ", BY_GOOD);
+    check(BAD_SENDER, "", BY_BAD);
+    check(
+        "boxes 3\nlimit 1\nsender 3\n",
+        "line 4: ",
+        &[
+            (
+                "box 3 is good",
+                "if box 3 is good, its book stands behind 'has', as it is the sender",
+            ),
+            ("sender's exchange", "no line above says that box 3 is bad"),
+        ],
+    );
+}
+
+/// A sender that is none of the boxes sends in its exchange alone, and has no book.
+#[test]
+fn senders_outside() {
+    let head = "boxes 3\nlimit 1\nsender 9 outside\nbox 1 is good\nbox 2 is bad\n";
+    check(
+        head,
+        "",
+        &[
+            (
+                "box 9 has \"A\"",
+                "line 6: expected 'is good' or 'is bad', as only a good sender has a book, found 'has'",
+            ),
+            (
+                "sender's exchange\n2 to 1: empty",
+                "line 7: only the sender sends in this exchange",
+            ),
+            (
+                "first exchange\n9 to 1: empty",
+                "line 7: no line above says that box 9 is bad",
+            ),
+        ],
+    );
 }
 
 #[test]

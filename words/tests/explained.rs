@@ -125,7 +125,7 @@ fn refused_plans() {
         counted from 0.";
     assert_eq!(two("behind hex 00"), format!("{layout}{left_over}"));
     let option = "At byte 2: the option map has an unknown option. It has 9 bytes, counted from 0.";
-    assert_eq!(two("options 4"), format!("{layout}{option}"));
+    assert_eq!(two("options 8"), format!("{layout}{option}"));
 }
 
 #[test]

@@ -2,6 +2,7 @@
 
 use foreign::liars::{Lie, Scene, Sharing, Way};
 use foreign::limits::LONGEST_MESSAGE;
+use foreign::message_packet;
 use foreign::plans::plan;
 use foreign::random::Random;
 use foreign::rehearsal::read;
@@ -97,6 +98,109 @@ second exchange
 fn unusual_words() {
     let bytes = parse(UNUSUAL).expect("good words").bytes();
     assert_eq!(comes_back(&bytes), UNUSUAL);
+}
+
+/// A bad sender's exchange, which the plan's bytes give back as it stands. In the second exchange a
+/// whole book cannot be read, and has words all the same.
+const BY_SENDER: &str = "boxes 5
+limit 2
+sender 4
+
+book A \"Listening\"
+book B \"Reading\"
+book C 3073 times \"x\"
+book D \"\"
+root of D
+bit 0
+
+box 1 is good
+box 2 is good
+box 3 is good
+box 4 is bad
+box 5 is good
+
+sender's exchange
+4 to 1 3: book A
+4 to 2: book B
+4 to 5: book C
+
+first exchange
+4 to 1: share 1 of D
+
+second exchange
+4 to 1: book A
+4 to 2: book B, book byte 0 damaged by 20
+4 to 3: book A, map 9
+4 to 5: hex 08
+";
+
+#[test]
+fn a_bad_sender() {
+    let bytes = parse(BY_SENDER).expect("good words").bytes();
+    assert_eq!(comes_back(&bytes), BY_SENDER);
+    let header = [5, 2, 7];
+    assert!(bytes.starts_with(&header));
+    // Bit, sender, the map of good boxes and that of the receivers, behind the root.
+    assert_eq!(bytes[35..41], [0, 4, 0, 0x17, 0, 0x17]);
+    assert_eq!(bytes[41..46], [0, 12, 8, 0, 9]);
+}
+
+/// Only the sender's book is listed, and nothing of what it sends.
+#[test]
+fn a_good_sender() {
+    let words = "boxes 3
+limit 1
+sender 2
+
+book A \"AB\"
+
+box 1 is good
+box 2 has A
+box 3 is bad
+
+first exchange
+
+second exchange
+3 to 1: hex 09
+";
+    let bytes = parse(words).expect("good words").bytes();
+    assert_eq!(comes_back(&bytes), words);
+    let expected = [3, 1, 4, 2, 0, 3, 0, 2, 65, 66, 0, 0, 0, 1, 0, 1, 9];
+    assert_eq!(bytes, expected);
+}
+
+/// A silent sender, and senders that are none of the boxes.
+#[test]
+fn senders_without_a_book() {
+    let laid_out = |words: &str| parse(words).expect("good words").bytes();
+    let silent = "boxes 3\nlimit 1\nsender 3\n\nbox 1 is good\nbox 2 is good\nbox 3 is bad\n";
+    let bytes = laid_out(silent);
+    assert_eq!(bytes, [3, 1, 4, 3, 0, 3, 0, 0, 0, 0, 0, 0]);
+    let words = comes_back(&bytes);
+    let sections = "\nsender's exchange\n\nfirst exchange\n\nsecond exchange\n";
+    assert_eq!(words, format!("{silent}{sections}"));
+    for number in [0, 4, 16, 17, 255] {
+        let sender = format!("sender {number} outside");
+        let words = silent.replace("sender 3", &sender);
+        let named = format!("{words}sender's exchange\n{number} to 2: hex 08\n");
+        let bytes = laid_out(&named);
+        assert_eq!(bytes[3..11], [number, 0, 3, 0, 2, 0, 1, 8]);
+        let told = comes_back(&bytes);
+        assert!(told.contains(&format!("\n{sender}\n")), "{told}");
+        assert!(
+            told.contains(&format!("\n{number} to 2: hex 08\n")),
+            "{told}"
+        );
+        assert!(told.starts_with("# Refused with cause 3: "), "{told}");
+    }
+    let none = comes_back(&laid_out("boxes 0\nlimit 0\nsender 1 outside"));
+    assert!(none.contains("\nsender 1 outside\n"), "{none}");
+    // Box 16 is beyond n, so the sender is none of the boxes though it is good.
+    let beyond = laid_out(&format!(
+        "{}box 16 is good\n",
+        silent.replace("sender 3", "sender 16 outside")
+    ));
+    assert_eq!(beyond, [3, 1, 4, 16, 0x80, 3, 0, 0, 0, 0, 0, 0]);
 }
 
 /// Long books and packets go on in further lines.
@@ -222,6 +326,34 @@ fn little_in_common() {
     twice[8] ^= 1;
     twice[9] ^= 1;
     assert!(found(&twice).starts_with("hex 07 01 "));
+}
+
+/// A whole book is known by one change at most.
+#[test]
+fn whole_books() {
+    let packet = message_packet::write(B);
+    let changed = |change: fn(&mut Vec<u8>)| {
+        let mut bytes = packet.clone();
+        change(&mut bytes);
+        found(&bytes)
+    };
+    assert_eq!(found(&packet), "book B");
+    assert_eq!(changed(|it| it[0] = 7), "book B, map 7");
+    assert_eq!(changed(|it| it[1] = 1), "book B, length 264");
+    assert_eq!(changed(|it| it[3] ^= 1), "book B, book byte 0 damaged");
+    assert_eq!(
+        changed(|it| it[10] ^= 8),
+        "book B, book byte 7 damaged by 08"
+    );
+    assert_eq!(changed(|it| it.push(9)), "book B, followed by hex 09");
+    assert_eq!(changed(|it| it.truncate(9)), "book B, cut by 2");
+    assert_eq!(changed(|it| it.truncate(3)), "book B, cut by 8");
+    assert_eq!(changed(|it| it.truncate(2)), "hex 08 00");
+    let twice = changed(|it| {
+        it[0] = 7;
+        it[2] = 9;
+    });
+    assert!(twice.starts_with("hex 07 00 09 53 "), "{twice}");
 }
 
 /// A book that no good box has is found if it is named.
