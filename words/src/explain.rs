@@ -1,7 +1,7 @@
 //! A sitting told in text, round by round, for a person. The last lines are those that the
 //! rehearsal prints.
 
-use foreign::rehearsal::{Fault, Takings};
+use foreign::rehearsal::{Fault, Round, Sender, Takings};
 
 use crate::books::Named;
 use crate::causes::{detail, words};
@@ -45,19 +45,34 @@ impl View {
         let rest = match &self.session.takings {
             Some(takings) => self.exchanges(takings),
             None => "\nOn bit 0 every good box ends with nothing; \
-                what the plan says of the exchanges is not used.\n"
+                what the plan says of the first and the second exchange is not used.\n"
                 .to_string(),
         };
-        heading + &self.openings() + &self.agreement() + &rest
+        let sender = plan.sender.as_ref().map(|it| self.sender(it));
+        let opened = sender.unwrap_or_default() + &self.openings();
+        heading + &self.known() + &opened + &self.agreement() + &rest
     }
 
-    fn openings(&self) -> String {
+    fn known(&self) -> String {
         let mut text = "\nBooks\n".to_string();
         for book in &self.books.known {
             let (name, length) = (&book.name, bytes(book.message.len()));
             text += &format!("  {name}, {length}: {}\n", written(&book.message));
         }
-        text += "\nOpenings\n";
+        text
+    }
+
+    fn sender(&self, sender: &Sender) -> String {
+        let mut text = format!("\nThe sender's exchange: {}\n", self.sender_title(sender));
+        text += &self.packets(Round::Sender);
+        for (place, number) in self.session.plan.good.iter().enumerate() {
+            text += &format!("  box {number} {}\n", self.opening(sender, place));
+        }
+        text
+    }
+
+    fn openings(&self) -> String {
+        let mut text = "\nOpenings\n".to_string();
         for (place, number) in self.session.plan.good.iter().enumerate() {
             let root = short(&self.session.roots[place]);
             text += &format!("  box {number} has {}, root {root}\n", self.book_of(place));
@@ -86,28 +101,42 @@ impl View {
 
     fn exchanges(&self, takings: &Takings) -> String {
         let mut text = String::new();
-        for (exchange, round) in EXCHANGES.into_iter().enumerate() {
-            let name = name(round);
-            text += &format!("\nThe {name} exchange\n{}", self.packets(exchange));
+        for round in EXCHANGES {
+            text += &format!("\nThe {} exchange\n{}", name(round), self.packets(round));
             for (place, number) in self.session.plan.good.iter().enumerate() {
-                let step = self.step(exchange, takings, place);
+                let step = self.step(round, takings, place);
                 text += &format!("  box {number} {step}\n");
             }
         }
-        let [_, first, second] = self.session.bytes_sent();
-        text += "\nResults\n";
+        text + &self.results()
+    }
+
+    fn results(&self) -> String {
+        let mut text = "\nResults\n".to_string();
         for (place, number) in self.session.plan.good.iter().enumerate() {
             text += &format!("  box {number} {}\n", self.ending(place));
         }
-        text + &format!(
-            "  bytes sent by good boxes: {first} in the first exchange, {second} in the second\n"
-        )
+        let empty = |result: &Option<Vec<u8>>| result.as_ref().is_some_and(Vec::is_empty);
+        if self.session.results.iter().any(empty) {
+            text += "  the empty book is a book and not nothing: below, '=' stands for it and '-' \
+                for nothing\n";
+        }
+        let [sender, first, second] = self.session.bytes_sent();
+        text + &match self.session.plan.sender {
+            Some(_) => format!(
+                "  bytes sent by good boxes: {sender} in the sender's exchange, {first} in the \
+                 first, {second} in the second; 'sent' has all of them\n"
+            ),
+            None => format!(
+                "  bytes sent by good boxes: {first} in the first exchange, {second} in the second\n"
+            ),
+        }
     }
 
     /// A line for each packet.
-    fn packets(&self, exchange: usize) -> String {
+    fn packets(&self, round: Round) -> String {
         let mut text = String::new();
-        for it in self.parcels(exchange) {
+        for it in self.parcels(round) {
             let (length, worth) = (bytes(it.length), it.worth.words());
             let way = format!("{} to {}", it.sender, it.receiver);
             text += &format!("  {way:<8} {length:>11}   {worth:<18} {}\n", it.what);

@@ -1,6 +1,6 @@
 //! A sitting as a picture: boxes as columns, time downward, an arrow for each packet.
 
-use foreign::rehearsal::{Fault, Takings};
+use foreign::rehearsal::{Fault, Round, Sender, Takings};
 
 use crate::books::Named;
 use crate::explain::{preface, refused};
@@ -20,6 +20,21 @@ const BOOK_SHOWN: usize = 80;
 const PACKET_SHOWN: usize = 40;
 /// The narrowest picture, so that headings have room.
 const LEAST_WIDTH: i32 = 640;
+
+/// What an arrow of a kind, with further classes, means.
+type Entry = (&'static str, &'static str, &'static str);
+const OF_BOOKS: [Entry; 1] = [("book", "", "a book that is read")];
+const OF_SHARES: [Entry; 4] = [
+    ("passes", "", "passes the check"),
+    ("passes", "taken", "passes, is taken and relayed"),
+    ("passes", "pale", "to a happy box, which does not look"),
+    ("fails", "", "fails the check, or bears another number"),
+];
+const OF_BOTH: [Entry; 3] = [
+    ("unreadable", "", "cannot be read"),
+    ("silence", "", "silence"),
+    ("to-bad", "pale", "to a bad box"),
+];
 
 pub fn picture(plan: &[u8], named: &[Named]) -> String {
     match View::new(plan, named) {
@@ -82,11 +97,15 @@ impl Picture<'_> {
         }
         self.titles();
         let top = self.y;
+        if let Some(sender) = &self.view.session.plan.sender {
+            self.sender(sender);
+        }
         self.heads();
         let lanes_end = match &self.view.session.takings {
             Some(takings) => self.exchanges(takings),
             None => self.no_exchange(),
         };
+        self.legend();
         let mut whole = Svg::default();
         for number in 1..=self.view.n() {
             let x = self.x(number);
@@ -122,6 +141,27 @@ impl Picture<'_> {
             self.paragraph("", &format!("Book {}: {words}", book.name));
         }
         self.y += 12;
+    }
+
+    /// The sender's exchange, above what the boxes open with.
+    fn sender(&mut self, sender: &Sender) {
+        let cards = (1..=self.view.n()).map(|number| self.role(number, sender.number));
+        self.cards(cards.collect());
+        let title = self.view.sender_title(sender);
+        self.bar(&format!("The sender's exchange: {title}"));
+        self.exchange(Round::Sender);
+        self.steps(|view, place| view.opening(sender, place));
+    }
+
+    /// What a box is before it opens.
+    fn role(&self, number: usize, sender: usize) -> Card {
+        let (class, kind) = match self.view.place(number) {
+            Some(_) => ("step", "good"),
+            None => ("bad", "bad"),
+        };
+        let mut text = vec![format!("box {number}"), kind.to_string()];
+        text.extend((number == sender).then(|| "the sender".to_string()));
+        Card::new(number, class, &text)
     }
 
     /// What each box is and has.
@@ -178,19 +218,17 @@ impl Picture<'_> {
 
     fn exchanges(&mut self, takings: &Takings) -> i32 {
         let [_, sent @ ..] = self.view.session.bytes_sent();
-        for (exchange, round) in EXCHANGES.into_iter().enumerate() {
-            let (name, sent) = (name(round), bytes(sent[exchange]));
+        for (round, sent) in EXCHANGES.into_iter().zip(sent) {
+            let (name, sent) = (name(round), bytes(sent));
             self.bar(&format!("The {name} exchange: the good boxes send {sent}"));
-            self.exchange(exchange);
-            self.steps(|view, place| view.step(exchange, takings, place));
+            self.exchange(round);
+            self.steps(|view, place| view.step(round, takings, place));
         }
-        let lanes_end = self.results();
-        self.legend();
-        lanes_end
+        self.results()
     }
 
     fn no_exchange(&mut self) -> i32 {
-        self.bar("On bit 0 nothing is sent");
+        self.bar("On bit 0 no shares are sent");
         self.results()
     }
 
@@ -223,8 +261,8 @@ impl Picture<'_> {
         self.cards(cards.collect());
     }
 
-    fn exchange(&mut self, exchange: usize) {
-        let parcels = self.view.parcels(exchange);
+    fn exchange(&mut self, round: Round) {
+        let parcels = self.view.parcels(round);
         for row in parcels.chunk_by(|one, next| one.sender == next.sender) {
             self.row(row);
         }
@@ -254,7 +292,7 @@ impl Picture<'_> {
         self.svg.arrow(from, (x, y), kind, class);
         let what = wrapped(&cut(&parcel.what, PACKET_SHOWN), self.letters());
         let worth = match parcel.worth {
-            Worth::Passes | Worth::ToBadBox => Vec::new(),
+            Worth::Book | Worth::Passes | Worth::ToBadBox => Vec::new(),
             worth => wrapped(&worth.words(), self.letters()),
         };
         let what = what.into_iter().map(|line| (line, "ink"));
@@ -268,25 +306,24 @@ impl Picture<'_> {
         height
     }
 
+    /// The kinds of arrows that the picture may have.
     fn legend(&mut self) {
-        let entries = [
-            ("passes", "", "passes the check"),
-            ("passes", "taken", "passes, is taken and relayed"),
-            ("passes", "pale", "to a happy box, which does not look"),
-            ("fails", "", "fails the check, or bears another number"),
-            ("unreadable", "", "cannot be read"),
-            ("silence", "", "silence"),
-            ("to-bad", "pale", "to a bad box"),
-        ];
+        let session = &self.view.session;
+        let sender = session.plan.sender.iter().flat_map(|_| OF_BOOKS);
+        let shares = session.takings.iter().flat_map(|_| OF_SHARES);
+        let mut entries: Vec<Entry> = sender.chain(shares).collect();
+        if !entries.is_empty() {
+            entries.extend(OF_BOTH);
+        }
         let width = 310;
         let in_row = ((self.width() - 2 * MARGIN) / width).max(1);
+        let rows = (entries.len() as i32 + in_row - 1) / in_row;
         for (place, (kind, class, words)) in (0..).zip(entries) {
             let x = MARGIN + place % in_row * width;
             let y = self.y + 8 + place / in_row * 18;
             self.svg.arrow((x, y), (x + 40, y), kind, class);
             self.svg.text((x + 48, y + 4), "", words);
         }
-        let rows = (entries.len() as i32 + in_row - 1) / in_row;
         self.y += rows * 18;
     }
 }
@@ -313,6 +350,7 @@ impl Card {
 /// The kind of arrow for a packet of this worth.
 fn kind(worth: Worth) -> &'static str {
     match worth {
+        Worth::Book => "book",
         Worth::Passes => "passes",
         Worth::FailsCheck | Worth::OtherNumber(_) => "fails",
         Worth::Unreadable => "unreadable",

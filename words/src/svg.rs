@@ -2,7 +2,8 @@
 //! script is fetched from elsewhere.
 
 /// The kinds of arrow, each with its colour and its dashes.
-pub const ARROWS: [(&str, &str, &str); 5] = [
+pub const ARROWS: [(&str, &str, &str); 6] = [
+    ("book", "#2166ac", "none"),
     ("passes", "#1b7837", "none"),
     ("fails", "#c0392b", "8 4"),
     ("unreadable", "#7b3294", "2 3"),

@@ -2,13 +2,13 @@
 //! and its worth to the receiver, and what each good box did. All of it is worked out by the
 //! foreign implementation; here it is put into words.
 
-use foreign::liars::Way;
+use foreign::message_packet;
 use foreign::packet::{classify, read, Reading, Standing};
 use foreign::party::Rebuilt;
-use foreign::rehearsal::{play, play_regardless, Fault, Session, Takings};
+use foreign::rehearsal::{play, play_regardless, Fault, Round, Row, Sender, Session, Takings};
 
 use crate::books::{Books, Named};
-use crate::phrases::{cut, numbers};
+use crate::phrases::{bytes, cut, numbers};
 use crate::recognise::recognise;
 use crate::text::{known, named_root, written};
 
@@ -29,7 +29,7 @@ pub struct Parcel {
     pub length: usize,
     pub what: String,
     pub worth: Worth,
-    /// The receiver is good and unhappy, and so looks at it.
+    /// The receiver is good and looks at it: a happy one does so only in the sender's exchange.
     pub looked_at: bool,
     /// Its share is the one that the receiver relays.
     pub taken: bool,
@@ -38,6 +38,8 @@ pub struct Parcel {
 /// What a packet is to its receiver.
 #[derive(Clone, Copy, Debug, PartialEq, Eq)]
 pub enum Worth {
+    /// A whole book that the receiver opens with.
+    Book,
     Passes,
     FailsCheck,
     OtherNumber(usize),
@@ -49,6 +51,7 @@ pub enum Worth {
 impl Worth {
     pub fn words(self) -> String {
         match self {
+            Worth::Book => "is read".to_string(),
             Worth::Passes => "passes".to_string(),
             Worth::FailsCheck => "fails the check".to_string(),
             Worth::OtherNumber(number) => format!("bears number {number}"),
@@ -129,41 +132,48 @@ impl View {
         name.map_or("of no book here".to_string(), |name| format!("of {name}"))
     }
 
-    /// The packets of exchange 0 or 1, by sender and receiver.
-    pub fn parcels(&self, exchange: usize) -> Vec<Parcel> {
+    /// The packets of an exchange, by sender and receiver.
+    pub fn parcels(&self, round: Round) -> Vec<Parcel> {
         let plan = &self.session.plan;
+        let rows: Vec<(usize, &Row)> = match round {
+            Round::Sender => plan.sender.iter().map(|it| (it.number, &it.row)).collect(),
+            Round::First => (1..).zip(&plan.first).collect(),
+            Round::Second => (1..).zip(&plan.second).collect(),
+        };
         let mut parcels = Vec::new();
-        for (sender, row) in (1..).zip([&plan.first, &plan.second][exchange]) {
+        for (sender, row) in rows {
             for (receiver, packet) in (1..).zip(row) {
-                let way = Way::new(exchange, sender, receiver);
-                let parcel = |it: &Vec<u8>| self.parcel(way, exchange, it);
+                let parcel = |it: &Vec<u8>| self.parcel(round, (sender, receiver), it);
                 parcels.extend(packet.as_ref().map(parcel));
             }
         }
         parcels
     }
 
-    fn parcel(&self, way: Way, exchange: usize, packet: &[u8]) -> Parcel {
-        let place = self.place(way.receiver);
-        let taken = match (&self.session.takings, place, exchange) {
-            (Some(takings), Some(place), 0) => takings.sources[place] == Some(way.sender),
+    fn parcel(&self, round: Round, (sender, receiver): (usize, usize), packet: &[u8]) -> Parcel {
+        let place = self.place(receiver);
+        let taken = match (&self.session.takings, place, round) {
+            (Some(takings), Some(place), Round::First) => takings.sources[place] == Some(sender),
             _ => false,
         };
         Parcel {
-            sender: way.sender,
-            receiver: way.receiver,
+            sender,
+            receiver,
             length: packet.len(),
             what: self.what(packet),
-            worth: match place {
-                Some(_) => self.worth(way.demanded, packet),
-                None => Worth::ToBadBox,
+            worth: match (place, round) {
+                (None, _) => Worth::ToBadBox,
+                (_, Round::Sender) => book_worth(packet),
+                (_, Round::First) => self.share_worth(receiver, packet),
+                (_, Round::Second) => self.share_worth(sender, packet),
             },
-            looked_at: place.is_some_and(|place| !self.happy(place)),
+            looked_at: place.is_some_and(|place| round == Round::Sender || !self.happy(place)),
             taken,
         }
     }
 
-    fn worth(&self, demanded: usize, packet: &[u8]) -> Worth {
+    /// The worth to a box that demands this share.
+    fn share_worth(&self, demanded: usize, packet: &[u8]) -> Worth {
         let standing = classify(self.n(), demanded, self.session.root, packet);
         match (standing, read(self.n(), packet)) {
             (Ok(Standing::Valid(_)), _) => Worth::Passes,
@@ -179,10 +189,36 @@ impl View {
         cut(&recognise(&self.books, packet).to_string(), SHOWN)
     }
 
-    /// What a good box does with its inbox of exchange 0 or 1.
-    pub fn step(&self, exchange: usize, takings: &Takings, place: usize) -> String {
-        match exchange {
-            0 => self.first_step(takings, place),
+    /// Who sends in the sender's exchange.
+    pub fn sender_title(&self, sender: &Sender) -> String {
+        let number = sender.number;
+        let [sent, ..] = self.session.bytes_sent();
+        match self.place(number) {
+            Some(_) if self.n() == 1 => format!("box {number} is alone and sends nothing"),
+            Some(_) => format!("good box {number} gives its book to all, {}", bytes(sent)),
+            None => format!("bad box {number} sends what it likes"),
+        }
+    }
+
+    /// How a good box opens by the sender.
+    pub fn opening(&self, sender: &Sender, place: usize) -> String {
+        let (own, book) = (self.session.plan.good[place], self.book_of(place));
+        if own == sender.number {
+            return format!("is the sender and opens with its own book {book}");
+        }
+        let came = sender.row[own - 1].as_deref();
+        let why = match came.map(book_worth) {
+            Some(Worth::Book) => return format!("reads {book} and opens with it"),
+            Some(Worth::Unreadable) => "cannot read its packet",
+            _ => "gets nothing",
+        };
+        format!("{why} and opens with the empty book, {book}")
+    }
+
+    /// What a good box does with its inbox of the first or the second exchange.
+    pub fn step(&self, round: Round, takings: &Takings, place: usize) -> String {
+        match round {
+            Round::First => self.first_step(takings, place),
             _ => self.second_step(takings, place),
         }
     }
@@ -201,7 +237,7 @@ impl View {
 
     fn second_step(&self, takings: &Takings, place: usize) -> String {
         let Some(gathered) = &takings.gathered[place] else {
-            return "is happy, looks at no packet and keeps its own book".to_string();
+            return "is happy, looks at no packet and keeps its book".to_string();
         };
         let present = (1..).zip(gathered).filter(|(_, share)| !share.is_empty());
         let present: Vec<usize> = present.map(|(number, _)| number).collect();
@@ -235,7 +271,19 @@ impl View {
     pub fn ending(&self, place: usize) -> String {
         match &self.session.results[place] {
             None => "ends with nothing".to_string(),
+            Some(message) if message.is_empty() => {
+                format!("ends with {}, the empty book", self.called(message))
+            }
             Some(message) => format!("ends with {}", self.called(message)),
         }
+    }
+}
+
+/// The worth of a sender's packet to a good box.
+fn book_worth(packet: &[u8]) -> Worth {
+    match message_packet::read(packet) {
+        message_packet::Reading::Message(_) => Worth::Book,
+        message_packet::Reading::Silence => Worth::Silence,
+        message_packet::Reading::Refused(_) => Worth::Unreadable,
     }
 }

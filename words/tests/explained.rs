@@ -3,7 +3,7 @@
 
 use foreign::limits::LONGEST_MESSAGE;
 use foreign::plans::plan;
-use foreign::rehearsal::{play, rehearse};
+use foreign::rehearsal::{play, rehearse, Round};
 use words::explain::explain;
 use words::input::given;
 use words::phrases::grouped;
@@ -58,7 +58,7 @@ The second exchange
   2 to 3      70 bytes   passes             share 2 of A
   3 to 1      38 bytes   goes to a bad box  share 3 of A
   3 to 2      38 bytes   passes             share 3 of A
-  box 2 is happy, looks at no packet and keeps its own book
+  box 2 is happy, looks at no packet and keeps its book
   box 3 gathers shares 2 3 and rebuilds the book from 2 3
 
 Results
@@ -75,6 +75,127 @@ sent 324
 fn a_sitting_word_by_word() {
     let (plan, named) = given(WORDS.as_bytes()).expect("good words");
     assert_eq!(explain(&plan, &named), TOLD);
+}
+
+/// Box 2 is bad and the sender. It gives box 1 a book, box 3 one of which a byte is missing, and
+/// box 4 nothing; both open with the empty book, and box 3 would not rebuild A.
+const BY_SENDER: &str = "boxes 4
+limit 1
+sender 2
+book A \"A\"
+root of A
+bit 1
+box 1 is good
+box 2 is bad
+box 3 is good
+box 4 is good
+sender's exchange
+2 to 1: book A
+2 to 3: book A, cut by 1
+first exchange
+2 to 3: book A
+";
+
+const BY_SENDER_TOLD: &str =
+    "Sitting of 4 boxes, of which 1 may be bad; 3 of the shares give a book back.
+
+Books
+  A, 1 byte: \"A\"
+  B, 0 bytes: \"\"
+
+The sender's exchange: bad box 2 sends what it likes
+  2 to 1       4 bytes   is read            book A
+  2 to 3       3 bytes   cannot be read     book A, cut by 1
+  box 1 reads A and opens with it
+  box 3 cannot read its packet and opens with the empty book, B
+  box 4 gets nothing and opens with the empty book, B
+";
+
+const BY_SENDER_FIRST: &str = "
+The first exchange
+  1 to 2      69 bytes   goes to a bad box  share 2 of A
+  1 to 3      69 bytes   passes             share 3 of A
+  1 to 4      69 bytes   passes             share 4 of A
+  2 to 3       4 bytes   cannot be read     book A
+";
+
+const BY_SENDER_END: &str = "
+Results
+  box 1 ends with A
+  box 3 ends with A
+  box 4 ends with A
+  bytes sent by good boxes: 0 in the sender's exchange, 207 in the first, 621 in the second; \
+'sent' has all of them
+
+1 = 41
+3 = 41
+4 = 41
+sent 828
+";
+
+#[test]
+fn a_bad_sender_word_by_word() {
+    let (plan, named) = given(BY_SENDER.as_bytes()).expect("good words");
+    let told = explain(&plan, &named);
+    assert!(told.starts_with(BY_SENDER_TOLD), "{told}");
+    assert!(told.contains(BY_SENDER_FIRST), "{told}");
+    assert!(told.ends_with(BY_SENDER_END), "{told}");
+}
+
+/// What is told of these words, from one heading up to the next.
+fn told_under(heading: &str, words: &str) -> String {
+    let (plan, named) = given(words.as_bytes()).expect("good words");
+    let told = explain(&plan, &named);
+    let (_, told) = told.split_once(&format!("\n{heading}")).expect("a heading");
+    let (told, _) = told.split_once("\n\n").expect("more");
+    told.to_string()
+}
+
+#[test]
+fn a_good_sender() {
+    let words = "boxes 3\nlimit 1\nsender 2\nbox 1 is bad\nbox 2 has \"AB\"\nbox 3 is good\n";
+    let expected = ": good box 2 gives its book to all, 10 bytes
+  2 to 1       5 bytes   goes to a bad box  book A
+  2 to 3       5 bytes   is read            book A
+  box 2 is the sender and opens with its own book A
+  box 3 reads A and opens with it";
+    assert_eq!(told_under("The sender's exchange", words), expected);
+    let results = told_under("Results", words);
+    let sent = "  bytes sent by good boxes: 10 in the sender's exchange, ";
+    assert!(
+        results.lines().any(|line| line.starts_with(sent)),
+        "{results}"
+    );
+    let alone = "boxes 1\nlimit 0\nsender 1\nbox 1 has \"AB\"\n";
+    let expected =
+        ": box 1 is alone and sends nothing\n  box 1 is the sender and opens with its own book A";
+    assert_eq!(told_under("The sender's exchange", alone), expected);
+}
+
+/// The empty book settled is told apart from nothing, and so is one that a sender gave.
+#[test]
+fn the_empty_book() {
+    let silent = "boxes 3\nlimit 1\nsender 3\nbox 1 is good\nbox 2 is good\nbox 3 is bad\n";
+    let expected = "
+  box 1 ends with A, the empty book
+  box 2 ends with A, the empty book
+  the empty book is a book and not nothing: below, '=' stands for it and '-' for nothing";
+    let told = told_under("Results", silent);
+    assert!(told.starts_with(expected), "{told}");
+    let sent = silent.replace("sender 3\n", "sender 3\nbook None \"\"\n");
+    let sent = format!("{sent}sender's exchange\n3 to 1: book None\n3 to 2: hex 00\n");
+    let expected = ": bad box 3 sends what it likes
+  3 to 1       3 bytes   is read            book None
+  3 to 2        1 byte   is silence         hex 00
+  box 1 reads None and opens with it
+  box 2 gets nothing and opens with the empty book, None";
+    assert_eq!(told_under("The sender's exchange", &sent), expected);
+    let nothing = silent.replace("sender 3\n", "sender 3\nbit 0\n");
+    let nothing = format!("{nothing}sender's exchange\n3 to 1: hex 08 00 01 41\n");
+    let (plan, _) = given(nothing.as_bytes()).expect("good words");
+    let told = explain(&plan, &[]);
+    assert!(!told.contains("is a book and not nothing"), "{told}");
+    assert!(told.ends_with("\n\n1 -\n2 -\nsent 0\n"), "{told}");
 }
 
 /// Why a plan in these words is refused.
@@ -126,6 +247,47 @@ fn refused_plans() {
     assert_eq!(two("behind hex 00"), format!("{layout}{left_over}"));
     let option = "At byte 2: the option map has an unknown option. It has 9 bytes, counted from 0.";
     assert_eq!(two("options 8"), format!("{layout}{option}"));
+}
+
+/// A sender that no box is: what it sends is looked for all the same.
+#[test]
+fn refused_senders() {
+    let outside =
+        "boxes 3\nlimit 1\nsender 4 outside\nbox 1 is good\nbox 2 is good\nbox 3 is bad\n";
+    let expected = "Refused with cause 3: the sender's number is not 1 to n.\n\
+        The plan has n 3 and sender 4.";
+    assert_eq!(refusal(outside), expected);
+    let misplaced = |words: &str, place: &str| {
+        let layout =
+            "Refused with cause 13: the plan is badly laid out, or longer than 60,000 bytes.\n";
+        let expected = format!("{layout}At byte {place}, counted from 0.");
+        assert_eq!(refusal(&format!("{outside}{words}")), expected);
+    };
+    let short = "the plan runs out, 1 byte short. It has";
+    let receivers =
+        |sender, exchange| format!("box {sender}'s map of receivers in the {exchange} exchange");
+    let second = receivers(3, "second");
+    misplaced("cut by 1", &format!("10, in {second}: {short} 11 bytes"));
+    let own = receivers(4, "sender's");
+    misplaced("cut by 5", &format!("6, in {own}: {short} 7 bytes"));
+    misplaced(
+        "cut by 9",
+        &format!("3, in the sender's number: {short} 3 bytes"),
+    );
+    let not_good = format!("6: {own} has one that is not good. It has 14 bytes");
+    misplaced("sender's exchange\n4 to 3: empty", &not_good);
+}
+
+/// Causes 4 and 14 where the sender is good.
+#[test]
+fn refused_books_of_senders() {
+    let good = "boxes 2\nlimit 0\nsender 2\nbook A \"\"\nbox 1 is good\nbox 2 has A\n";
+    let over = LONGEST_MESSAGE + 1;
+    let long = good.replace("A \"\"", &format!("A {over} times \"x\""));
+    assert!(refusal(&long).ends_with("\nBox 2's book is too long."));
+    let against =
+        "\nAll good boxes put one bit into the short agreement, and the plan gives another.";
+    assert!(refusal(&format!("{good}bit 0\n")).ends_with(against));
 }
 
 #[test]
@@ -204,7 +366,7 @@ fn what_passes_is_what_was_taken() {
         let Some(takings) = &view.session.takings else {
             continue;
         };
-        let exchanges = [view.parcels(0), view.parcels(1)];
+        let exchanges = [Round::First, Round::Second].map(|round| view.parcels(round));
         for (place, &own) in view.session.plan.good.iter().enumerate() {
             let Some(gathered) = &takings.gathered[place] else {
                 assert!(view.happy(place));
@@ -250,18 +412,60 @@ fn pictures_are_sound() {
         let svg = picture(&bytes, &[]);
         is_sound(&svg);
         let arrows = svg.matches("class=\"arrow ").count();
-        let packets = match View::new(&bytes, &[]) {
-            Ok(view) if view.session.bit == 1 => {
-                view.parcels(0).len() + view.parcels(1).len() + LEGEND
-            }
-            _ => 0,
-        };
-        assert_eq!(arrows, packets);
+        let view = View::new(&bytes, &[]);
+        assert_eq!(arrows, view.map_or(0, |view| expected_arrows(&view)));
     }
 }
 
-/// The arrows of the legend.
-const LEGEND: usize = 7;
+/// The packets of each exchange that is held, and the legend.
+fn expected_arrows(view: &View) -> usize {
+    let packets = |round| view.parcels(round).len();
+    let (sender, shares) = (view.session.plan.sender.is_some(), view.session.bit == 1);
+    let mut arrows = 0;
+    if sender {
+        arrows += packets(Round::Sender) + OF_BOOKS;
+    }
+    if shares {
+        arrows += packets(Round::First) + packets(Round::Second) + OF_SHARES;
+    }
+    match sender || shares {
+        true => arrows + OF_BOTH,
+        false => arrows,
+    }
+}
+
+/// The arrows of the legend: for a sender's exchange, for the other two, and for all of them.
+const OF_BOOKS: usize = 1;
+const OF_SHARES: usize = 4;
+const OF_BOTH: usize = 3;
+
+/// The sender's exchange stands above what the boxes open with.
+#[test]
+fn a_senders_picture() {
+    let (plan, named) = given(BY_SENDER.as_bytes()).expect("good words");
+    let svg = picture(&plan, &named);
+    is_sound(&svg);
+    let view = View::new(&plan, &named).expect("a sound plan");
+    let arrows = svg.matches("class=\"arrow ").count();
+    assert_eq!(arrows, expected_arrows(&view));
+    assert_eq!(svg.matches("class=\"arrow book ").count(), 1 + OF_BOOKS);
+    let place = |text: &str| svg.find(&format!(">{text}<")).expect(text);
+    let parts = [
+        "the sender",
+        "The sender's exchange: bad box 2 sends what it likes",
+        "box 2 sends",
+        "reads A and opens",
+        "has A",
+        "The first exchange: the good boxes send 207 bytes",
+    ];
+    assert!(parts.map(place).is_sorted());
+    let undecided = BY_SENDER.replace("bit 1", "bit 0");
+    let (plan, named) = given(undecided.as_bytes()).expect("good words");
+    let svg = picture(&plan, &named);
+    is_sound(&svg);
+    let arrows = svg.matches("class=\"arrow ").count();
+    assert_eq!(arrows, 2 + OF_BOOKS + OF_BOTH);
+}
 
 /// A book's text may hold signs that SVG uses.
 #[test]
