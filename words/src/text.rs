@@ -33,13 +33,16 @@ pub fn text(plan: &Plan, named: &[Named]) -> String {
     parts.collect::<Vec<String>>().join("\n")
 }
 
-/// The books: the named ones, and by letters those that are listed or sent in the sender's exchange.
+/// The books: the named ones, and by letters those that are listed, sent whole or opened with.
 pub fn known(plan: &Plan, named: &[Named]) -> Books {
     let mut books = Books::new(plan.n, plan.t);
     for (name, message) in named {
         books.add(name, message);
     }
-    for message in plan.messages.values().cloned().chain(sent(plan)) {
+    let listed = plan.messages.values().cloned();
+    // A good box that reads no book of a sender opens with the empty one.
+    let empty = one_reads_none(plan).then(Vec::new);
+    for message in listed.chain(sent_whole(plan)).chain(empty) {
         if books.name_of(&message).is_none() {
             books.add(&books.free_name(), &message);
         }
@@ -47,21 +50,25 @@ pub fn known(plan: &Plan, named: &[Named]) -> Books {
     books
 }
 
-/// What a bad sender sends that is laid out as a book, also one that is too long, and the empty book
-/// if a good box reads none.
-fn sent(plan: &Plan) -> Vec<Vec<u8>> {
-    let Some(sender) = bad_sender(plan) else {
-        return Vec::new();
-    };
-    let packets = sender.row.iter().flatten();
-    let whole = packets.filter_map(|packet| {
+/// The books of all packets that are laid out as a book's, also of such as cannot be read.
+fn sent_whole(plan: &Plan) -> Vec<Vec<u8>> {
+    let sender = plan.sender.iter().map(|it| &it.row);
+    let rows = sender.chain(&plan.first).chain(&plan.second);
+    let whole = rows.flatten().flatten().filter_map(|packet| {
         let message = packet.get(message_packet::HEADER..)?;
         (message_packet::write(message) == *packet).then(|| message.to_vec())
     });
+    whole.collect()
+}
+
+/// Whether a bad sender gives no book to one of the good boxes.
+fn one_reads_none(plan: &Plan) -> bool {
+    let Some(sender) = bad_sender(plan) else {
+        return false;
+    };
     let came = |own: &usize| sender.row[own - 1].as_deref().unwrap_or_default();
     let is_read = |bytes| matches!(message_packet::read(bytes), Reading::Message(_));
-    let all_read = plan.good.iter().map(came).all(is_read);
-    whole.chain((!all_read).then(Vec::new)).collect()
+    !plan.good.iter().map(came).all(is_read)
 }
 
 /// The sender, if it is not good; only of such a one a plan says what it sends.

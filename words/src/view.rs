@@ -195,7 +195,10 @@ impl View {
         let [sent, ..] = self.session.bytes_sent();
         match self.place(number) {
             Some(_) if self.n() == 1 => format!("box {number} is alone and sends nothing"),
-            Some(_) => format!("good box {number} gives its book to all, {}", bytes(sent)),
+            Some(_) => format!(
+                "good box {number} gives its book to the others, {} in all",
+                bytes(sent)
+            ),
             None => format!("bad box {number} sends what it likes"),
         }
     }

@@ -154,7 +154,7 @@ fn told_under(heading: &str, words: &str) -> String {
 #[test]
 fn a_good_sender() {
     let words = "boxes 3\nlimit 1\nsender 2\nbox 1 is bad\nbox 2 has \"AB\"\nbox 3 is good\n";
-    let expected = ": good box 2 gives its book to all, 10 bytes
+    let expected = ": good box 2 gives its book to the others, 10 bytes in all
   2 to 1       5 bytes   goes to a bad box  book A
   2 to 3       5 bytes   is read            book A
   box 2 is the sender and opens with its own book A
@@ -381,6 +381,38 @@ fn what_passes_is_what_was_taken() {
         }
     }
     assert!(unhappy > 500, "{unhappy}");
+}
+
+/// A good box other than the sender opens with the book that is said to be read, or with the empty
+/// one.
+#[test]
+fn what_is_read_is_opened_with() {
+    let mut read = [0, 0];
+    for bytes in (1..=COUNT).map(|k| plan(k).bytes) {
+        let Ok(view) = View::new(&bytes, &[]) else {
+            continue;
+        };
+        let Some(sender) = &view.session.plan.sender else {
+            assert!(view.parcels(Round::Sender).is_empty());
+            continue;
+        };
+        let parcels = view.parcels(Round::Sender);
+        assert!(parcels.iter().all(|it| it.sender == sender.number));
+        for (place, &own) in view.session.plan.good.iter().enumerate() {
+            if own == sender.number {
+                continue;
+            }
+            let came = parcels.iter().find(|it| it.receiver == own);
+            let is_read = came.is_some_and(|it| it.worth == Worth::Book);
+            let packet = sender.row[own - 1].as_deref().filter(|_| is_read);
+            let book = packet.map_or(&[][..], |packet| &packet[3..]);
+            assert_eq!(view.session.messages[place], book);
+            let told = view.opening(sender, place);
+            assert_eq!(told.contains(" the empty book, "), !is_read, "{told}");
+            read[usize::from(is_read)] += 1;
+        }
+    }
+    assert!(read.iter().all(|count| *count > 500), "{read:?}");
 }
 
 /// The name in a tag.

@@ -1,11 +1,14 @@
 //! Every plan that is well laid out comes back from its words unchanged.
 
+use std::collections::BTreeMap;
+
+use foreign::liars::senders::{Offer, SenderLie};
 use foreign::liars::{Lie, Scene, Sharing, Way};
 use foreign::limits::LONGEST_MESSAGE;
 use foreign::message_packet;
 use foreign::plans::plan;
 use foreign::random::Random;
-use foreign::rehearsal::read;
+use foreign::rehearsal::{read, Plan};
 use words::books::Books;
 use words::input::in_words;
 use words::parse::parse;
@@ -24,12 +27,14 @@ fn comes_back(bytes: &[u8]) -> String {
 #[test]
 fn random_plans() {
     let (mut well_laid_out, mut badly) = (0, 0);
+    let mut senders = BTreeMap::new();
     for k in 1..=COUNT {
         let bytes = plan(k).bytes;
         match read(&bytes) {
-            Ok(_) => {
+            Ok(plan) => {
                 comes_back(&bytes);
                 well_laid_out += 1;
+                *senders.entry(kind(&plan)).or_insert(0) += 1;
             }
             Err(_) => {
                 let told = in_words(&bytes, &[]).expect_err("no words");
@@ -39,8 +44,19 @@ fn random_plans() {
             }
         }
     }
-    println!("{well_laid_out} came back, {badly} are badly laid out");
+    println!("{well_laid_out} came back, {badly} are badly laid out; {senders:?}");
     assert!(well_laid_out > 4_000 && badly > 400);
+    assert!(senders.len() == 4 && senders.values().all(|count| *count > 20));
+}
+
+/// Who sends before the first exchange.
+fn kind(plan: &Plan) -> &'static str {
+    match &plan.sender {
+        None => "nobody",
+        Some(sender) if plan.good.contains(&sender.number) => "a good box",
+        Some(sender) if (1..=plan.n).contains(&sender.number) => "a bad box",
+        Some(_) => "none of the boxes",
+    }
 }
 
 #[test]
@@ -100,8 +116,8 @@ fn unusual_words() {
     assert_eq!(comes_back(&bytes), UNUSUAL);
 }
 
-/// A bad sender's exchange, which the plan's bytes give back as it stands. In the second exchange a
-/// whole book cannot be read, and has words all the same.
+/// A bad sender's exchange, which the plan's bytes give back as it stands. Whole books of the second
+/// exchange cannot be read, and have words all the same.
 const BY_SENDER: &str = "boxes 5
 limit 2
 sender 4
@@ -109,8 +125,9 @@ sender 4
 book A \"Listening\"
 book B \"Reading\"
 book C 3073 times \"x\"
-book D \"\"
-root of D
+book D \"Speaking\"
+book E \"\"
+root of E
 bit 0
 
 box 1 is good
@@ -125,13 +142,13 @@ sender's exchange
 4 to 5: book C
 
 first exchange
-4 to 1: share 1 of D
+4 to 1: share 1 of E
 
 second exchange
 4 to 1: book A
-4 to 2: book B, book byte 0 damaged by 20
-4 to 3: book A, map 9
-4 to 5: hex 08
+4 to 2: share 4 of D
+4 to 3: book D
+4 to 5: book A, map 9
 ";
 
 #[test]
@@ -311,6 +328,37 @@ fn lies_have_words() {
         }
     }
     assert_eq!(lie(Lie::Honest, 1, &mut random), "share 4 of A");
+}
+
+/// The words for what a bad sender hands to box 2.
+#[test]
+fn lies_of_senders_have_words() {
+    let mut random = Random::new(6);
+    let offer = Offer {
+        one: A.to_vec(),
+        other: B.to_vec(),
+        shares: Sharing::of(4, 1, A),
+    };
+    let expected = [
+        (SenderLie::Honest, "book A"),
+        (SenderLie::OtherMessage, "book B"),
+        (SenderLie::Empty, "empty"),
+        (SenderLie::MapZero, "hex 00"),
+        (SenderLie::Noise, "hex "),
+        (SenderLie::Cut, "hex 08"),
+        (SenderLie::ByteOver, "book A, followed by hex "),
+        (SenderLie::ByteMissing, "book A, cut by 1"),
+        (SenderLie::LengthField, "book A, length "),
+        (SenderLie::FieldMap, "book A, map "),
+        (SenderLie::Share, "share 2 of A"),
+    ];
+    for (lie, words) in expected {
+        for _ in 0..20 {
+            let packet = offer.told(lie, 2, &mut random).expect("a packet");
+            let found = found(&packet);
+            assert!(found.starts_with(words), "{lie:?}: {found}");
+        }
+    }
 }
 
 /// Bytes that have only little in common with a share are told as they are.
