@@ -16,6 +16,10 @@ fn kept(file: &str) -> Vec<u8> {
     std::fs::read(root().join(file)).expect("a file of the repository")
 }
 
+fn text(file: &str) -> String {
+    String::from_utf8(kept(file)).expect("a text")
+}
+
 /// Runs the program in the repository, with the input beside the reading of its output.
 fn run(arguments: &[&str], input: &[u8]) -> Output {
     let mut child = Command::new(env!("CARGO_BIN_EXE_words"))
@@ -72,24 +76,31 @@ fn the_longest_plan() {
     assert!(kept("plans/longest.words").len() < 1_000);
 }
 
-#[test]
-fn the_liars_plan() {
-    let plan = both("liar");
-    let svg = kept("docs/liar.svg");
-    assert_eq!(printed(&["picture", "plans/liar.words"], b""), svg);
+/// Its picture is the one that is kept, and docs/PLANS.md shows its words.
+fn on_the_page(name: &str) {
+    let plan = both(name);
+    let (words, svg) = (
+        format!("plans/{name}.words"),
+        kept(&format!("docs/{name}.svg")),
+    );
+    assert_eq!(printed(&["picture", &words], b""), svg);
     assert_eq!(printed(&["picture"], &plan), svg);
+    let (page, text) = (text("docs/PLANS.md"), text(&words));
+    assert!(page.contains(&format!("]({name}.svg)")));
+    let (_, lines) = text.split_once("\n\n").expect("a comment above");
+    let shown: Vec<String> = lines.lines().map(|it| format!("    {it}")).collect();
+    let shown = shown.join("\n").replace("    \n", "\n");
+    assert!(page.contains(&shown), "{shown}");
 }
 
-/// The rehearsal refuses it, and the explanation tells it to its end: with the lines that docs/PLANS.md
-/// shows.
-#[test]
-fn the_invented_plan() {
-    both("invented");
-    let told = printed(&["explain", "plans/invented.words"], b"");
+/// What the explanation of a plan says; docs/PLANS.md shows parts of it with dots between them.
+fn explained_on_the_page(name: &str) -> String {
+    let words = format!("plans/{name}.words");
+    let told = printed(&["explain", &words], b"");
     let told = String::from_utf8(told).expect("a text");
-    let page = String::from_utf8(kept("docs/PLANS.md")).expect("a text");
+    let page = text("docs/PLANS.md");
     let (_, shown) = page
-        .split_once("explain plans/invented.words\n")
+        .split_once(&format!("explain {words}\n"))
         .expect("shown");
     let shown: Vec<&str> = shown
         .lines()
@@ -99,7 +110,42 @@ fn the_invented_plan() {
     for part in shown.split(|line| *line == "...") {
         assert!(told.contains(&part.join("\n")), "{part:?}");
     }
+    told
+}
+
+#[test]
+fn the_liars_plan() {
+    on_the_page("liar");
+}
+
+/// The rehearsal refuses it, and the explanation tells it to its end.
+#[test]
+fn the_invented_plan() {
+    both("invented");
+    let told = explained_on_the_page("invented");
     assert!(told.ends_with("\n\nrefused 14\n"));
+}
+
+#[test]
+fn a_senders_two_books() {
+    on_the_page("two-books");
+    let told = explained_on_the_page("two-books");
+    let out = text("plans/two-books.out");
+    assert!(told.ends_with(&format!("\n\n{out}")));
+}
+
+/// The sender of the first is good; that of the second says nothing, and the empty book is settled.
+#[test]
+fn other_senders() {
+    let plan = read(&both("sender")).expect("a good layout");
+    assert_eq!(plan.messages.keys().collect::<Vec<_>>(), [&2]);
+    let plan = read(&both("silent-sender")).expect("a good layout");
+    assert!(plan.messages.is_empty());
+    assert!(text("plans/silent-sender.out").starts_with("1 =\n2 =\n"));
+    let told = printed(&["explain", "plans/silent-sender.plan"], b"");
+    let told = String::from_utf8(told).expect("a text");
+    assert!(told.contains("  box 2 gets nothing and opens with the empty book, A\n"));
+    assert!(told.contains("  the empty book is a book and not nothing: "));
 }
 
 #[test]
