@@ -1,5 +1,5 @@
-/* Checks of what the header itself defines, of second readers, and of rebuilding under a root, for the tests: a failed one ends the program with its
- * line. Prints the causes in words. */
+/* Checks of what the header itself defines, of second readers, of rebuilding under a root, and of openings by a named sender, for the tests: a failed one ends
+ * the program with its line. Prints the causes in words. */
 #include <stdio.h>
 #include <stdlib.h>
 #include <string.h>
@@ -183,6 +183,81 @@ static void check_no_other_root(void) {
     CHECK(cipangohu_stage(state, sizeof state).value == CIPANGOHU_ENDED_WITH_NOTHING);
 }
 
+/* What an opening by a sender is lent, with bytes that nobody would write. */
+static struct { uint8_t state[CIPANGOHU_STATE + 1], root[CIPANGOHU_ROOT + 1], out[CIPANGOHU_MESSAGE_PACKET + 1]; } lent, before;
+
+/* Party own of 3 opens by party 2, with these rooms for state, root and packet; refused, it leaves every byte. */
+static cipangohu_answer by_sender(size_t own, const char *bytes, size_t len, size_t state_room, size_t root_room, size_t out_room) {
+    cipangohu_answer answer;
+    memset(&lent, 0x55, sizeof lent);
+    memcpy(&before, &lent, sizeof lent);
+    answer = cipangohu_open_by_sender(3, 1, own, 2, (const uint8_t *)bytes, len, lent.state, state_room, lent.root, root_room, lent.out, out_room);
+    CHECK(answer.cause == CIPANGOHU_ACCEPTED || memcmp(&lent, &before, sizeof lent) == 0);
+    return answer;
+}
+
+/* The opening wrote what cipangohu_open does with this message, and no byte past it. */
+static void check_opened(size_t own, const char *message, size_t len) {
+    cipangohu_answer answer = cipangohu_open(3, 1, own, (const uint8_t *)message, len, state, sizeof state, root, sizeof root);
+    CHECK(answer.cause == CIPANGOHU_ACCEPTED);
+    CHECK(memcmp(lent.state, state, sizeof state) == 0 && lent.state[CIPANGOHU_STATE] == 0x55);
+    CHECK(memcmp(lent.root, root, sizeof root) == 0 && lent.root[CIPANGOHU_ROOT] == 0x55);
+}
+
+/* The sender opens with its message and writes it as a packet, with which another opens; what cannot be read, or is silence, is the empty message. */
+static void check_sender(void) {
+    const struct { const char *bytes; size_t len; } unread[] = {{NULL, 0}, {"\0", 1}, {"\0\0", 2}, {"\10\0\2A", 4}, {"\10\0\2ABC", 6}, {"\10\14\1", 3},
+                                                                {"\7\1\0\2AB", 6}, {"\30\0\2AB", 5}, {"\10\0\0", 3}};
+    cipangohu_answer answer = by_sender(2, "AB", 2, CIPANGOHU_STATE, CIPANGOHU_ROOT, 5);
+    CHECK(answer.cause == CIPANGOHU_ACCEPTED && answer.value == 5 && memcmp(lent.out, "\10\0\2AB\125", 6) == 0);
+    check_opened(2, "AB", 2);
+    answer = by_sender(1, "\10\0\2AB", 5, CIPANGOHU_STATE, CIPANGOHU_ROOT, 0);
+    CHECK(answer.cause == CIPANGOHU_ACCEPTED && answer.value == 0 && memcmp(lent.out, before.out, sizeof lent.out) == 0);
+    check_opened(1, "AB", 2);
+    for (size_t k = 0; k < sizeof unread / sizeof unread[0]; k++) {
+        answer = by_sender(3, unread[k].bytes, unread[k].len, CIPANGOHU_STATE, CIPANGOHU_ROOT, 0);
+        CHECK(answer.cause == CIPANGOHU_ACCEPTED && answer.value == 0);
+        check_opened(3, NULL, 0);
+    }
+    answer = cipangohu_open_by_sender(1, 0, 1, 1, (const uint8_t *)"AB", 2, state, sizeof state, root, sizeof root, NULL, 0);
+    CHECK(answer.cause == CIPANGOHU_ACCEPTED && answer.value == 0 && cipangohu_own(state, sizeof state).value == 1);
+}
+
+/* The causes of such an opening, in their order; a packet that is too long has none, a message of the sender's has. */
+static void check_sender_causes(void) {
+    const char *longest = (const char *)long_entry;
+    cipangohu_answer answer = by_sender(2, longest, CIPANGOHU_MESSAGE, CIPANGOHU_STATE - 1, 0, 0);
+    CHECK(answer.cause == CIPANGOHU_CAUSE_ROOM && answer.value == CIPANGOHU_STATE);
+    answer = by_sender(2, longest, CIPANGOHU_MESSAGE, CIPANGOHU_STATE, CIPANGOHU_ROOT - 1, 0);
+    CHECK(answer.cause == CIPANGOHU_CAUSE_ROOM && answer.value == CIPANGOHU_ROOT);
+    answer = by_sender(2, longest, CIPANGOHU_MESSAGE, CIPANGOHU_STATE, CIPANGOHU_ROOT, CIPANGOHU_MESSAGE_PACKET - 1);
+    CHECK(answer.cause == CIPANGOHU_CAUSE_ROOM && answer.value == CIPANGOHU_MESSAGE_PACKET);
+    answer = by_sender(2, longest, CIPANGOHU_MESSAGE, CIPANGOHU_STATE, CIPANGOHU_ROOT, CIPANGOHU_MESSAGE_PACKET);
+    CHECK(answer.cause == CIPANGOHU_ACCEPTED && answer.value == CIPANGOHU_MESSAGE_PACKET && lent.out[CIPANGOHU_MESSAGE_PACKET] == 0x55);
+    answer = by_sender(2, longest, CIPANGOHU_MESSAGE + 1, 0, 0, 0);
+    CHECK(answer.cause == CIPANGOHU_CAUSE_LENGTH && answer.value == 0);
+    CHECK(by_sender(1, longest, sizeof long_entry, CIPANGOHU_STATE, CIPANGOHU_ROOT, 0).cause == CIPANGOHU_ACCEPTED);
+    CHECK(by_sender(0, longest, CIPANGOHU_MESSAGE + 1, 0, 0, 0).cause == CIPANGOHU_CAUSE_NUMBER);
+    CHECK(cipangohu_open_by_sender(3, 1, 1, 4, NULL, 0, NULL, 0, NULL, 0, NULL, 0).cause == CIPANGOHU_CAUSE_NUMBER);
+    CHECK(cipangohu_open_by_sender(4, 2, 5, 5, NULL, 0, NULL, 0, NULL, 0, NULL, 0).cause == CIPANGOHU_CAUSE_FAULTS);
+    CHECK(cipangohu_open_by_sender(0, 0, 0, 0, NULL, 0, NULL, 0, NULL, 0, NULL, 0).cause == CIPANGOHU_CAUSE_PARTIES);
+}
+
+/* A sender's packet is read where it is whole; its message is found, also an empty one, and none in silence. */
+static void check_message(void) {
+    const uint8_t packet[] = {8, 0, 2, 'A', 'B'}, empty[] = {8, 0, 0}, share[] = {7, 1, 0, 2, 9, 8};
+    uint32_t value = cipangohu_read_message(packet, sizeof packet).value;
+    CHECK(value == 65536 + 2 && cipangohu_packet_message(packet, value).at == packet + 3 && cipangohu_packet_message(packet, value).len == 2);
+    value = cipangohu_read_message(empty, sizeof empty).value;
+    CHECK(value == 65536 && cipangohu_packet_message(empty, value).at == empty + 3 && cipangohu_packet_message(empty, value).len == 0);
+    CHECK(cipangohu_read_message(NULL, 0).cause == CIPANGOHU_ACCEPTED && cipangohu_read_message(NULL, 0).value == 0);
+    CHECK(cipangohu_packet_message(packet, 0).at == NULL);
+    for (size_t len = 1; len < sizeof packet; len++) CHECK(cipangohu_read_message(packet, len).cause == CIPANGOHU_CAUSE_PACKET);
+    CHECK(cipangohu_read_message(share, sizeof share).cause == CIPANGOHU_CAUSE_PACKET);
+    CHECK(cipangohu_read_packet(1, share, sizeof share).cause == CIPANGOHU_ACCEPTED);
+    CHECK(cipangohu_read_packet(3, packet, sizeof packet).cause == CIPANGOHU_CAUSE_PACKET);
+}
+
 int main(void) {
     CHECK(cipangohu_version() == CIPANGOHU_VERSION && cipangohu_state_size() == CIPANGOHU_STATE);
     check_any_bytes();
@@ -191,6 +266,9 @@ int main(void) {
     check_nothing();
     check_rebuild();
     check_no_other_root();
+    check_sender();
+    check_sender_causes();
+    check_message();
     for (uint32_t cause = 0; cause <= CIPANGOHU_CAUSE_OTHER_ROOT + 1; cause++) printf("%u %s\n", (unsigned)cause, cipangohu_cause_text(cause));
     return 0;
 }

@@ -6,6 +6,10 @@
  * result: a message, or nothing. Whoever does that last step again gets the same result. (A party is one box of a sitting, and a message is a test
  * book; documents for people say box and book.)
  *
+ * Where one party alone has the message, all parties open by it, their named sender. Its opening writes a packet with the whole message, which its host sends to
+ * all others. Each of these is handed the packet that came, and opens with the message in it, or with the empty one if it cannot read any. All that follows is
+ * the same, and a good sender's message is every good party's result.
+ *
  * The host keeps the party's state, CIPANGOHU_STATE bytes, and hands it to every step. Its layout, with numbers big-endian here and in all entries:
  * byte 0 the version of the layout, CIPANGOHU_LAYOUT, byte 1 n, byte 2 t, byte 3 own number, byte 4 stage, bytes 5-6 the length of the message (of
  * a party that ended with one, of the result), bytes 7-8 the length of the share that an unhappy party relayed (a party is happy if the agreed root is
@@ -27,6 +31,9 @@
  * A packet is silence, which is no bytes or one zero byte; or byte 0 is 7, byte 1 the number of a share, bytes 2-3 the share's length, and behind them stand
  * the share and its path, hash by hash from the leaf upward. None that can be read is longer than CIPANGOHU_PACKET.
  *
+ * The packet of a named sender is silence, as above; or byte 0 is 8, bytes 1-2 the length of the message, up to CIPANGOHU_MESSAGE, and behind them stands the
+ * message and nothing else. In an inbox it cannot be read, and where it is due a packet with a share cannot.
+ *
  * A buffer that a call writes overlaps no other buffer of that call. Through a pointer with length 0 nothing is read or written. Nothing is
  * global: calls on different buffers may run at once, and so may calls that only read one state. In trials every call fits a stack of 96 KiB, the host's own buffers not counted;
  * CIPANGOHU_INBOX bytes are better kept elsewhere. */
@@ -41,10 +48,10 @@
 extern "C" {
 #endif
 
-/* The version of this header, and as one number, which cipangohu_version gives of the library. New in 2.1: step 5 takes a message that it rebuilt only
- * under the agreed root; cipangohu_rebuild_with_root; cause 15. */
+/* The version of this header, and as one number, which cipangohu_version gives of the library. New in 2.2: cipangohu_open_by_sender, cipangohu_read_message.
+ * New in 2.1: step 5 takes a message that it rebuilt only under the agreed root; cipangohu_rebuild_with_root; cause 15. */
 #define CIPANGOHU_VERSION_MAJOR 2
-#define CIPANGOHU_VERSION_MINOR 1
+#define CIPANGOHU_VERSION_MINOR 2
 #define CIPANGOHU_VERSION_PATCH 0
 #define CIPANGOHU_VERSION ((CIPANGOHU_VERSION_MAJOR << 16) | (CIPANGOHU_VERSION_MINOR << 8) | CIPANGOHU_VERSION_PATCH)
 
@@ -58,12 +65,14 @@ extern "C" {
 #define CIPANGOHU_ROOT 32
 #define CIPANGOHU_LAYOUT 2
 
-/* Rooms that follow from them, in bytes: for the longest share, which is the whole frame of one party alone; for a state; for any packet that a
- * party writes: four bytes, the share, the longest path; for all shares of a message together, which are less than twice the
- * longest frame with its zeros; for any outbox: these shares, and beside each its entry's length and the rest of its packet; and for any inbox. */
+/* Rooms that follow from them, in bytes: for the longest share, which is the whole frame of one party alone; for a state; for any packet with a share that a
+ * party writes: four bytes, the share, the longest path; for any packet of a named sender: three bytes, the message; for all shares of a message together, which are
+ * less than twice the longest frame with its zeros; for any outbox: these shares, and beside each its entry's length and the rest of its packet; and for any
+ * inbox. */
 #define CIPANGOHU_SHARE (CIPANGOHU_MESSAGE + 2)
 #define CIPANGOHU_STATE (9 + CIPANGOHU_ROOT + CIPANGOHU_MESSAGE + CIPANGOHU_SHARE)
 #define CIPANGOHU_PACKET (4 + CIPANGOHU_SHARE + CIPANGOHU_PATH * CIPANGOHU_ROOT)
+#define CIPANGOHU_MESSAGE_PACKET (3 + CIPANGOHU_MESSAGE)
 #define CIPANGOHU_SHARES (2 * (CIPANGOHU_SHARE + CIPANGOHU_PARTIES))
 #define CIPANGOHU_OUTBOX (CIPANGOHU_SHARES + CIPANGOHU_PARTIES * (6 + CIPANGOHU_PATH * CIPANGOHU_ROOT))
 #define CIPANGOHU_INBOX (CIPANGOHU_PARTIES * (2 + CIPANGOHU_ENTRY))
@@ -132,6 +141,18 @@ typedef char cipangohu_size_has_8_bytes[sizeof(size_t) == 8 ? 1 : -1];
 CIPANGOHU_MUST_USE cipangohu_answer cipangohu_open(size_t n, size_t t, size_t own, const uint8_t *message, size_t message_len,
                                                    uint8_t *state, size_t state_len, uint8_t *root, size_t root_len);
 
+/* Step 1 by a named sender, the same for all good parties. State and root are what cipangohu_open writes for the message that the party opens with, and all
+ * later steps are as they are after it.
+ *     The sender itself (own is sender) hands in its message as bytes. The packet for all others is written to out, the same for each of them; there is none
+ * with n 1. CIPANGOHU_MESSAGE_PACKET is room for any.
+ *     Any other party hands in what came from the sender, as it came; NULL and 0 if nothing did. Nothing is written to out, which may be NULL and 0. Bytes that
+ * cannot be read are not refused: the party opens with the empty message. cipangohu_read_message tells a host that they cannot.
+ * Value: the bytes written to out. Causes 1, 2, 3 for the own number, 3 for the sender's, 4 for the sender's own message, then 9 for the state's buffer, 9 for
+ * the root's, 9 for the packet's. */
+CIPANGOHU_MUST_USE cipangohu_answer cipangohu_open_by_sender(size_t n, size_t t, size_t own, size_t sender, const uint8_t *bytes, size_t bytes_len,
+                                                             uint8_t *state, size_t state_len, uint8_t *root, size_t root_len,
+                                                             uint8_t *out, size_t out_len);
+
 /* Step 2, the agreed root. Value: the party's bit, 1 if it is happy, which it is if the agreed root is its own, else 0, for the second short agreement.
  * Causes 5, 6, 7. */
 CIPANGOHU_MUST_USE cipangohu_answer cipangohu_agree_root(uint8_t *state, size_t state_len, const uint8_t *root, size_t root_len);
@@ -166,6 +187,10 @@ CIPANGOHU_MUST_USE cipangohu_answer cipangohu_own(const uint8_t *state, size_t s
 /* Reads a packet among n parties. Value: 0 for silence (no bytes, or one zero byte), else what cipangohu_packet_number and the three beside it take
  * apart: count * 2^24 + number * 2^16 + the share's length, where count is that of the path's hashes. Causes 1, 10. */
 CIPANGOHU_MUST_USE cipangohu_answer cipangohu_read_packet(size_t n, const uint8_t *packet, size_t packet_len);
+
+/* Reads the packet of a named sender. Value: 0 for silence, else 2^16 + the length of the message, which may be 0; cipangohu_packet_message finds the message.
+ * Cause 10. */
+CIPANGOHU_MUST_USE cipangohu_answer cipangohu_read_message(const uint8_t *packet, size_t packet_len);
 
 /* Whether a path of hashes leads from share j of n to the root. Value: 1 yes, 0 no; a path that is not as many whole hashes as
  * n and j give is a no. Causes 1, 3, 4 (a share over CIPANGOHU_HASHED - 2 bytes), 7. */
@@ -283,6 +308,15 @@ static inline cipangohu_bytes cipangohu_packet_path(const uint8_t *packet, uint3
     path.at += path.len;
     path.len = cipangohu_packet_count(value) * CIPANGOHU_ROOT;
     return path;
+}
+
+/* The message in the packet of a named sender, of the value that cipangohu_read_message gave; no address for silence. */
+static inline cipangohu_bytes cipangohu_packet_message(const uint8_t *packet, uint32_t value) {
+    cipangohu_bytes message = {NULL, 0};
+    if (value == 0) return message;
+    message.at = packet + 3;
+    message.len = value & 0xFFFF;
+    return message;
 }
 
 #ifdef __cplusplus
