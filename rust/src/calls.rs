@@ -40,6 +40,20 @@ mod archive {
             root: *mut u8,
             root_len: usize,
         ) -> Answer;
+        pub fn cipangohu_open_by_sender(
+            n: usize,
+            t: usize,
+            own: usize,
+            sender: usize,
+            bytes: *const u8,
+            bytes_len: usize,
+            state: *mut u8,
+            state_len: usize,
+            root: *mut u8,
+            root_len: usize,
+            out: *mut u8,
+            out_len: usize,
+        ) -> Answer;
         pub fn cipangohu_agree_root(
             state: *mut u8,
             state_len: usize,
@@ -73,6 +87,7 @@ mod archive {
         pub fn cipangohu_stage(state: *const u8, state_len: usize) -> Answer;
         pub fn cipangohu_own(state: *const u8, state_len: usize) -> Answer;
         pub fn cipangohu_read_packet(n: usize, packet: *const u8, packet_len: usize) -> Answer;
+        pub fn cipangohu_read_message(packet: *const u8, packet_len: usize) -> Answer;
         pub fn cipangohu_check_path(
             n: usize,
             j: usize,
@@ -142,6 +157,33 @@ pub fn open(
     }
 }
 
+pub fn open_by_sender(
+    (n, t, own): (usize, usize, usize),
+    sender: usize,
+    bytes: &[u8],
+    state: &mut [u8],
+    root: &mut [u8],
+    out: &mut [u8],
+) -> Answer {
+    // SAFETY: each pointer comes with its slice's length; slices that are written overlap no other.
+    unsafe {
+        archive::cipangohu_open_by_sender(
+            n,
+            t,
+            own,
+            sender,
+            bytes.as_ptr(),
+            bytes.len(),
+            state.as_mut_ptr(),
+            state.len(),
+            root.as_mut_ptr(),
+            root.len(),
+            out.as_mut_ptr(),
+            out.len(),
+        )
+    }
+}
+
 pub fn agree_root(state: &mut [u8], root: &[u8]) -> Answer {
     // SAFETY: each pointer comes with its slice's length; the state overlaps no other slice.
     unsafe {
@@ -181,13 +223,13 @@ pub fn take_relays(state: &mut [u8], inbox: &[u8], out: &mut [u8]) -> Answer {
     take(archive::cipangohu_take_relays, state, inbox, out)
 }
 
-/// What a state tells of its party.
+/// What a state tells of its party, or a sender's packet of its message.
 type Tell = unsafe extern "C" fn(*const u8, usize) -> Answer;
 
-fn tell(of: Tell, state: &[u8]) -> Answer {
+fn tell(of: Tell, bytes: &[u8]) -> Answer {
     // SAFETY: `of` is the archive's, the pointer comes with its slice's length, and nothing is
     // written.
-    unsafe { of(state.as_ptr(), state.len()) }
+    unsafe { of(bytes.as_ptr(), bytes.len()) }
 }
 
 pub fn result_length(state: &[u8]) -> Answer {
@@ -205,6 +247,10 @@ pub fn own(state: &[u8]) -> Answer {
 pub fn read_packet(n: usize, packet: &[u8]) -> Answer {
     // SAFETY: the pointer comes with its slice's length, and nothing is written.
     unsafe { archive::cipangohu_read_packet(n, packet.as_ptr(), packet.len()) }
+}
+
+pub fn read_message(packet: &[u8]) -> Answer {
+    tell(archive::cipangohu_read_message, packet)
 }
 
 pub fn check_path((n, j): (usize, usize), share: &[u8], path: &[u8], root: &[u8]) -> Answer {

@@ -55,10 +55,10 @@ pub use code::{rebuild, rebuild_with_root, shares};
 pub use entries::lay_out;
 pub use entries::{entries, lay_out_in, Entries};
 pub use limits::{
-    HASH, LAYOUT, MAX_ENTRY, MAX_HASHED, MAX_INBOX, MAX_MESSAGE, MAX_OUTBOX, MAX_PACKET,
-    MAX_PARTIES, MAX_PATH, MAX_SHARE, MAX_SHARES, STATE,
+    HASH, LAYOUT, MAX_ENTRY, MAX_HASHED, MAX_INBOX, MAX_MESSAGE, MAX_MESSAGE_PACKET, MAX_OUTBOX,
+    MAX_PACKET, MAX_PARTIES, MAX_PATH, MAX_SHARE, MAX_SHARES, STATE,
 };
-pub use packet::{check_path, read_packet, Packet};
+pub use packet::{check_path, read_message, read_packet, Packet};
 pub use party::{Outcome, Party, Stage};
 
 /// A SHA-256 hash.

@@ -22,8 +22,11 @@ pub const HASH: usize = 32;
 /// The greatest length of a share: that of one party alone, whose share is the whole frame.
 pub const MAX_SHARE: usize = MAX_MESSAGE + 2;
 
-/// The longest packet: map, number and share length, the share, the longest path.
+/// The longest packet with a share: map, number and share length, the share, the longest path.
 pub const MAX_PACKET: usize = 4 + MAX_SHARE + MAX_PATH * HASH;
+
+/// The longest packet of a named sender: map and message length, the message.
+pub const MAX_MESSAGE_PACKET: usize = 3 + MAX_MESSAGE;
 
 /// Room for all shares of a message: n is less than 2·(n − t), so that they have less than twice
 /// the bytes of the longest frame with its zeros.

@@ -1,5 +1,5 @@
-//! The packets that parties send one another: what stands in one, and whether a path leads to a
-//! root.
+//! The packets that parties send one another: what stands in one, be it a share or a named sender's
+//! whole message, and whether a path leads to a root.
 
 use crate::calls;
 use crate::cause::Cause;
@@ -50,6 +50,25 @@ pub fn read_packet(n: usize, packet: &[u8]) -> Result<Option<Packet<'_>>, Cause>
         share,
         path,
     }))
+}
+
+/// The message in the packet of a named sender, or nothing where it is silence, which is no byte or one
+/// zero byte. The empty message is a message. Cause: [`Cause::Packet`].
+///
+/// ```
+/// use cipangohu::{read_message, Cause};
+///
+/// assert_eq!(read_message(&[8, 0, 2, b'A', b'B']), Ok(Some(&b"AB"[..])));
+/// assert_eq!(read_message(&[8, 0, 0]), Ok(Some(&b""[..])));
+/// assert_eq!(read_message(b""), Ok(None));
+/// assert_eq!(read_message(&[8, 0, 2, b'A']), Err(Cause::Packet));
+/// ```
+pub fn read_message(packet: &[u8]) -> Result<Option<&[u8]>, Cause> {
+    match calls::read_message(packet).accepted()? {
+        0 => Ok(None),
+        // The reader found the message from byte 3 on, up to the end.
+        _ => Ok(Some(packet.get(3..).unwrap_or_default())),
+    }
 }
 
 /// Whether the path leads from share j of n to the root; not, if it has another length than n and j

@@ -80,6 +80,68 @@ impl Party {
         Ok((Party::from_state(&state)?, root))
     }
 
+    /// Step 1 of a named sender, which alone has the message: party `own` opens as by [`Party::open`],
+    /// and writes the packet that goes to every other party, alike to all. With party and root comes the
+    /// packet's length, 0 with n 1. Room for any is [`MAX_MESSAGE_PACKET`](crate::MAX_MESSAGE_PACKET).
+    /// Causes: [`Cause::Parties`], [`Cause::Faults`], [`Cause::Number`], [`Cause::Length`],
+    /// [`Cause::Room`].
+    ///
+    /// ```
+    /// use cipangohu::{Cause, Party, MAX_MESSAGE_PACKET};
+    ///
+    /// # fn main() -> Result<(), Cause> {
+    /// // Party 2 of 3 has the message.
+    /// let mut out = [0; MAX_MESSAGE_PACKET];
+    /// let (_, root, length) = Party::open_as_sender(3, 1, 2, b"AB", &mut out)?;
+    /// let packet = &out[..length];
+    /// // Party 1 gets the packet, party 3 the half of it, which opens it with the empty message.
+    /// let (_, first) = Party::open_from_sender(3, 1, 1, 2, packet)?;
+    /// let (_, third) = Party::open_from_sender(3, 1, 3, 2, &packet[..2])?;
+    /// assert_eq!(first, root);
+    /// assert_eq!(third, Party::open(3, 1, 3, b"")?.1);
+    /// # Ok(())
+    /// # }
+    /// ```
+    pub fn open_as_sender(
+        n: usize,
+        t: usize,
+        own: usize,
+        message: &[u8],
+        out: &mut [u8],
+    ) -> Result<(Party, Hash, usize), Cause> {
+        Party::open_by_sender((n, t, own), own, message, out)
+    }
+
+    /// Step 1 of any other party, which is handed the packet that came from the sender, as it came, or no
+    /// bytes if none did. It opens with the message in the packet; with the empty one where there is
+    /// none, be it silence or bytes that cannot be read, which [`read_message`](crate::read_message)
+    /// tells. Causes: [`Cause::Parties`], [`Cause::Faults`], and [`Cause::Number`], also where the
+    /// sender is the party itself.
+    pub fn open_from_sender(
+        n: usize,
+        t: usize,
+        own: usize,
+        sender: usize,
+        packet: &[u8],
+    ) -> Result<(Party, Hash), Cause> {
+        // The library would take the sender's own bytes for its message. 0 is no party's number.
+        let sender = if sender == own { 0 } else { sender };
+        let (party, root, _) = Party::open_by_sender((n, t, own), sender, packet, &mut [])?;
+        Ok((party, root))
+    }
+
+    fn open_by_sender(
+        group: (usize, usize, usize),
+        sender: usize,
+        bytes: &[u8],
+        out: &mut [u8],
+    ) -> Result<(Party, Hash, usize), Cause> {
+        let (mut state, mut root) = ([0; STATE], [0; HASH]);
+        let answer = calls::open_by_sender(group, sender, bytes, &mut state, &mut root, out);
+        let length = answer.accepted()? as usize;
+        Ok((Party::from_state(&state)?, root, length))
+    }
+
     /// A party whose state was saved; of more bytes the first [`STATE`] count. Bytes that were damaged
     /// are mostly not noticed. Cause: [`Cause::State`], also for a layout of another version than
     /// [`LAYOUT`](crate::LAYOUT).
