@@ -130,6 +130,14 @@ fn programs_are_built_and_run() {
                  screen: 1 = AB\nscreen: 2 = AB\nscreen: 3 = AB\n",
             ),
         ),
+        (
+            "sender",
+            String::from(
+                "2 sends 5 bytes to each other party\n1 has AB\n\
+                 3 cannot read what party 2 sent, and has the empty message\n\
+                 1 agrees with 2, 3 differs from 2\n",
+            ),
+        ),
         ("checks", causes()),
     ];
     let (flags, mut built) = (flags(), 0);

@@ -63,6 +63,7 @@ impl End {
         let mut lent = Lent {
             state: state.to_vec(),
             out,
+            ..Lent::default()
         };
         let answer = compare(again, &mut lent, tally);
         if room < bytes.len() {
@@ -101,6 +102,7 @@ fn refused(cause: u32, call: &Call, state: &[u8], random: &mut Random, tally: &m
     let mut lent = Lent {
         state: state.to_vec(),
         out: dirt(room, random),
+        ..Lent::default()
     };
     let answer = compare(call, &mut lent, tally);
     assert_eq!(answer.cause, cause, "{call:?}");

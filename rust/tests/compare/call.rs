@@ -9,6 +9,7 @@ use crate::reference;
 #[derive(Clone, Debug, PartialEq)]
 pub enum Call {
     Open((usize, usize, usize), Vec<u8>),
+    OpenBySender((usize, usize, usize), usize, Vec<u8>),
     AgreeRoot(Vec<u8>),
     AgreeBit(usize),
     TakeShares(Vec<u8>),
@@ -17,6 +18,7 @@ pub enum Call {
     Stage,
     Own,
     ReadPacket(usize, Vec<u8>),
+    ReadMessage(Vec<u8>),
     CheckPath((usize, usize), Vec<u8>, Vec<u8>, Vec<u8>),
     Shares((usize, usize), Vec<u8>),
     Rebuild((usize, usize), Vec<u8>),
@@ -24,11 +26,12 @@ pub enum Call {
     Hash(Vec<u8>),
 }
 
-/// What a call may write; a call without a state or a buffer leaves it alone. The root of an
-/// opening is its buffer.
-#[derive(Clone, Debug, PartialEq)]
+/// What a call may write; a call without a state, a root or a buffer leaves it alone. The root is
+/// written by openings alone.
+#[derive(Clone, Debug, Default, PartialEq)]
 pub struct Lent {
     pub state: Vec<u8>,
+    pub root: Vec<u8>,
     pub out: Vec<u8>,
 }
 
@@ -36,6 +39,7 @@ impl Call {
     pub fn name(&self) -> &'static str {
         match self {
             Call::Open(..) => "open",
+            Call::OpenBySender(..) => "open_by_sender",
             Call::AgreeRoot(_) => "agree_root",
             Call::AgreeBit(_) => "agree_bit",
             Call::TakeShares(_) => "take_shares",
@@ -44,6 +48,7 @@ impl Call {
             Call::Stage => "stage",
             Call::Own => "own",
             Call::ReadPacket(..) => "read_packet",
+            Call::ReadMessage(_) => "read_message",
             Call::CheckPath(..) => "check_path",
             Call::Shares(..) => "shares",
             Call::Rebuild(..) => "rebuild",
@@ -54,9 +59,12 @@ impl Call {
 }
 
 /// The library's answer.
-pub fn answered(call: &Call, state: &mut [u8], out: &mut [u8]) -> Answer {
+pub fn answered(call: &Call, state: &mut [u8], root: &mut [u8], out: &mut [u8]) -> Answer {
     match call {
-        Call::Open(group, message) => calls::open(*group, message, state, out),
+        Call::Open(group, message) => calls::open(*group, message, state, root),
+        Call::OpenBySender(group, sender, bytes) => {
+            calls::open_by_sender(*group, *sender, bytes, state, root, out)
+        }
         Call::AgreeRoot(root) => calls::agree_root(state, root),
         Call::AgreeBit(bit) => calls::agree_bit(state, *bit, out),
         Call::TakeShares(inbox) => calls::take_shares(state, inbox, out),
@@ -65,6 +73,7 @@ pub fn answered(call: &Call, state: &mut [u8], out: &mut [u8]) -> Answer {
         Call::Stage => calls::stage(state),
         Call::Own => calls::own(state),
         Call::ReadPacket(n, packet) => calls::read_packet(*n, packet),
+        Call::ReadMessage(packet) => calls::read_message(packet),
         Call::CheckPath(place, share, path, root) => calls::check_path(*place, share, path, root),
         Call::Shares(group, message) => calls::shares(*group, message, out),
         Call::Rebuild(group, entries) => calls::rebuild(*group, entries, out),

@@ -10,6 +10,7 @@ mod made;
 mod reference;
 mod root;
 mod safe;
+mod sender;
 mod tally;
 
 use cipangohu::{lay_out, MAX_HASHED, MAX_MESSAGE, MAX_PARTIES, MAX_SHARE, STATE};
@@ -31,7 +32,7 @@ fn times(usual: usize) -> usize {
 fn needed(call: &Call, state: &[u8]) -> usize {
     let mut lent = Lent {
         state: state.to_vec(),
-        out: Vec::new(),
+        ..Lent::default()
     };
     match reference::answer(call, &mut lent) {
         Answer { value, cause: 9 } => value as usize,
@@ -49,6 +50,7 @@ fn in_every_room(call: &Call, state: &mut Vec<u8>, random: &mut Random, tally: &
         let mut lent = Lent {
             state: before.clone(),
             out: dirt(length, random),
+            ..Lent::default()
         };
         compare(call, &mut lent, tally).accepted().ok();
         *state = lent.state;
@@ -65,7 +67,7 @@ fn ask(state: &[u8], tally: &mut Tally) {
     for call in [Call::ResultLength, Call::Stage, Call::Own] {
         let mut lent = Lent {
             state: state.to_vec(),
-            out: Vec::new(),
+            ..Lent::default()
         };
         compare(&call, &mut lent, tally).accepted().ok();
     }
@@ -105,7 +107,8 @@ fn lists_of_calls() {
         let opening = Call::Open(play.group, play.message.clone());
         let mut lent = Lent {
             state: dirt(STATE, &mut random),
-            out: dirt(32, &mut random),
+            root: dirt(32, &mut random),
+            ..Lent::default()
         };
         assert_eq!(compare(&opening, &mut lent, &mut tally).cause, 0);
         let mut state = lent.state;
@@ -151,7 +154,8 @@ fn openings() {
         let (state, root) = (room(STATE, &mut random), room(32, &mut random));
         let mut lent = Lent {
             state: dirt(state, &mut random),
-            out: dirt(root, &mut random),
+            root: dirt(root, &mut random),
+            ..Lent::default()
         };
         let call = Call::Open((n, t, own), message);
         compare(&call, &mut lent, &mut tally).accepted().ok();
@@ -211,10 +215,7 @@ fn paths() {
             _ => {}
         }
         let call = Call::CheckPath(place, share, path, root);
-        let mut lent = Lent {
-            state: Vec::new(),
-            out: Vec::new(),
-        };
+        let mut lent = Lent::default();
         yes += compare(&call, &mut lent, &mut tally).value;
     }
     println!("check_path: yes {yes} times");

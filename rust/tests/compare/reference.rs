@@ -5,8 +5,8 @@ use foreign::coder::{self, encode, rebuild};
 use foreign::commitment::rebuild_with_root;
 use foreign::limits::{LONGEST_STRING, MOST_HASHES};
 use foreign::packet::{self, Reading};
-use foreign::party::{Given, Outcome, Stage, State};
-use foreign::{sha256, tree};
+use foreign::party::{Begun, Given, Outcome, Stage, State};
+use foreign::{message_packet, sha256, tree};
 
 use crate::call::{Answer, Call, Lent};
 
@@ -32,9 +32,10 @@ fn refused(cause: u32, needed: usize) -> Answer {
 }
 
 pub fn answer(call: &Call, lent: &mut Lent) -> Answer {
-    let Lent { state, out } = lent;
+    let Lent { state, root, out } = lent;
     match call {
-        Call::Open(group, message) => open(*group, message, state, out),
+        Call::Open(group, message) => open(*group, message, state, root),
+        Call::OpenBySender(group, sender, bytes) => open_by_sender(*group, *sender, bytes, lent),
         Call::AgreeRoot(root) => step(state, |s| s.agree_root(root), usize::from),
         Call::AgreeBit(bit) => {
             // A number that is no byte is no bit either.
@@ -54,6 +55,7 @@ pub fn answer(call: &Call, lent: &mut Lent) -> Answer {
         Call::Stage => told(state, |s| accepted(stage_number(s.stage).into())),
         Call::Own => told(state, |s| accepted(s.own as usize)),
         Call::ReadPacket(n, packet) => read(*n, packet),
+        Call::ReadMessage(packet) => read_message(packet),
         Call::CheckPath(place, share, path, root) => check(*place, share, path, root),
         Call::Shares((n, t), message) => coded(encode(*n, *t, message, out)),
         Call::Rebuild((n, t), entries) => coded(rebuild(*n, *t, entries, out)),
@@ -125,6 +127,14 @@ pub fn encoded(state: &State) -> Vec<u8> {
     bytes
 }
 
+/// The cause 9 of an opening's buffers for the state and the root, if one is too short.
+fn short(state: &[u8], root: &[u8]) -> Option<Answer> {
+    if state.len() < STATE {
+        return Some(refused(9, STATE));
+    }
+    (root.len() < HASH).then(|| refused(9, HASH))
+}
+
 fn open(
     (n, t, own): (usize, usize, usize),
     message: &[u8],
@@ -136,15 +146,44 @@ fn open(
         Ok(root) => root,
         Err(refusal) => return refused(refusal.cause, 0),
     };
-    if state.len() < STATE {
-        return refused(9, STATE);
-    }
-    if out.len() < HASH {
-        return refused(9, HASH);
+    if let Some(short) = short(state, out) {
+        return short;
     }
     state[..STATE].copy_from_slice(&encoded(&opened));
     out[..HASH].copy_from_slice(&root);
     accepted(HASH)
+}
+
+/// Causes 1 to 4, then those of the two buffers, then that of the packet's.
+fn open_by_sender(
+    (n, t, own): (usize, usize, usize),
+    sender: usize,
+    bytes: &[u8],
+    lent: &mut Lent,
+) -> Answer {
+    let Lent { state, root, out } = lent;
+    let group = (n as u64, t as u64);
+    let mut packet = out.clone();
+    let (opened, begun) =
+        State::open_by_sender(group, own as u64, sender as u64, bytes, &mut packet);
+    let lowest = begun.err().filter(|refusal| refusal.cause < 9);
+    if let Some(refusal) = lowest {
+        return refused(refusal.cause, 0);
+    }
+    if let Some(short) = short(state, root) {
+        return short;
+    }
+    let Begun {
+        root: hash,
+        written,
+    } = match begun {
+        Ok(begun) => begun,
+        Err(refusal) => return refused(refusal.cause, refusal.needed),
+    };
+    state[..STATE].copy_from_slice(&encoded(&opened));
+    root[..HASH].copy_from_slice(&hash);
+    *out = packet;
+    accepted(written)
 }
 
 /// What is asked of a state, if the bytes are one.
@@ -182,6 +221,15 @@ fn read(n: usize, packet: &[u8]) -> Answer {
             share,
             path,
         } => accepted((path.len() << 24) + (number << 16) + share.len()),
+    }
+}
+
+/// A message has its length beside 2¹⁶, so that an empty one is not silence.
+fn read_message(packet: &[u8]) -> Answer {
+    match message_packet::read(packet) {
+        message_packet::Reading::Refused(cause) => refused(cause, 0),
+        message_packet::Reading::Silence => accepted(0),
+        message_packet::Reading::Message(message) => accepted((1 << 16) + message.len()),
     }
 }
 

@@ -1,6 +1,6 @@
 //! Rebuilding under a root: by the tool that is given one, and in step 5, where it is the agreed one.
 
-use cipangohu::{lay_out, MAX_OUTBOX, MAX_PARTIES, STATE};
+use cipangohu::{lay_out, HASH, MAX_OUTBOX, MAX_PARTIES, STATE};
 use foreign::commitment;
 use foreign::liars::{flip, Sharing};
 use foreign::random::Random;
@@ -63,6 +63,7 @@ fn no_other_message_is_settled_on() {
         let relays: Vec<Vec<u8>> = (1..=n).map(relay).collect();
         let mut lent = Lent {
             state: dirt(STATE, &mut random),
+            root: dirt(HASH, &mut random),
             out: dirt(MAX_OUTBOX, &mut random),
         };
         for call in [

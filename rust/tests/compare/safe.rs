@@ -128,8 +128,11 @@ fn any_state_is_judged() {
         state.resize(STATE, 0);
         let call = typed(some_step(&play, state[AT_STAGE], &mut random));
         let restored = Party::from_state(&state);
-        let out = vec![0; MAX_OUTBOX];
-        let mut lent = Lent { state, out };
+        let mut lent = Lent {
+            state,
+            out: vec![0; MAX_OUTBOX],
+            ..Lent::default()
+        };
         let expected = reference::answer(&call, &mut lent).accepted().err();
         let Ok(mut party) = restored else {
             assert_eq!(

@@ -28,10 +28,10 @@ impl Margins {
 
 /// The library's answer, with its buffers checked for bytes written beside them.
 fn library(call: &Call, lent: &mut Lent) -> Answer {
-    let (mut state, mut out) = (Margins::around(&lent.state), Margins::around(&lent.out));
-    let answer = answered(call, state.within(), out.within());
-    lent.state = state.checked();
-    lent.out = out.checked();
+    let [mut state, mut root, mut out] =
+        [&lent.state, &lent.root, &lent.out].map(|bytes| Margins::around(bytes));
+    let answer = answered(call, state.within(), root.within(), out.within());
+    [lent.state, lent.root, lent.out] = [state, root, out].map(Margins::checked);
     answer
 }
 
