@@ -6,8 +6,9 @@ use std::sync::atomic::{AtomicU64, Ordering::Relaxed};
 use crate::call::{answered, beside, Answer, Call, Lent};
 
 /// Each function with the causes that the header lists for it, 0 for accepted.
-const LISTED: [(&str, &[u32]); 14] = [
+const LISTED: [(&str, &[u32]); 16] = [
     ("open", &[0, 1, 2, 3, 4, 9]),
+    ("open_by_sender", &[0, 1, 2, 3, 4, 9]),
     ("agree_root", &[0, 5, 6, 7]),
     ("agree_bit", &[0, 5, 6, 7, 9]),
     ("take_shares", &[0, 5, 6, 8, 9]),
@@ -16,6 +17,7 @@ const LISTED: [(&str, &[u32]); 14] = [
     ("stage", &[0, 5]),
     ("own", &[0, 5]),
     ("read_packet", &[0, 1, 10]),
+    ("read_message", &[0, 10]),
     ("check_path", &[0, 1, 3, 4, 7]),
     ("shares", &[0, 1, 2, 4, 9]),
     ("rebuild", &[0, 1, 2, 8, 9, 11, 12]),
@@ -34,7 +36,8 @@ static TIMES: [[AtomicU64; CAUSES]; LISTED.len()] =
 fn library(call: &Call, lent: &mut Lent) -> Answer {
     let given = call.clone();
     let mut exact = lent.clone();
-    let answer = answered(&given, &mut exact.state, &mut exact.out);
+    let Lent { state, root, out } = &mut exact;
+    let answer = answered(&given, state, root, out);
     assert!(given == *call, "{call:?} changed what it was to read");
     *lent = exact;
     answer

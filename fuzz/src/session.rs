@@ -30,6 +30,8 @@ struct Party {
     root: Vec<u8>,
     /// The packet that bears each number, if one was written.
     packets: [Vec<u8>; MAX_PARTIES + 1],
+    /// The packet with its whole message, if it wrote one as the sender.
+    whole: Vec<u8>,
 }
 
 struct Session<'a> {
@@ -85,7 +87,7 @@ fn put(bytes: &mut [u8], at: usize, new: &[u8]) {
 impl Session<'_> {
     /// The numbers of the turns are those of fuzz/seeds.
     fn turn(&mut self) {
-        let (kind, party) = (self.input.below(15), self.input.below(PARTIES));
+        let (kind, party) = (self.input.below(17), self.input.below(PARTIES));
         match kind {
             0 => self.open(party),
             1 => self.agree_root(party),
@@ -101,7 +103,9 @@ impl Session<'_> {
             11 => self.parties[party] = self.parties[self.input.below(PARTIES)].clone(),
             12 => self.forge(party),
             13 => self.ask(party),
-            _ => self.rebuild_with_root(),
+            14 => self.rebuild_with_root(),
+            15 => self.open_by_sender(party),
+            _ => self.read_message(),
         }
     }
 
@@ -110,7 +114,11 @@ impl Session<'_> {
     fn made(&mut self, party: usize, call: &Call) -> Option<Vec<u8>> {
         let state = take(&mut self.parties[party].state);
         let out = dirt(self.input.room(0));
-        let mut lent = Lent { state, out };
+        let mut lent = Lent {
+            state,
+            out,
+            ..Lent::default()
+        };
         let mut answer = checked(call, &mut lent);
         if let Answer { value, cause: 9 } = answer {
             lent.out = dirt(self.input.room(value as usize));
@@ -166,7 +174,10 @@ impl Session<'_> {
                 let other = self.input.below(MAX_PARTIES + 1);
                 self.written(party, other)
             }
-            5 => vec![0],
+            5 => match self.input.below(2) {
+                0 => vec![0],
+                _ => self.parties[party].whole.clone(),
+            },
             6 => {
                 let share = self.input.bytes();
                 [&[7, number as u8, 0, self.input.byte()], &share[..]].concat()
@@ -206,14 +217,60 @@ impl Session<'_> {
         let t = self.input.number(self.group.1);
         let own = self.input.number(party + 1);
         let call = Call::Open((n, t, own), self.message());
+        self.opened(party, &call, Vec::new());
+    }
+
+    /// Makes an opening and keeps what it wrote for the party. Gives the buffer for a packet, and the
+    /// value, where it was accepted.
+    fn opened(&mut self, party: usize, call: &Call, out: Vec<u8>) -> Option<(Vec<u8>, usize)> {
         let mut lent = Lent {
             state: dirt(self.input.room(STATE)),
-            out: dirt(self.input.room(HASH)),
+            root: dirt(self.input.room(HASH)),
+            out,
         };
-        if checked(&call, &mut lent).cause == 0 {
-            self.parties[party].root = lent.out[..HASH].to_vec();
+        let value = checked(call, &mut lent).accepted();
+        let party = &mut self.parties[party];
+        party.state = lent.state;
+        let value = value.ok()? as usize;
+        party.root = lent.root[..HASH].to_vec();
+        Some((lent.out, value))
+    }
+
+    /// As the sender, or from what comes of the sender.
+    fn open_by_sender(&mut self, party: usize) {
+        let n = self.input.number(self.group.0);
+        let t = self.input.number(self.group.1);
+        let own = self.input.number(party + 1);
+        let sender = self.input.number(1);
+        let bytes = match own == sender {
+            true => self.message(),
+            false => self.whole(),
+        };
+        let out = dirt(self.input.room(3 + bytes.len()));
+        let call = Call::OpenBySender((n, t, own), sender, bytes);
+        if let Some((out, length @ 1..)) = self.opened(party, &call, out) {
+            self.parties[party].whole = out[..length].to_vec();
         }
-        self.parties[party].state = lent.state;
+    }
+
+    /// What a party wrote as the sender, now and then changed; or what is no such packet.
+    fn whole(&mut self) -> Vec<u8> {
+        let choice = self.input.byte();
+        let party = usize::from(choice / 8) % PARTIES;
+        let mut packet = self.parties[party].whole.clone();
+        match choice % 8 {
+            0..=2 => {}
+            3 => self.input.bend(&mut packet),
+            4 => packet = self.input.bytes(),
+            5 => packet = self.packet(1),
+            6 => packet = vec![0],
+            _ => {
+                let message = self.message();
+                let [high, low] = (message.len() as u16).to_be_bytes();
+                packet = [&[8, high, low], &message[..]].concat();
+            }
+        }
+        packet
     }
 
     fn agree_root(&mut self, party: usize) {
@@ -259,6 +316,11 @@ impl Session<'_> {
         let n = self.input.number(self.group.0);
         let number = self.input.number(1);
         let call = Call::ReadPacket(n, self.packet(number));
+        self.made(0, &call);
+    }
+
+    fn read_message(&mut self) {
+        let call = Call::ReadMessage(self.whole());
         self.made(0, &call);
     }
 
