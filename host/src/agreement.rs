@@ -12,7 +12,7 @@ use std::time::{Duration, Instant};
 use cipangohu::HASH;
 
 use crate::links::{connect, listen, PATIENCE};
-use crate::wire::{self, Hello, Token, ROUNDS};
+use crate::wire::{self, Hello, Token, AGREEMENTS};
 
 /// What the service is told of the sitting.
 pub struct Terms {
@@ -36,7 +36,7 @@ struct Round {
 
 struct Service {
     terms: Terms,
-    rounds: Mutex<[Round; ROUNDS]>,
+    rounds: Mutex<[Round; AGREEMENTS]>,
     changed: Condvar,
 }
 
@@ -63,7 +63,8 @@ fn accept(listener: &TcpListener, service: &Arc<Service>) {
 fn lawful(round: usize, value: &[u8]) -> bool {
     match round {
         0 => value.len() == HASH,
-        _ => matches!(value, [0 | 1]),
+        1 => matches!(value, [0 | 1]),
+        _ => false,
     }
 }
 
@@ -153,10 +154,11 @@ pub struct Agreement {
 }
 
 impl Agreement {
-    pub fn join(port: u16, own: usize, token: Token, limit: Duration) -> Result<Agreement> {
+    /// `wait` is how long a value may take on a host that is never busy.
+    pub fn join(port: u16, own: usize, token: Token, wait: Duration) -> Result<Agreement> {
         let hello = Hello { sender: own, token };
         let stream = connect(port, &hello)?;
-        stream.set_read_timeout(Some(limit + PATIENCE))?;
+        stream.set_read_timeout(Some(wait + PATIENCE))?;
         Ok(Agreement { stream })
     }
 
@@ -198,6 +200,7 @@ mod tests {
     fn only_roots_and_bits_are_taken() {
         assert!(lawful(0, &[1; 32]) && !lawful(0, &[1; 31]) && !lawful(0, &[]));
         assert!(lawful(1, &[0]) && lawful(1, &[1]) && !lawful(1, &[2]) && !lawful(1, &[0, 0]));
+        assert!(!lawful(2, &[0]) && !lawful(2, &[1; 32]));
     }
 
     const LIMIT: Duration = Duration::from_millis(50);

@@ -3,17 +3,27 @@
 use std::io::{self, ErrorKind};
 use std::thread;
 
-use cipangohu::{lay_out, Cause, Hash, Party, Stage, MAX_OUTBOX, MAX_PACKET};
+use cipangohu::{lay_out, read_message, Cause, Hash, Party, Stage};
+use cipangohu::{MAX_MESSAGE_PACKET, MAX_OUTBOX, MAX_PACKET};
 
 use crate::agreement::Agreement;
 use crate::clock::Clock;
 use crate::links::{packets_in, Links};
 use crate::options::{Duty, Options};
+use crate::wire::{FIRST, SECOND, SENDERS};
 
 /// A party that has ended, and how many bytes of packets it sent.
 pub struct Report {
     pub party: Party,
     pub sent: usize,
+    pub unread: Option<Unread>,
+}
+
+/// A sender of which a party read no message, so that it opened with the empty one, and whether bytes
+/// came all the same.
+pub struct Unread {
+    pub sender: usize,
+    pub came: bool,
 }
 
 /// Why a party did not get to its end.
@@ -34,12 +44,12 @@ impl From<io::Error> for Failure {
     }
 }
 
-/// A party that has been given the agreed bit, its packets by receiver, and the clock that the bit
-/// has started.
-struct Agreed {
+/// A party that has opened, its root, and what it sent before as the sender.
+struct Opened {
     party: Party,
-    packets: Vec<Vec<u8>>,
-    clock: Clock,
+    root: Hash,
+    sent: usize,
+    unread: Option<Unread>,
 }
 
 /// The agreement's value is neither a root nor a bit.
@@ -58,21 +68,85 @@ fn bit_of(value: &[u8]) -> io::Result<bool> {
     }
 }
 
-/// Steps 1 to 3.
-fn agree(options: &Options, own: usize, agreement: &mut Agreement) -> Result<Agreed, Failure> {
+/// Sends too late where the clock is broken so.
+fn delay(options: &Options, own: usize, exchange: usize) {
+    if options.is_late(own, exchange) {
+        thread::sleep(options.limit * 3);
+    }
+}
+
+/// Step 1: with the own message, or by the sender that the party is told.
+fn open(options: &Options, links: &mut Links) -> Result<Opened, Failure> {
+    let own = links.own;
+    match options.sender_told_to(own) {
+        Some(sender) if sender == own => send(options, links),
+        Some(sender) => receive(options, links, sender),
+        None => {
+            let message = options.message_of(own);
+            let (party, root) = Party::open(options.parties, options.faults, own, message)?;
+            Ok(Opened {
+                party,
+                root,
+                sent: 0,
+                unread: None,
+            })
+        }
+    }
+}
+
+/// Step 1 of the sender, which gives its message to all others.
+fn send(options: &Options, links: &mut Links) -> Result<Opened, Failure> {
+    let (n, t, own) = (options.parties, options.faults, links.own);
+    let mut packet = vec![0; MAX_MESSAGE_PACKET];
     let message = options.message_of(own);
-    let (mut party, root) = Party::open(options.parties, options.faults, own, message)?;
-    let root = root_of(&agreement.agree(0, &root)?)?;
+    let (party, root, length) = Party::open_as_sender(n, t, own, message, &mut packet)?;
+    packet.truncate(length);
+    delay(options, own, SENDERS);
+    links.send(SENDERS, &vec![packet; n]);
+    Ok(Opened {
+        party,
+        root,
+        sent: length * (n - 1),
+        unread: None,
+    })
+}
+
+/// Step 1 of any other party, which waits for the sender's packet and no longer than the limit. What
+/// did not come in time, or cannot be read, opens it with the empty message.
+fn receive(options: &Options, links: &Links, sender: usize) -> Result<Opened, Failure> {
+    let (n, t, own) = (options.parties, options.faults, links.own);
+    let clock = Clock::start(options.limit);
+    let packet = links.hear(SENDERS, sender, clock.end_of(1));
+    let unread = match read_message(&packet) {
+        Ok(Some(_)) => None,
+        read => Some(Unread {
+            sender,
+            came: read.is_err(),
+        }),
+    };
+    let (party, root) = Party::open_from_sender(n, t, own, sender, &packet)?;
+    Ok(Opened {
+        party,
+        root,
+        sent: 0,
+        unread,
+    })
+}
+
+/// Steps 2 and 3: the packets by receiver, and the clock that the agreed bit has started.
+fn agree(
+    options: &Options,
+    party: &mut Party,
+    root: &Hash,
+    agreement: &mut Agreement,
+) -> Result<(Vec<Vec<u8>>, Clock), Failure> {
+    let root = root_of(&agreement.agree(0, root)?)?;
     let happy = party.agree_root(&root)?;
     let bit = bit_of(&agreement.agree(1, &[happy.into()])?)?;
     let clock = Clock::start(options.limit);
     let mut out = vec![0; MAX_OUTBOX];
     let length = party.agree_bit(bit, &mut out)?;
-    Ok(Agreed {
-        party,
-        packets: packets_in(&out[..length]),
-        clock,
-    })
+    Ok((packets_in(&out[..length]), clock))
 }
 
 /// All five steps.
@@ -82,32 +156,35 @@ pub fn run(
     agreement: &mut Agreement,
 ) -> Result<Report, Failure> {
     let own = links.own;
-    let Agreed {
+    let Opened {
         mut party,
-        packets,
-        clock,
-    } = agree(options, own, agreement)?;
-    if party.stage() == Stage::EndedWithNothing {
-        return Ok(Report { party, sent: 0 });
-    }
-    if options.breaks(Duty::Clock) && options.good().next() == Some(own) {
-        thread::sleep(options.limit * 3);
-    }
-    links.send(0, &packets);
-    let first = lay_out(&links.collect(0, clock.end_of(0)));
+        root,
+        mut sent,
+        unread,
+    } = open(options, links)?;
+    let (packets, clock) = agree(options, &mut party, &root, agreement)?;
+    if party.stage() != Stage::EndedWithNothing {
+        delay(options, own, FIRST);
+        links.send(FIRST, &packets);
+        let first = lay_out(&links.collect(FIRST, clock.end_of(FIRST)));
 
-    if options.breaks(Duty::State) && options.good().next_back() == Some(own) {
-        party = meddled(options, own)?;
-    }
-    let mut relay = vec![0; MAX_PACKET];
-    let length = party.take_shares(&first, &mut relay)?;
-    relay.truncate(length);
-    links.send(1, &vec![relay; options.parties]);
-    let second = lay_out(&links.collect(1, clock.end_of(1)));
+        if options.breaks(Duty::State) && options.good().next_back() == Some(own) {
+            party = meddled(options, own)?;
+        }
+        let mut relay = vec![0; MAX_PACKET];
+        let length = party.take_shares(&first, &mut relay)?;
+        relay.truncate(length);
+        links.send(SECOND, &vec![relay; options.parties]);
+        let second = lay_out(&links.collect(SECOND, clock.end_of(SECOND)));
 
-    let sent = packets.iter().map(Vec::len).sum::<usize>() + length * (options.parties - 1);
-    party.take_relays(&second)?;
-    Ok(Report { party, sent })
+        sent += packets.iter().map(Vec::len).sum::<usize>() + length * (options.parties - 1);
+        party.take_relays(&second)?;
+    }
+    Ok(Report {
+        party,
+        sent,
+        unread,
+    })
 }
 
 /// What somebody who should not puts in the place of a party's state: that of one whose own root

@@ -9,7 +9,7 @@ use std::time::{Duration, Instant};
 
 use cipangohu::entries;
 
-use crate::wire::{self, Hello, Token, ROUNDS};
+use crate::wire::{self, Hello, Token, EXCHANGES};
 
 /// How long anything but an exchange may take before it counts as failed.
 pub const PATIENCE: Duration = Duration::from_secs(10);
@@ -37,21 +37,24 @@ pub fn packets_in(outbox: &[u8]) -> Vec<Vec<u8>> {
     packets.map(<[u8]>::to_vec).collect()
 }
 
+/// What arrived in an exchange, by sender.
+type Arrived = Vec<Option<Vec<u8>>>;
+
 /// What arrived, by exchange and sender. The first frame of each counts.
 pub struct Mailbox {
-    packets: Mutex<[Vec<Option<Vec<u8>>>; ROUNDS]>,
+    packets: Mutex<[Arrived; EXCHANGES]>,
     arrived: Condvar,
 }
 
 impl Mailbox {
     pub fn new(parties: usize) -> Mailbox {
         Mailbox {
-            packets: Mutex::new([vec![None; parties], vec![None; parties]]),
+            packets: Mutex::new(std::array::from_fn(|_| vec![None; parties])),
             arrived: Condvar::new(),
         }
     }
 
-    fn lock(&self) -> MutexGuard<'_, [Vec<Option<Vec<u8>>>; ROUNDS]> {
+    fn lock(&self) -> MutexGuard<'_, [Arrived; EXCHANGES]> {
         self.packets.lock().unwrap_or_else(PoisonError::into_inner)
     }
 
@@ -66,11 +69,22 @@ impl Mailbox {
     /// The packets of an exchange in the senders' order, as soon as all others have sent or the
     /// time is up. Who sent nothing by then has sent no bytes.
     pub fn collect(&self, exchange: usize, own: usize, end: Instant) -> Vec<Vec<u8>> {
+        self.wait(exchange, end, |sender| sender != own)
+    }
+
+    /// The packet of one sender in an exchange, as soon as it is there or the time is up.
+    pub fn hear(&self, exchange: usize, from: usize, end: Instant) -> Vec<u8> {
+        let mut packets = self.wait(exchange, end, |sender| sender == from);
+        packets.swap_remove(from - 1)
+    }
+
+    /// The packets of an exchange once all senders that are awaited have sent, or the time is up.
+    fn wait(&self, exchange: usize, end: Instant, awaited: impl Fn(usize) -> bool) -> Vec<Vec<u8>> {
         let mut packets = self.lock();
         loop {
             let mut senders = (1..).zip(&packets[exchange]);
             let left = end.saturating_duration_since(Instant::now());
-            let complete = senders.all(|(sender, packet)| sender == own || packet.is_some());
+            let complete = senders.all(|(sender, packet)| !awaited(sender) || packet.is_some());
             if complete || left.is_zero() {
                 return packets[exchange]
                     .iter()
@@ -132,15 +146,24 @@ impl Links {
     /// Sends each other party its packet. A link that fails is the receiver's loss: it may be a
     /// liar that has gone away.
     pub fn send(&mut self, exchange: usize, packets: &[Vec<u8>]) {
-        for (stream, packet) in self.streams.iter_mut().zip(packets) {
-            if let Some(stream) = stream {
-                wire::write_frame(stream, exchange, packet).ok();
-            }
+        for (place, packet) in packets.iter().enumerate() {
+            self.send_to(place, exchange, packet);
+        }
+    }
+
+    /// Sends a packet to the party at a place from 0.
+    pub fn send_to(&mut self, place: usize, exchange: usize, packet: &[u8]) {
+        if let Some(Some(stream)) = self.streams.get_mut(place) {
+            wire::write_frame(stream, exchange, packet).ok();
         }
     }
 
     pub fn collect(&self, exchange: usize, end: Instant) -> Vec<Vec<u8>> {
         self.mailbox.collect(exchange, self.own, end)
+    }
+
+    pub fn hear(&self, exchange: usize, from: usize, end: Instant) -> Vec<u8> {
+        self.mailbox.hear(exchange, from, end)
     }
 }
 
@@ -162,6 +185,19 @@ mod tests {
         let late = now + PATIENCE;
         assert_eq!(mailbox.collect(0, 2, late), [vec![1], vec![], vec![]]);
         assert!(Instant::now() < late);
+    }
+
+    #[test]
+    fn one_sender_is_awaited_alone() {
+        let mailbox = Mailbox::new(3);
+        mailbox.deliver(0, 1, vec![1]);
+        mailbox.deliver(0, 3, vec![3]);
+        let now = Instant::now();
+        let late = now + PATIENCE;
+        assert_eq!(mailbox.hear(0, 3, late), [3]);
+        assert!(Instant::now() < late);
+        assert_eq!(mailbox.hear(0, 2, now), []);
+        assert_eq!(mailbox.hear(1, 3, now), []);
     }
 
     #[test]

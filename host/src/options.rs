@@ -3,33 +3,39 @@
 
 use std::collections::BTreeMap;
 use std::fs;
+use std::ops::RangeInclusive;
 use std::str::FromStr;
 use std::time::Duration;
 
 use crate::hex;
 use crate::liars::Lie;
+use crate::wire::{FIRST, SENDERS};
 
 pub const USAGE: &str = "usage: host --parties N --faults T --book BOOK [--own-book I=BOOK]...
-            [--lie I=LIE]... [--limit-ms MS] [--seed S] [--break DUTY] [--screen J]
+            [--lie I=LIE]... [--limit-ms MS] [--seed S] [--break DUTY] [--screen I]
+       host --parties N --faults T --book BOOK --sender J ...
   BOOK  hexadecimal bytes, or the name of a file
-  LIE   silent, noise, split, other-book, replay or forge
+  LIE   silent, noise, split, other-book, too-long, replay or forge
   MS    milliseconds, the time limit of each exchange; 500 if left out
   S     a number that settles what liars do by chance; 0 if left out
-  DUTY  forge, clock, agreement or state, which the host then does badly
-  J     a good box, whose result a screen reads again when the sitting is over";
+  DUTY  forge, clock, agreement, state or sender, which the host then does badly
+  I     a box; the screen reads a good one's result again when the sitting is over
+  J     the box that alone has the book and gives it to all others";
 
 /// What the host can be told to do badly.
 #[derive(Clone, Copy, Debug, PartialEq, Eq)]
 pub enum Duty {
     /// Links: a number is believed without its token.
     Forge,
-    /// The clock: the lowest-numbered good party sends its first packets when the others have
-    /// stopped listening.
+    /// The clock: a good sender, or else the lowest-numbered good party, sends its first packets
+    /// when the others have stopped listening.
     Clock,
     /// The agreement: each party gets back what it put in.
     Agreement,
     /// The state: somebody else writes into the highest-numbered good party's.
     State,
+    /// The sender's name: the lowest-numbered good party beside the sender is told another one.
+    Sender,
 }
 
 #[derive(Debug)]
@@ -38,6 +44,8 @@ pub struct Options {
     pub faults: usize,
     message: Vec<u8>,
     own_messages: BTreeMap<usize, Vec<u8>>,
+    /// The party that alone has the message.
+    pub sender: Option<usize>,
     pub lies: BTreeMap<usize, Lie>,
     pub limit: Duration,
     pub seed: u64,
@@ -57,6 +65,7 @@ impl FromStr for Duty {
             "clock" => Ok(Duty::Clock),
             "agreement" => Ok(Duty::Agreement),
             "state" => Ok(Duty::State),
+            "sender" => Ok(Duty::Sender),
             _ => Err(format!("{text} is no duty\n{USAGE}")),
         }
     }
@@ -95,6 +104,7 @@ impl Options {
             faults: 0,
             message: Vec::new(),
             own_messages: BTreeMap::new(),
+            sender: None,
             lies: BTreeMap::new(),
             limit: Duration::from_millis(500),
             seed: 0,
@@ -116,6 +126,7 @@ impl Options {
             return Err(format!("{name} is missing\n{USAGE}"));
         }
         options.check_numbers()?;
+        options.check_sender()?;
         Ok(options)
     }
 
@@ -128,6 +139,7 @@ impl Options {
                 let (own, text) = of_party(value)?;
                 self.own_messages.insert(own, message(text)?);
             }
+            "--sender" => self.sender = Some(number(value)?),
             "--lie" => {
                 let (own, lie) = of_party(value)?;
                 self.lies.insert(own, lie.parse()?);
@@ -148,6 +160,7 @@ impl Options {
             .own_messages
             .keys()
             .chain(self.lies.keys())
+            .chain(&self.sender)
             .chain(&self.screen)
             .chain(&self.own);
         let mut strange = named.filter(|own| !(1..=self.parties).contains(own));
@@ -160,9 +173,61 @@ impl Options {
         }
     }
 
-    /// The message that a party opens with.
+    /// Where one party has the message, no other has one; where none is named, none is named wrongly.
+    fn check_sender(&self) -> Result<(), String> {
+        match self.sender {
+            Some(sender) if !self.own_messages.is_empty() => Err(format!(
+                "box {sender} alone has a book: --own-book does not go with --sender"
+            )),
+            None if self.breaks(Duty::Sender) => Err("--break sender needs --sender".to_string()),
+            _ => Ok(()),
+        }
+    }
+
+    /// The message that a party opens with. Where there is a sender it is the sender's alone, but
+    /// known to liars.
     pub fn message_of(&self, own: usize) -> &[u8] {
         self.own_messages.get(&own).unwrap_or(&self.message)
+    }
+
+    /// The parties that have a message to open with: all, or the sender alone.
+    pub fn holders(&self) -> RangeInclusive<usize> {
+        match self.sender {
+            Some(sender) => sender..=sender,
+            None => 1..=self.parties.max(1),
+        }
+    }
+
+    /// The sender that a party is told. Where that duty is broken, one party is told another.
+    pub fn sender_told_to(&self, own: usize) -> Option<usize> {
+        let sender = self.sender?;
+        let misled = self.good().find(|good| *good != sender) == Some(own);
+        let other = (1..=self.parties).find(|other| ![own, sender].contains(other));
+        match other.filter(|_| misled && self.breaks(Duty::Sender)) {
+            Some(other) => Some(other),
+            None => Some(sender),
+        }
+    }
+
+    /// The sender, if it is a good party.
+    pub fn good_sender(&self) -> Option<usize> {
+        self.sender.filter(|own| !self.lies.contains_key(own))
+    }
+
+    /// Whether a party is late in an exchange, since the clock is broken.
+    pub fn is_late(&self, own: usize, exchange: usize) -> bool {
+        let lowest = self.good().next().map(|own| (own, FIRST));
+        let sender = self.good_sender().map(|own| (own, SENDERS));
+        self.breaks(Duty::Clock) && sender.or(lowest) == Some((own, exchange))
+    }
+
+    /// How much later than another a good party may come to the agreement. One that waits for a sender
+    /// in vain comes a limit later than one that heard it at once.
+    pub fn spread(&self) -> Duration {
+        match self.sender {
+            Some(_) => self.limit * 2,
+            None => self.limit,
+        }
     }
 
     pub fn good(&self) -> impl DoubleEndedIterator<Item = usize> + '_ {
@@ -199,6 +264,25 @@ mod tests {
         assert_eq!(options.limit, Duration::from_millis(70));
         assert!(options.breaks(Duty::Clock) && !options.breaks(Duty::State));
         assert_eq!(options.screen, Some(2));
+        assert_eq!((options.sender, options.holders()), (None, 1..=5));
+        assert!(options.is_late(1, FIRST) && !options.is_late(1, SENDERS));
+        assert_eq!(options.spread(), options.limit);
+    }
+
+    #[test]
+    fn one_party_has_the_message() {
+        let line = "--parties 4 --faults 1 --book 4142 --sender 1 --lie 2=noise";
+        let options = parsed(&format!("{line} --break clock")).unwrap();
+        assert_eq!((options.holders(), options.good_sender()), (1..=1, Some(1)));
+        assert_eq!(options.sender_told_to(3), Some(1));
+        assert!(options.is_late(1, SENDERS) && !options.is_late(1, FIRST));
+        assert_eq!(options.spread(), options.limit * 2);
+        let options = parsed(&format!("{line} --break sender")).unwrap();
+        let told: Vec<_> = (1..=4).map(|own| options.sender_told_to(own)).collect();
+        assert_eq!(told, [Some(1), Some(1), Some(2), Some(1)]);
+        let options = parsed(&format!("{line} --lie 1=split --break clock")).unwrap();
+        assert_eq!(options.good_sender(), None);
+        assert!(options.is_late(3, FIRST));
     }
 
     #[test]
@@ -217,6 +301,10 @@ mod tests {
             "--screen 0",
             "--screen 4",
             "--lie 3=noise --screen 3",
+            "--sender 0",
+            "--sender 4",
+            "--sender 2 --own-book 2=42",
+            "--break sender",
         ] {
             assert!(parsed(&format!("{few} {more}")).is_err(), "{more}");
         }

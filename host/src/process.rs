@@ -9,7 +9,7 @@ use std::sync::Arc;
 use cipangohu::{Outcome, Party};
 
 use crate::agreement::Agreement;
-use crate::good::{self, Failure, Report};
+use crate::good::{self, Failure, Report, Unread};
 use crate::hex;
 use crate::liars::{Liar, Lie};
 use crate::links::{connect, listen, receive, Door, Links, Mailbox};
@@ -39,7 +39,7 @@ fn tell(line: &str) -> Result<(), String> {
 }
 
 /// A result as a rehearsal prints it.
-fn shown(result: Outcome) -> String {
+pub fn shown(result: Outcome) -> String {
     match result {
         Outcome::Nothing => String::from("-"),
         Outcome::Message([]) => String::from("="),
@@ -47,16 +47,27 @@ fn shown(result: Outcome) -> String {
     }
 }
 
-/// The line that reports how a good party ended: the bytes it sent, and its result.
-fn reported(ended: &Result<Report, Failure>) -> String {
-    match ended {
-        Ok(Report { party, sent }) => match party.result() {
-            Some(result) => format!("{sent} {}", shown(result)),
-            None => String::from("0 error: the party has not ended"),
-        },
-        Err(Failure::Refused(cause)) => format!("0 error: {cause}"),
-        Err(Failure::Link(error)) => format!("0 error: {error}"),
+/// What a person at the party is told where it opened with the empty message since it read none.
+fn noted(unread: &Unread) -> String {
+    let Unread { sender, came } = unread;
+    match came {
+        true => format!("cannot read what box {sender} sent, and opens with the empty book"),
+        false => format!("hears nothing from box {sender}, and opens with the empty book"),
     }
+}
+
+/// The line that reports how a good party ended, its parts between tabs: the bytes it sent, its
+/// result, and a note, which may be empty.
+fn reported(ended: &Result<Report, Failure>) -> String {
+    let report = match ended {
+        Ok(report) => report,
+        Err(Failure::Refused(cause)) => return format!("0\terror: {cause}\t"),
+        Err(Failure::Link(error)) => return format!("0\terror: {error}\t"),
+    };
+    let result = report.party.result();
+    let result = result.map_or(String::from("error: the box has not ended"), shown);
+    let note = report.unread.as_ref().map_or(String::new(), noted);
+    format!("{}\t{result}\t{note}", report.sent)
 }
 
 /// Shows the result to whoever asks after the report. The inbox is gone by then; step 5 needs none
@@ -110,7 +121,9 @@ pub fn run(options: &Options, own: usize) -> Result<(), String> {
     }
 
     let Peer { port, said, .. } = roster.agreement;
-    let mut agreement = Agreement::join(port, own, said, options.limit).map_err(text)?;
+    // Who comes first waits for the others, and then for those that are not there.
+    let wait = options.limit + options.spread();
+    let mut agreement = Agreement::join(port, own, said, wait).map_err(text)?;
     let Some(liar) = liar else {
         let ended = good::run(options, &mut links, &mut agreement);
         tell(&reported(&ended))?;

@@ -7,12 +7,12 @@ use std::sync::mpsc::{channel, Receiver};
 use std::thread;
 use std::time::Duration;
 
-use cipangohu::Party;
+use cipangohu::{Outcome, Party};
 
 use crate::agreement::{serve, Terms};
 use crate::links::PATIENCE;
 use crate::options::{Duty, Options};
-use crate::process::{GO, READY, SHOW};
+use crate::process::{shown, GO, READY, SHOW};
 use crate::roster::{tokens, Roster};
 
 /// A party's process; it is ended with this.
@@ -68,23 +68,26 @@ impl Process {
     }
 }
 
-/// How a good party ended: the bytes it sent, and its result as it is printed.
+/// How a good party ended: the bytes it sent, its result as it is printed, and what else it tells.
 struct Ended {
     own: usize,
     sent: usize,
     result: String,
+    note: String,
 }
 
 /// A party that tells nothing that can be read has an error.
 fn ended(process: &Process, patience: Duration) -> Ended {
     let line = process
         .line(patience)
-        .unwrap_or_else(|message| format!("0 error: {message}"));
-    let (sent, result) = line.split_once(' ').unwrap_or(("0", "error: no report"));
+        .unwrap_or_else(|message| format!("0\terror: {message}\t"));
+    let mut parts = line.splitn(3, '\t');
+    let sent = parts.next().and_then(|sent| sent.parse().ok());
     Ended {
         own: process.own,
-        sent: sent.parse().unwrap_or(0),
-        result: result.to_string(),
+        sent: sent.unwrap_or(0),
+        result: parts.next().unwrap_or("error: no report").to_string(),
+        note: parts.next().unwrap_or_default().to_string(),
     }
 }
 
@@ -97,7 +100,7 @@ fn screen(process: &mut Process) {
 
 /// The limits are the party's: it says whether it would open with this number and message.
 fn check_openings(options: &Options) -> Result<(), String> {
-    for own in 1..=options.parties.max(1) {
+    for own in options.holders() {
         Party::open(
             options.parties,
             options.faults,
@@ -118,7 +121,7 @@ fn gather(options: &Options, arguments: &[String]) -> Result<Vec<Process>, Strin
     let agreement = serve(Terms {
         parties: n,
         faults: options.faults,
-        limit: options.limit,
+        limit: options.spread(),
         tokens: tokens[n * n..].to_vec(),
         echo: options.breaks(Duty::Agreement),
     })
@@ -159,7 +162,7 @@ pub fn run(options: &Options, arguments: &[String]) -> Result<bool, String> {
     for process in &mut processes {
         process.tell(GO)?;
     }
-    let patience = options.limit * 8 + PATIENCE;
+    let patience = options.limit * 12 + PATIENCE;
     let good = processes
         .iter()
         .filter(|process| !options.lies.contains_key(&process.own));
@@ -174,6 +177,37 @@ pub fn run(options: &Options, arguments: &[String]) -> Result<bool, String> {
     Ok(alike)
 }
 
+/// Why the sitting is broken, if it is: a promise was not kept.
+fn broken(options: &Options, ended: &[Ended]) -> Option<String> {
+    if ended.iter().any(|ended| ended.result.starts_with("error")) {
+        return Some("a good box failed".to_string());
+    }
+    if ended
+        .windows(2)
+        .any(|pair| pair[0].result != pair[1].result)
+    {
+        return Some("good boxes differ".to_string());
+    }
+    let sender = options.good_sender()?;
+    let book = shown(Outcome::Message(options.message_of(sender)));
+    let lost = ended.iter().any(|ended| ended.result != book);
+    lost.then(|| format!("box {sender} is good, but its book is not the result"))
+}
+
+/// What was settled. The empty book is a book.
+fn settled(result: &str) -> String {
+    match result
+        .strip_prefix("=")
+        .map(|digits| digits.trim().len() / 2)
+    {
+        None => "nothing".to_string(),
+        Some(0) => "the empty book".to_string(),
+        Some(1) => "a book of 1 byte".to_string(),
+        Some(length) => format!("a book of {length} bytes"),
+    }
+}
+
+/// Prints what each party did and what came of it; gives whether that is what is promised.
 fn print(options: &Options, ended: &[Ended]) -> bool {
     if options.lies.len() > options.faults {
         println!(
@@ -183,29 +217,26 @@ fn print(options: &Options, ended: &[Ended]) -> bool {
         );
     }
     for own in 1..=options.parties {
-        match options.lies.get(&own) {
-            Some(lie) => println!("{own} lies: {}", lie.name()),
-            None => ended
-                .iter()
-                .filter(|ended| ended.own == own)
-                .for_each(|ended| println!("{own} {}", ended.result)),
+        if let Some(lie) = options.lies.get(&own) {
+            println!("{own} lies: {}", lie.name());
+        }
+        for ended in ended.iter().filter(|ended| ended.own == own) {
+            if !ended.note.is_empty() {
+                println!("{own} {}", ended.note);
+            }
+            println!("{own} {}", ended.result);
         }
     }
-    println!(
-        "sent {}",
-        ended.iter().map(|ended| ended.sent).sum::<usize>()
-    );
-    let failed = ended.iter().any(|ended| ended.result.starts_with("error"));
-    let alike = ended
-        .windows(2)
-        .all(|pair| pair[0].result == pair[1].result);
-    println!(
-        "{}",
-        match (failed, alike) {
-            (true, _) => "broken: a good box failed",
-            (_, false) => "broken: good boxes differ",
-            _ => "settled: all good boxes have one result",
+    let sent: usize = ended.iter().map(|ended| ended.sent).sum();
+    println!("sent {sent}");
+    let broken = broken(options, ended);
+    let verdict = match (&broken, ended.first()) {
+        (None, Some(any)) => {
+            let what = settled(&any.result);
+            format!("settled: all good boxes have one result, {what}")
         }
-    );
-    !failed && alike
+        (reason, _) => format!("broken: {}", reason.as_deref().unwrap_or_default()),
+    };
+    println!("{verdict}");
+    broken.is_none()
 }

@@ -1,5 +1,6 @@
 //! What stands on a connection: first a hello, the sender's number and the link's token; then
-//! frames, each of a round (0 or 1) in one byte, a two-byte length and as many bytes.
+//! frames, each of a round in one byte, a two-byte length and as many bytes. A round is an agreement
+//! or an exchange, by its number.
 
 use std::io::{Error, ErrorKind, Read, Result, Write};
 
@@ -18,8 +19,15 @@ pub struct Frame {
     pub body: Vec<u8>,
 }
 
-/// There are two agreements and two exchanges.
-pub const ROUNDS: usize = 2;
+/// The exchanges. That in which a named sender gives its message to all comes before the first, where
+/// there is one.
+pub const SENDERS: usize = 0;
+pub const FIRST: usize = 1;
+pub const SECOND: usize = 2;
+pub const EXCHANGES: usize = 3;
+
+/// There are two agreements, for the root and for the bit.
+pub const AGREEMENTS: usize = 2;
 
 fn too_large<E>(_: E) -> Error {
     Error::from(ErrorKind::InvalidInput)
@@ -53,7 +61,7 @@ pub fn read_frame(stream: &mut impl Read) -> Result<Frame> {
     let mut head = [0; 3];
     stream.read_exact(&mut head)?;
     let round = usize::from(head[0]);
-    if round >= ROUNDS {
+    if round >= EXCHANGES.max(AGREEMENTS) {
         return Err(Error::from(ErrorKind::InvalidData));
     }
     let mut body = vec![0; u16::from_be_bytes([head[1], head[2]]).into()];
@@ -86,7 +94,7 @@ mod tests {
 
     #[test]
     fn bad_bytes_are_errors() {
-        let bad: [&[u8]; 4] = [&[], &[0, 0], &[0, 0, 2, 5], &[2, 0, 0]];
+        let bad: [&[u8]; 4] = [&[], &[0, 0], &[0, 0, 2, 5], &[3, 0, 0]];
         for mut bytes in bad {
             assert!(read_frame(&mut bytes).is_err());
         }

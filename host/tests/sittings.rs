@@ -15,7 +15,15 @@ const LONGEST: Duration = Duration::from_secs(60);
 /// The time limit of an exchange, ample for a busy machine.
 const LIMIT: &str = "--limit-ms 1500";
 
-const LIES: [&str; 6] = ["silent", "noise", "split", "other-book", "replay", "forge"];
+const LIES: [&str; 7] = [
+    "silent",
+    "noise",
+    "split",
+    "other-book",
+    "too-long",
+    "replay",
+    "forge",
+];
 
 struct Run {
     status: i32,
@@ -64,6 +72,14 @@ impl Run {
             .map(|(_, rest)| rest)
             .collect()
     }
+
+    /// What was settled, by the verdict.
+    fn settled(&self) -> Option<&str> {
+        let verdict = "settled: all good boxes have one result, ";
+        self.lines
+            .iter()
+            .find_map(|line| line.strip_prefix(verdict))
+    }
 }
 
 /// All good parties must end with one of these results.
@@ -77,6 +93,13 @@ fn settles(words: &str, good: usize, allowed: &[&str]) {
         "{words}: {results:?}"
     );
     assert!(allowed.contains(&results[0]), "{words}: {results:?}");
+    let what = match results[0].strip_prefix('=').map(str::len) {
+        None => "nothing",
+        Some(0) => "the empty book",
+        Some(_) => "a book of ",
+    };
+    let told = run.settled().expect("a verdict");
+    assert!(told.starts_with(what), "{words}: {told}");
 }
 
 /// Runs sittings beside one another: most of their time they wait.
@@ -121,6 +144,101 @@ fn liars_of_every_kind() {
     beside(sittings);
 }
 
+/// A good sender's book is settled on, whatever others lie, also in the sender's exchange.
+#[test]
+fn a_good_sender_among_liars() {
+    let mut sittings: Vec<Box<dyn Fn() + Send + Sync>> = Vec::new();
+    for lie in LIES {
+        for (n, t) in [(3, 1), (5, 2), (8, 3)] {
+            for lowest in [true, false] {
+                let sender = if lowest { n } else { 1 };
+                let words = format!("{} --sender {sender}", liars(n, t, lie, lowest));
+                let words = format!("{words} --book 4142 --seed {n}");
+                sittings.push(Box::new(move || settles(&words, n - t, &["= 4142"])));
+            }
+        }
+    }
+    println!("{} sittings", sittings.len());
+    beside(sittings);
+}
+
+/// What may come of a sender that lies: of one that says nothing that can be read the empty book, of
+/// another one of its books or nothing. All good boxes have the same.
+fn of_a_bad_sender(lie: &str) -> &'static [&'static str] {
+    // SHA-256 of the book 4142.
+    const OTHER: &str = "= 38164fbd17603d73f696b8b4d72664d735bb6a7c88577687fd2ae33fd6964153";
+    match lie {
+        "split" => &["= 4142", "= 4042", "=", "-"],
+        "other-book" => &[OTHER],
+        _ => &["="],
+    }
+}
+
+#[test]
+fn a_sender_that_lies() {
+    let mut sittings: Vec<Box<dyn Fn() + Send + Sync>> = Vec::new();
+    for lie in LIES {
+        for (seed, (n, t)) in [(3, 1), (4, 1), (5, 2), (7, 3)].into_iter().enumerate() {
+            let words = liars(n, t, lie, seed % 2 == 0);
+            let sender = if seed % 2 == 0 { t } else { n };
+            let words = format!("{words} --sender {sender} --book 4142 --seed {seed}");
+            sittings.push(Box::new(move || {
+                settles(&words, n - t, of_a_bad_sender(lie))
+            }));
+        }
+    }
+    for seed in 10..22 {
+        let words = format!("--parties 5 --faults 2 --sender 3 --lie 3=split --seed {seed}");
+        let words = format!("{words} --lie 1=other-book --book 4142 {LIMIT}");
+        sittings.push(Box::new(move || {
+            settles(&words, 3, of_a_bad_sender("split"))
+        }));
+    }
+    println!("{} sittings", sittings.len());
+    beside(sittings);
+}
+
+/// Boxes say why they open with the empty book, and with the sender's own empty book they say nothing.
+#[test]
+fn boxes_tell_that_they_read_no_book() {
+    let few = format!("--parties 3 --faults 1 --sender 2 {LIMIT}");
+    for (lie, told) in [
+        ("silent", "hears nothing from box 2"),
+        ("too-long", "cannot read what box 2 sent"),
+    ] {
+        let run = host(&format!("{few} --book 4142 --lie 2={lie}"));
+        let told = format!("{told}, and opens with the empty book");
+        let expected = [
+            &format!("1 {told}"),
+            "1 =",
+            &format!("2 lies: {lie}"),
+            &format!("3 {told}"),
+            "3 =",
+        ];
+        assert_eq!(run.lines[..5], expected, "{lie}");
+        assert_eq!(run.settled(), Some("the empty book"));
+    }
+    let run = host(&format!("{few} --book /dev/null"));
+    assert_eq!(run.lines[..3], ["1 =", "2 =", "3 ="]);
+    assert_eq!(run.settled(), Some("the empty book"));
+}
+
+/// The host tells where a good sender's book was lost, since its packet came late or not all boxes
+/// were told the same sender.
+#[test]
+fn a_good_senders_book_that_is_lost_is_told() {
+    for (sender, words) in [
+        (1, "--sender 1 --break clock"),
+        (2, "--sender 2 --lie 3=silent --break sender"),
+    ] {
+        let words = format!("--parties 3 --faults 1 --book 4142 {words} {LIMIT}");
+        let run = host(&words);
+        let told = format!("broken: box {sender} is good, but its book is not the result");
+        assert_eq!((run.status, run.lines.last()), (1, Some(&told)), "{words}");
+        assert!(run.results().iter().all(|result| *result == "="));
+    }
+}
+
 #[test]
 fn every_lie_at_once() {
     let lies: Vec<String> = (2..)
@@ -129,10 +247,15 @@ fn every_lie_at_once() {
         .collect();
     for seed in 1..=3 {
         let words = format!(
-            "--parties 14 --faults 6 --book 00ff --own-book 1=41 --seed {seed} {LIMIT} {}",
+            "--parties 15 --faults 7 --book 00ff --seed {seed} {LIMIT} {}",
             lies.join(" ")
         );
-        settles(&words, 8, &["= 00ff", "= 41", "-"]);
+        settles(
+            &format!("{words} --own-book 1=41"),
+            8,
+            &["= 00ff", "= 41", "-"],
+        );
+        settles(&format!("{words} --sender 1"), 8, &["= 00ff"]);
     }
 }
 
@@ -162,8 +285,15 @@ fn worked_sittings() {
         two.lines[..4],
         ["1 = 41", "2 = 41", "3 lies: silent", "sent 388"]
     );
-    let alone = host("--parties 1 --faults 0 --book 4142");
-    assert_eq!(alone.lines[..2], ["1 = 4142", "sent 0"]);
+    let sent = host(&format!("{silent} --book 4142 --sender 1"));
+    assert_eq!(
+        sent.lines[..4],
+        ["1 = 4142", "2 = 4142", "3 lies: silent", "sent 506"]
+    );
+    for words in ["", "--sender 1"] {
+        let alone = host(&format!("--parties 1 --faults 0 --book 4142 {words}"));
+        assert_eq!(alone.lines[..2], ["1 = 4142", "sent 0"]);
+    }
 }
 
 /// The screen shows what the desk has, also where that is nothing or the empty book; a box that
@@ -200,11 +330,14 @@ fn messages_from_files_and_of_any_length() {
             "--parties 4 --faults 1 --own-book 4=41 --book {} {LIMIT}",
             file.display()
         );
-        let run = host(&words);
-        assert_eq!(run.status, status, "length {length}");
-        if status == 0 {
-            let message = format!("= {}", "07".repeat(length));
-            assert_eq!(run.results(), [message.trim_end(); 4]);
+        let by_sender = words.replace("--own-book 4=41", "--sender 3");
+        for words in [words, by_sender] {
+            let run = host(&words);
+            assert_eq!(run.status, status, "{words}: length {length}");
+            if status == 0 {
+                let message = format!("= {}", "07".repeat(length));
+                assert_eq!(run.results(), [message.trim_end(); 4]);
+            }
         }
     }
 }
@@ -256,6 +389,9 @@ fn wrong_words_are_refused() {
         "--parties 3 --faults 1 --book 41 --lie 4=noise",
         "--parties 3 --faults 1 --book 41 --lie 3=truth",
         "--parties 3 --faults 1 --book 41 --lie 3=noise --screen 3",
+        "--parties 3 --faults 1 --book 41 --sender 4",
+        "--parties 3 --faults 1 --book 41 --sender 2 --own-book 2=42",
+        "--parties 3 --faults 1 --book 41 --break sender",
     ] {
         let run = host(words);
         assert_eq!((run.status, run.lines.len()), (2, 0), "{words}");
