@@ -14,13 +14,13 @@ use foreign::limits::*;
 #[path = "../../rust/src/limits.rs"]
 mod host;
 
-/// The proved crates whose constants are compared. In the second stand those that follow from the
+/// The proved crates whose constants are compared. In the others stand those that follow from the
 /// limits alone.
-const PROVED: [&str; 2] = ["limits", "commitment"];
+const PROVED: [&str; 3] = ["limits", "packet", "commitment"];
 
 /// A constant of the proved crates, that of the header without the name that it begins with, and the
 /// numbers in Rust.
-const LIMITS: [(&str, &str, &[usize]); 9] = [
+const LIMITS: [(&str, &str, &[usize]); 10] = [
     ("MAX_PARTIES", "PARTIES", &[MOST_PARTIES, host::MAX_PARTIES]),
     (
         "MAX_MESSAGE",
@@ -33,6 +33,11 @@ const LIMITS: [(&str, &str, &[usize]); 9] = [
     ("MAX_ENTRY", "ENTRY", &[LONGEST_ENTRY, host::MAX_ENTRY]),
     ("MAX_SHARES", "SHARES", &[LONGEST_SHARES, host::MAX_SHARES]),
     ("MAX_PACKET", "PACKET", &[LONGEST_PACKET, host::MAX_PACKET]),
+    (
+        "MAX_MESSAGE_PACKET",
+        "MESSAGE_PACKET",
+        &[LONGEST_MESSAGE_PACKET, host::MAX_MESSAGE_PACKET],
+    ),
     ("MAX_OUTBOX", "OUTBOX", &[LONGEST_OUTBOX, host::MAX_OUTBOX]),
 ];
 
