@@ -4,7 +4,7 @@
 use std::collections::BTreeSet;
 
 use cipangohu::calls::{self, Answer};
-use cipangohu::{Hash, Party, HASH, MAX_OUTBOX, STATE};
+use cipangohu::{Hash, Party, HASH, MAX_MESSAGE_PACKET, MAX_OUTBOX, STATE};
 use foreign::examples::{bytes, examples, number, reference, written_over, Example, Field};
 
 /// Where the stage stands in a state.
@@ -14,12 +14,14 @@ const AT_STAGE: usize = 4;
 const OF_CALLS: [&str; 4] = ["box", "state", "opening", "calls"];
 
 /// The calls that stand there.
-const CALLS: [&str; 11] = [
+const CALLS: [&str; 13] = [
     "agree_bit",
     "agree_root",
     "hash",
     "open",
+    "open_by_sender",
     "own",
+    "read_message",
     "rebuild_with_root",
     "result_length",
     "shares",
@@ -105,26 +107,50 @@ fn broken_states_are_judged_as_it_is_told() {
     }
 }
 
-/// The room for state and root at an opening.
-fn rooms(call: &Field) -> [usize; 2] {
-    let Some(told) = call.argument("room") else {
-        return [STATE, HASH];
-    };
-    let (state, root) = told.split_once(" and ").expect("two rooms");
-    [state, root].map(|room| number(room).expect("a length"))
+/// What calls write.
+#[derive(Default)]
+struct Lent {
+    state: Vec<u8>,
+    root: Vec<u8>,
+    out: Vec<u8>,
 }
 
-/// The library's answer to a call. An opening lays out the state and has the root written.
-fn answer(call: &Field, state: &mut Vec<u8>, out: &mut Vec<u8>) -> Answer {
+impl Lent {
+    /// The buffers of an opening: for the state, for the root, and by a sender for the packet.
+    fn for_opening(call: &Field) -> Lent {
+        let told = call.argument("room").into_iter();
+        let rooms = told.flat_map(|rooms| rooms.split(" and "));
+        let mut rooms = rooms.map(|room| number(room).expect("a length"));
+        let [state, root, out] =
+            [STATE, HASH, MAX_MESSAGE_PACKET].map(|ample| vec![0; rooms.next().unwrap_or(ample)]);
+        Lent { state, root, out }
+    }
+}
+
+/// The library's answer to an opening.
+fn opening(call: &Field, lent: &mut Lent) -> Answer {
+    let number = |name| call.number(name).expect("a number");
+    *lent = Lent::for_opening(call);
+    let Lent { state, root, out } = lent;
+    let group = (number("n"), number("t"), number("own"));
+    let bytes = call.bytes("book").or_else(|| call.bytes("packet"));
+    let bytes = bytes.expect("a book or a packet");
+    match call.name.as_str() {
+        "open" => calls::open(group, &bytes, state, root),
+        _ => calls::open_by_sender(group, number("sender"), &bytes, state, root, out),
+    }
+}
+
+/// The library's answer to a call.
+fn answer(call: &Field, lent: &mut Lent) -> Answer {
     let number = |name| call.number(name).expect("a number");
     let bytes = |name| call.bytes(name).expect("an argument in bytes");
-    *out = vec![0; call.number("room").unwrap_or(MAX_OUTBOX)];
+    if call.name.starts_with("open") {
+        return opening(call, lent);
+    }
+    lent.out = vec![0; call.number("room").unwrap_or(MAX_OUTBOX)];
+    let Lent { state, out, .. } = lent;
     match call.name.as_str() {
-        "open" => {
-            [*state, *out] = rooms(call).map(|room| vec![0; room]);
-            let group = (number("n"), number("t"), number("own"));
-            calls::open(group, &bytes("book"), state, out)
-        }
         "agree_root" => calls::agree_root(state, &bytes("root")),
         "agree_bit" => calls::agree_bit(state, number("bit"), out),
         "take_shares" => calls::take_shares(state, &bytes("inbox"), out),
@@ -137,16 +163,19 @@ fn answer(call: &Field, state: &mut Vec<u8>, out: &mut Vec<u8>) -> Answer {
             let group = (number("n"), number("t"));
             calls::rebuild_with_root(group, &bytes("root"), &bytes("entries"), out)
         }
+        "read_message" => calls::read_message(&bytes("packet")),
         "hash" => calls::hash(&bytes("string"), out),
         other => panic!("{other}: no call"),
     }
 }
 
-/// Whether the line under a call tells this answer.
-fn tells(told: &Field, answer: Answer, state: &[u8], out: &[u8]) -> bool {
+/// Whether a line under a call tells this answer.
+fn tells(told: &Field, answer: Answer, lent: &Lent) -> bool {
+    let Lent { state, root, out } = lent;
     let value = answer.value as usize;
     match (answer.cause, told.name.as_str()) {
-        (0, "root" | "outbox" | "relay" | "out") => {
+        (0, "root") => bytes(&told.value).as_deref() == root.get(..HASH),
+        (0, "outbox" | "relay" | "packet" | "out") => {
             bytes(&told.value).as_deref() == out.get(..value)
         }
         (0, "bit" | "value") => told.value == value.to_string(),
@@ -163,24 +192,29 @@ fn tells(told: &Field, answer: Answer, state: &[u8], out: &[u8]) -> bool {
     }
 }
 
-/// Every call is met, and answered as the line under it tells.
+/// Every call is met, and answered as the lines under it tell.
 #[test]
 fn calls_are_answered_as_it_is_told() {
     let mut met = BTreeSet::new();
     for example in OF_CALLS.iter().flat_map(|kind| of_kind(kind)) {
-        let (mut state, mut out) = (Vec::new(), Vec::new());
-        for pair in example.fields.windows(2) {
-            let [call, told] = pair else { unreachable!() };
-            if call.name == "written over" {
-                state = written_over(&state, &call.value).expect("bytes to write");
+        let (mut lent, mut answered) = (Lent::default(), None);
+        for field in &example.fields {
+            match field.name.as_str() {
+                "state" => (),
+                "written over" => {
+                    let state = written_over(&lent.state, &field.value);
+                    lent.state = state.expect("bytes to write");
+                }
+                name if CALLS.contains(&name) => {
+                    answered = Some(answer(field, &mut lent));
+                    met.insert(field.name.clone());
+                }
+                _ => {
+                    let answer = answered.expect("a call above");
+                    let right = tells(field, answer, &lent);
+                    assert!(right, "line {}: {field:?}: {answer:?}", example.line);
+                }
             }
-            if !CALLS.contains(&call.name.as_str()) {
-                continue;
-            }
-            let answer = answer(call, &mut state, &mut out);
-            let right = tells(told, answer, &state, &out);
-            assert!(right, "line {}: {call:?}: {answer:?}", example.line);
-            met.insert(call.name.clone());
         }
     }
     assert!(met.iter().eq(CALLS.iter()));

@@ -5,6 +5,7 @@ use foreign::commitment::rebuild_with_root;
 use foreign::examples::{bytes, Example};
 use foreign::field::{inv, mul, pow};
 use foreign::limits::{LONGEST_MESSAGE, LONGEST_OUTBOX, LONGEST_STRING, MOST_HASHES};
+use foreign::message_packet::{self, Reading};
 use foreign::sha256::{hash, Hash};
 use foreign::tree::{judge, leaf_string, leaves, path_of, root_of};
 
@@ -117,7 +118,19 @@ fn hashed(string: &[u8], out: &mut [u8]) -> Answer {
     }
 }
 
-/// Calls that write, and have nothing to do with one another.
+/// What reading a named sender's packet answers: 0 for silence, else 2¹⁶ and the book's length.
+fn read_book(packet: &[u8], told: &mut Told) {
+    match message_packet::read(packet) {
+        Reading::Silence => told.add("value", 0),
+        Reading::Message(book) => told.add("value", (1 << 16) + book.len()),
+        Reading::Refused(cause) => {
+            let cause = told.cause(cause);
+            told.add("cause", cause);
+        }
+    }
+}
+
+/// Calls without a state, which have nothing to do with one another.
 pub fn calls(example: &Example) -> Told {
     let mut told = Told::default();
     for call in &example.fields {
@@ -131,7 +144,12 @@ pub fn calls(example: &Example) -> Told {
                 rebuild_with_root(number("n"), number("t"), &root, &entries, &mut out)
             }
             "hash" => hashed(&bytes("string"), &mut out),
-            "out" | "cause" => continue,
+            "read_message" => {
+                told.add(&call.name, &call.value);
+                read_book(&bytes("packet"), &mut told);
+                continue;
+            }
+            "out" | "value" | "cause" => continue,
             other => panic!("line {}: {other}", example.line),
         };
         told.add(&call.name, &call.value);

@@ -15,7 +15,7 @@ use foreign::sha256::hex;
 /// How the examples of a kind are run: the lines that they should have.
 type Run = fn(&Example) -> Told;
 
-const KINDS: [(&str, Run); 15] = [
+const KINDS: [(&str, Run); 16] = [
     ("field", coding::field),
     ("shares", coding::shares),
     ("rebuild", coding::rebuilt),
@@ -24,6 +24,7 @@ const KINDS: [(&str, Run); 15] = [
     ("check", coding::checked),
     ("packet", packets::packet),
     ("packets", packets::packets),
+    ("book packets", packets::books),
     ("outbox", packets::outbox),
     ("opening", sitting::openings),
     ("box", sitting::sitting),
@@ -64,9 +65,10 @@ pub fn digits(bytes: &[u8]) -> String {
     }
 }
 
-/// A length as it stands in an example: those of a state and of a root by their names.
+/// A length as it stands in an example: those of a state and of a root, and the greatest of a book
+/// and of its packet, by their names.
 pub fn length(bytes: usize) -> String {
-    let named = ["STATE", "ROOT"]
+    let named = ["STATE", "ROOT", "MESSAGE", "MESSAGE_PACKET"]
         .into_iter()
         .find(|it| number(it) == Some(bytes));
     named.map_or(bytes.to_string(), str::to_string)
@@ -132,7 +134,7 @@ fn every_cause_has_an_example() {
 }
 
 /// Parts of the text, and wrong ones in their place: one for each kind and more.
-const SPOILT: [(&str, &str); 38] = [
+const SPOILT: [(&str, &str); 50] = [
     ("product 57 83: c1", "product 57 83: c2"),
     ("share 3: c3 c4", "share 3: c3 c5"),
     ("share 3: c3 c4\n", ""),
@@ -182,6 +184,24 @@ const SPOILT: [(&str, &str); 38] = [
     ),
     ("SHARE zeros: share 1", "SHARE zeros: cause 10"),
     ("SHARE + 1 zeros: cause 10", "SHARE + 1 zeros: share 1"),
+    ("08 00 00: a book of 0 bytes", "08 00 00: silence"),
+    ("08 00: cause 10", "08 00: silence"),
+    ("41 42 00: cause 10", "41 42 00: a book of 2 bytes"),
+    ("MESSAGE zeros: a book", "MESSAGE + 1 zeros: a book"),
+    ("packet: 08 00 02 41 42\n", "packet: 08 00 02 41 43\n"),
+    (
+        "packet 08 00 02 41\nroot: c4",
+        "packet 08 00 02 41 42\nroot: c4",
+    ),
+    (
+        "sender 0, packet none\ncause: 3",
+        "sender 0, packet none\ncause: 1",
+    ),
+    ("room STATE and ROOT and 4", "room STATE and ROOT and 5"),
+    ("needs MESSAGE_PACKET", "needs MESSAGE"),
+    ("value: 65536", "value: 0"),
+    ("sender: 02", "sender: 03"),
+    ("sent 506", "sent 496"),
     ("value: 5", "value: 4"),
     ("needs STATE", "needs ROOT"),
     ("STATE - 1 bytes: cause 5", "STATE - 1 bytes: taken"),

@@ -1,12 +1,12 @@
 //! Packets, and the outbox.
 
-use foreign::examples::{bytes, Example};
-use foreign::inbox;
+use foreign::examples::{bytes, Example, Field};
 use foreign::limits::LONGEST_OUTBOX;
 use foreign::packet::{read, Reading};
 use foreign::party::State;
+use foreign::{inbox, message_packet};
 
-use crate::Told;
+use crate::{length, Told};
 
 /// One packet, field by field.
 pub fn packet(example: &Example) -> Told {
@@ -36,21 +36,44 @@ pub fn packet(example: &Example) -> Told {
 }
 
 /// A list of packets, and what each is; a comma and a reason may follow.
-pub fn packets(example: &Example) -> Told {
-    let mut told = Told::default();
-    let n = example.number("n");
-    told.add("n", n);
-    for field in &example.fields[1..] {
+fn list(told: &mut Told, fields: &[Field], what: impl Fn(&mut Told, &[u8]) -> String) {
+    for field in fields {
         let packet = bytes(&field.name).expect("a packet's bytes");
-        let what = match read(n, &packet) {
-            Reading::Silence => "silence".to_string(),
-            Reading::Share { number, .. } => format!("share {number}"),
-            Reading::Refused(cause) => format!("cause {}", told.cause(cause)),
-        };
+        let what = what(told, &packet);
         let reason = field.value.split_once(", ").map(|it| it.1);
         let reason = reason.map_or(String::new(), |it| format!(", {it}"));
         told.add(&field.name, what + &reason);
     }
+}
+
+/// Packets with shares.
+pub fn packets(example: &Example) -> Told {
+    let mut told = Told::default();
+    let n = example.number("n");
+    told.add("n", n);
+    list(&mut told, &example.fields[1..], |told, packet| {
+        match read(n, packet) {
+            Reading::Silence => "silence".to_string(),
+            Reading::Share { number, .. } => format!("share {number}"),
+            Reading::Refused(cause) => format!("cause {}", told.cause(cause)),
+        }
+    });
+    told
+}
+
+/// Packets of a named sender.
+pub fn books(example: &Example) -> Told {
+    use message_packet::Reading;
+    let mut told = Told::default();
+    list(
+        &mut told,
+        &example.fields,
+        |told, packet| match message_packet::read(packet) {
+            Reading::Silence => "silence".to_string(),
+            Reading::Message(book) => format!("a book of {} bytes", length(book.len())),
+            Reading::Refused(cause) => format!("cause {}", told.cause(cause)),
+        },
+    );
     told
 }
 

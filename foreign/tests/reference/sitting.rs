@@ -1,8 +1,8 @@
 //! Openings, and boxes that are taken through their steps, with the bytes of their states.
 
 use foreign::examples::{number, written_over, Example, Field};
-use foreign::limits::LONGEST_OUTBOX;
-use foreign::party::{Given, Outcome, Refusal, Stage, State};
+use foreign::limits::{LONGEST_MESSAGE_PACKET, LONGEST_OUTBOX};
+use foreign::party::{Begun, Given, Outcome, Refusal, Stage, State};
 
 use crate::{digits, length, Told};
 
@@ -17,22 +17,72 @@ fn limit(name: &str) -> usize {
     number(name).unwrap_or_else(|| panic!("no limit {name}"))
 }
 
+/// What an opening gives, unless one of its buffers, in this order, has less room than is needed; the
+/// call tells their rooms where they are not ample.
+fn in_rooms<T>(call: &Field, given: Given<T>, needed: &[usize]) -> Given<T> {
+    let (Ok(_), Some(told)) = (&given.1, call.argument("room")) else {
+        return given;
+    };
+    let rooms = told
+        .split(" and ")
+        .map(|room| number(room).expect("a length"));
+    let rooms: Vec<usize> = rooms.collect();
+    assert_eq!(rooms.len(), needed.len(), "{told}");
+    match rooms
+        .iter()
+        .zip(needed)
+        .find(|(room, needed)| room < needed)
+    {
+        Some((_, &needed)) => (State::blank(), Err(Refusal { cause: 9, needed })),
+        None => given,
+    }
+}
+
 /// An opening by the arguments of a call. Its room is that for the state and that for the root.
 fn opened(call: &Field) -> Given<[u8; 32]> {
     let argument = |name| call.number(name).expect("a number") as u64;
     let book = call.bytes("book").expect("a book");
-    let (state, root) = State::open(argument("n"), argument("t"), argument("own"), &book);
-    let rooms = call.argument("room").map(|both| {
-        let (state, root) = both.split_once(" and ").expect("two rooms");
-        [state, root].map(|room| number(room).expect("a length"))
-    });
-    let needed = [limit("STATE"), root.map_or(0, |root| root.len())];
-    let rooms = rooms.unwrap_or(needed).into_iter().zip(needed);
-    let short = rooms.filter(|it| it.0 < it.1).map(|it| it.1).next();
-    match (root, short) {
-        (Ok(_), Some(needed)) => (State::blank(), Err(Refusal { cause: 9, needed })),
-        (root, _) => (state, root),
+    let given = State::open(argument("n"), argument("t"), argument("own"), &book);
+    in_rooms(call, given, &[limit("STATE"), limit("ROOT")])
+}
+
+/// An opening by a named sender, with the packet that it writes. It is handed a book, or a packet that
+/// came; its third room is that for the packet.
+fn opened_by_sender(call: &Field) -> (Given<[u8; 32]>, Vec<u8>) {
+    let argument = |name| call.number(name).expect("a number") as u64;
+    let [n, t, own, sender] = ["n", "t", "own", "sender"].map(argument);
+    let is_sender = own == sender;
+    let bytes = call.bytes(if is_sender { "book" } else { "packet" });
+    let mut out = vec![0; LONGEST_MESSAGE_PACKET];
+    let bytes = bytes.expect("a sender's book, or another's packet");
+    let given = State::open_by_sender((n, t), own, sender, &bytes, &mut out);
+    let written = given.1.map_or(0, |begun| begun.written);
+    let needed = [limit("STATE"), limit("ROOT"), written];
+    let (state, begun) = in_rooms(call, given, &needed);
+    out.truncate(written);
+    ((state, begun.map(|Begun { root, .. }| root)), out)
+}
+
+/// The lines under an opening, and its state.
+fn told_of_opening(call: &Field, told: &mut Told) -> State {
+    let ((state, root), packet) = match call.name.as_str() {
+        "open" => (opened(call), None),
+        _ => {
+            let (given, packet) = opened_by_sender(call);
+            (given, Some(packet))
+        }
+    };
+    told.add(&call.name, &call.value);
+    match root {
+        Ok(root) => {
+            told.bytes("root", &root);
+            packet
+                .iter()
+                .for_each(|packet| told.bytes("packet", packet));
+        }
+        Err(refusal) => refused(refusal, told),
     }
+    state
 }
 
 /// The refusal as it stands in an example.
@@ -47,12 +97,9 @@ fn refused(refusal: Refusal, told: &mut Told) {
 /// Openings that have nothing to do with one another.
 pub fn openings(example: &Example) -> Told {
     let mut told = Told::default();
-    for call in example.fields.iter().filter(|field| field.name == "open") {
-        told.add("open", &call.value);
-        match opened(call).1 {
-            Ok(root) => told.bytes("root", &root),
-            Err(refusal) => refused(refusal, &mut told),
-        }
+    let calls = example.fields.iter();
+    for call in calls.filter(|field| field.name.starts_with("open")) {
+        told_of_opening(call, &mut told);
     }
     told
 }
@@ -151,9 +198,9 @@ pub fn sitting(example: &Example) -> Told {
     for field in &example.fields {
         let name = field.name.as_str();
         let (next, answer, given) = match name {
-            "open" => {
-                let (opened, root) = opened(field);
-                (opened, root.map(|root| digits(&root)), "root")
+            "open" | "open_by_sender" => {
+                box_state = told_of_opening(field, &mut told);
+                continue;
             }
             "state" => {
                 let zeros = vec![0; limit("STATE")];
@@ -168,7 +215,9 @@ pub fn sitting(example: &Example) -> Told {
                 told.add(name, &field.value);
                 continue;
             }
-            "root" | "bit" | "outbox" | "relay" | "result" | "value" | "cause" => continue,
+            "root" | "packet" | "bit" | "outbox" | "relay" | "result" | "value" | "cause" => {
+                continue
+            }
             _ => step(box_state, field),
         };
         told.add(name, &field.value);
