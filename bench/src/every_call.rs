@@ -2,7 +2,8 @@
 
 use cipangohu::calls::{self, Answer};
 use cipangohu::{
-    entries, lay_out, read_packet, HASH, MAX_HASHED, MAX_MESSAGE, MAX_OUTBOX, MAX_PATH, STATE,
+    entries, lay_out, read_packet, HASH, MAX_HASHED, MAX_MESSAGE, MAX_MESSAGE_PACKET, MAX_OUTBOX,
+    MAX_PATH, STATE,
 };
 
 use crate::party::{Party, Proved};
@@ -40,6 +41,7 @@ fn session(setting: Setting, visit: Visit) {
     visit("open", &mut || {
         Proved::open((setting.n, setting.t), 1, &message);
     });
+    by_sender(setting, &message, visit);
     happy_steps(&at, visit);
     if setting.unhappy > 0 {
         unhappy_steps(setting.n, &at, visit);
@@ -48,6 +50,24 @@ fn session(setting: Setting, visit: Visit) {
     told(&at, visit);
     code(setting, &at, visit);
     read(setting.n, &at, visit);
+}
+
+/// The openings by a sender, and its packet.
+fn by_sender(setting: Setting, message: &[u8], visit: Visit) {
+    let group = (setting.n, setting.t);
+    let mut packet = vec![0; MAX_MESSAGE_PACKET];
+    let mut length = 0;
+    visit("open_by_sender, the sender", &mut || {
+        (_, length) = Proved::open_by_sender(group, 1, message, &mut packet);
+    });
+    visit("read_message", &mut || {
+        accepted(calls::read_message(&packet[..length]));
+    });
+    if setting.n > 1 {
+        visit("open_by_sender, its packet", &mut || {
+            Proved::open_by_sender(group, 2, &packet[..length], &mut []);
+        });
+    }
 }
 
 /// The value of a call that has to be accepted.

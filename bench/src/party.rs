@@ -8,6 +8,13 @@ use foreign::party::{Given, State};
 /// the program.
 pub trait Party: Clone {
     fn open(group: (usize, usize), own: usize, message: &[u8]) -> (Self, Hash);
+    /// Party 1 is the sender; with the party comes the length of the packet that it wrote.
+    fn open_by_sender(
+        group: (usize, usize),
+        own: usize,
+        bytes: &[u8],
+        out: &mut [u8],
+    ) -> (Self, usize);
     fn agree_root(&mut self, root: &Hash) -> bool;
     fn agree_bit(&mut self, bit: u8, out: &mut [u8]) -> usize;
     fn take_shares(&mut self, inbox: &[u8], out: &mut [u8]) -> usize;
@@ -23,6 +30,9 @@ pub struct Proved([u8; STATE]);
 pub struct Foreign(State);
 
 const LAWFUL: &str = "the call is lawful";
+
+/// The sender where there is one.
+const SENDER: usize = 1;
 
 impl Proved {
     pub fn state(&self) -> &[u8] {
@@ -40,6 +50,18 @@ impl Party for Proved {
         let mut root = [0; HASH];
         lawful(calls::open((n, t, own), message, &mut party.0, &mut root));
         (party, root)
+    }
+
+    fn open_by_sender(
+        (n, t): (usize, usize),
+        own: usize,
+        bytes: &[u8],
+        out: &mut [u8],
+    ) -> (Self, usize) {
+        let (mut party, group) = (Proved([0; STATE]), (n, t, own));
+        let mut root = [0; HASH];
+        let answer = calls::open_by_sender(group, SENDER, bytes, &mut party.0, &mut root, out);
+        (party, lawful(answer))
     }
 
     fn agree_root(&mut self, root: &Hash) -> bool {
@@ -72,6 +94,17 @@ impl Party for Foreign {
     fn open((n, t): (usize, usize), own: usize, message: &[u8]) -> (Self, Hash) {
         let (state, root) = State::open(n as u64, t as u64, own as u64, message);
         (Foreign(state), root.expect(LAWFUL))
+    }
+
+    fn open_by_sender(
+        (n, t): (usize, usize),
+        own: usize,
+        bytes: &[u8],
+        out: &mut [u8],
+    ) -> (Self, usize) {
+        let (group, sender) = ((n as u64, t as u64), SENDER as u64);
+        let (state, begun) = State::open_by_sender(group, own as u64, sender, bytes, out);
+        (Foreign(state), begun.expect(LAWFUL).written)
     }
 
     fn agree_root(&mut self, root: &Hash) -> bool {

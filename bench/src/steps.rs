@@ -3,7 +3,7 @@
 
 use std::hint::black_box;
 
-use cipangohu::MAX_OUTBOX;
+use cipangohu::{MAX_MESSAGE_PACKET, MAX_OUTBOX};
 
 use crate::party::Party;
 use crate::session::{Moments, Setting};
@@ -11,6 +11,8 @@ use crate::session::{Moments, Setting};
 #[derive(Clone, Copy, PartialEq, Eq)]
 pub enum Step {
     Open,
+    Send,
+    Receive,
     Root,
     Bit,
     OwnShare,
@@ -21,8 +23,10 @@ pub enum Step {
 }
 
 impl Step {
-    pub const ALL: [Step; 8] = [
+    pub const ALL: [Step; 10] = [
         Step::Open,
+        Step::Send,
+        Step::Receive,
         Step::Root,
         Step::Bit,
         Step::OwnShare,
@@ -35,6 +39,8 @@ impl Step {
     pub fn name(self) -> &'static str {
         match self {
             Step::Open => "opening",
+            Step::Send => "opening, as the sender",
+            Step::Receive => "opening, from its packet",
             Step::Root => "step 2",
             Step::Bit => "step 3",
             Step::OwnShare => "step 4, own share",
@@ -48,18 +54,34 @@ impl Step {
 
 type Work<'a> = Box<dyn FnMut() + 'a>;
 
+/// An opening: the ordinary one, the sender's, or another party's from its packet.
+fn opening<'a, P: Party + 'a>(step: Step, setting: Setting) -> Work<'a> {
+    let group = (setting.n, setting.t);
+    let message = setting.message(1);
+    let mut out = vec![0; MAX_MESSAGE_PACKET];
+    match step {
+        Step::Send => Box::new(move || {
+            black_box(P::open_by_sender(group, 1, black_box(&message), &mut out));
+        }),
+        Step::Receive => {
+            let (_, length) = P::open_by_sender(group, 1, &message, &mut out);
+            out.truncate(length);
+            Box::new(move || {
+                black_box(P::open_by_sender(group, 2, black_box(&out), &mut []));
+            })
+        }
+        _ => Box::new(move || {
+            black_box(P::open(group, 1, black_box(&message)));
+        }),
+    }
+}
+
 /// The step as the first party does it, or as the last does, which is unhappy.
 pub fn work<'a, P: Party>(step: Step, setting: Setting, at: &'a Moments<P>) -> Work<'a> {
     let mut out = vec![0; MAX_OUTBOX];
     let last = setting.n - 1;
     match step {
-        Step::Open => {
-            let message = setting.message(1);
-            let group = (setting.n, setting.t);
-            Box::new(move || {
-                black_box(P::open(group, 1, black_box(&message)));
-            })
-        }
+        Step::Open | Step::Send | Step::Receive => opening::<P>(step, setting),
         Step::Root => again(&at.opened[0], |party| {
             usize::from(party.agree_root(&at.root))
         }),
