@@ -113,12 +113,9 @@ fn causes() -> String {
     lines.collect()
 }
 
-#[test]
-fn programs_are_built_and_run() {
-    if !is_there("pkg-config") {
-        return;
-    }
-    let programs = [
+/// The programs in C, and what they print.
+fn programs() -> [(&'static str, String); 4] {
+    [
         (
             "first",
             String::from("for party 1: 0 bytes\nto relay: 0 bytes\nsettled on AB\n"),
@@ -139,8 +136,15 @@ fn programs_are_built_and_run() {
             ),
         ),
         ("checks", causes()),
-    ];
-    let (flags, mut built) = (flags(), 0);
+    ]
+}
+
+#[test]
+fn programs_are_built_and_run() {
+    if !is_there("pkg-config") {
+        return;
+    }
+    let (programs, flags, mut built) = (programs(), flags(), 0);
     for (compiler, standard) in compilers() {
         for (name, expected) in &programs {
             for link in [&["-static"][..], &[]] {
