@@ -8,6 +8,7 @@
 
 pub mod coder;
 pub mod commitment;
+pub mod message;
 pub mod packet;
 pub mod party;
 pub mod plans;
@@ -35,7 +36,10 @@ pub enum Kind {
     Judgements,
     Inboxes,
     Writes,
+    MessageReads,
+    MessageWrites,
     Openings,
+    SenderOpenings,
     AgreedRoots,
     AgreedBits,
     FirstInboxes,
@@ -143,6 +147,7 @@ pub fn all() -> impl Iterator<Item = Case> {
         .chain(commitment::cases())
         .chain(tree::cases())
         .chain(packet::cases())
+        .chain(message::cases())
         .chain(party::cases())
         .chain(plans::cases(None, 1))
 }
@@ -157,7 +162,8 @@ fn around(number: u8) -> Vec<Case> {
         6 => commitment::cases(),
         7..=10 => tree::cases(),
         11..=14 => packet::cases(),
-        15..=22 => party::cases(),
+        15..=16 => message::cases(),
+        17..=25 => party::cases(),
         _ => plans::cases(Some(3), 1).collect(),
     }
 }
@@ -204,7 +210,8 @@ mod tests {
 
     #[test]
     fn one_case_is_wrong() {
-        for numbers in [1..=5, 6..=6, 7..=10, 11..=14, 15..=22, 23..=23] {
+        let modules = [1..=5, 6..=6, 7..=10, 11..=14, 15..=16, 17..=25, 26..=26];
+        for numbers in modules {
             let cases = around(*numbers.start());
             for number in numbers {
                 let right = |case: &Case| cases.contains(case);

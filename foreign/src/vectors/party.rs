@@ -6,6 +6,9 @@
 //!
 //! - Openings: n, t and own (8 bytes each), the message. The verdict, and the root (32, zero if
 //!   refused).
+//! - Openings by a sender: n, t, own and the sender's number (8 each), the length of the buffer lent
+//!   (2), the sender's own message or the packet that came. The verdict, the root as before, and how
+//!   many bytes were written, or are needed with cause 9 (8, zero with other causes).
 //! - Agreed roots, step 2: the root. The verdict.
 //! - Agreed bits, step 3: the bit (2), the length of the buffer lent (2). The verdict.
 //! - First and second inboxes, steps 4 and 5: how many bytes of the inbox are handed in (2), the
@@ -22,6 +25,8 @@
 //!
 //! Messages handed in have at most two bytes more than may be, inboxes and the buffer twice as many
 //! as an outbox.
+
+mod senders;
 
 use std::collections::BTreeMap;
 
@@ -1255,10 +1260,21 @@ fn worked(file: &mut File) {
 }
 
 /// The answers that the calls of each kind are to have had, each several times.
-const WANTED: [(Kind, &[Answer]); 5] = [
+const WANTED: [(Kind, &[Answer]); 6] = [
     (
         Kind::Openings,
         &[Done(0), Refused(1), Refused(2), Refused(3), Refused(4)],
+    ),
+    (
+        Kind::SenderOpenings,
+        &[
+            Done(0),
+            Refused(1),
+            Refused(2),
+            Refused(3),
+            Refused(4),
+            Short(0),
+        ],
     ),
     (
         Kind::AgreedRoots,
@@ -1301,6 +1317,7 @@ pub fn cases() -> Vec<Case> {
     worked(&mut file);
     openings(&mut file);
     lengths(&mut file);
+    senders::openings(&mut file);
     alone(&mut file);
     near_roots(&mut file);
     happy(&mut file);
@@ -1319,7 +1336,7 @@ pub fn cases() -> Vec<Case> {
 impl File {
     /// Stops the run unless there are calls enough of each kind and answer.
     fn well_mixed(&self) {
-        let opening = |kind: &Kind| *kind == Kind::Openings;
+        let opening = |kind: &Kind| [Kind::Openings, Kind::SenderOpenings].contains(kind);
         let steps = self.answers.iter().filter(|((kind, _), _)| !opening(kind));
         let calls: usize = steps.map(|(_, times)| times).sum();
         assert!(calls >= LEAST_CALLS, "{calls} calls");
