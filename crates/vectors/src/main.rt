@@ -9,6 +9,7 @@ ghost use lib.ListN.{length};
 
 mod answer;
 mod coder;
+mod messages;
 mod packets;
 mod plans;
 mod steps;
@@ -32,7 +33,7 @@ const MAX_OUTPUT: usize = plans::FRONT + MAX_TEXT;
 const UNTOUCHED: u8 = 0xA5;
 
 // The number of kinds of cases. Of the first ROWS each byte that comes of a case counts as a case of its own.
-const KINDS: usize = 23;
+const KINDS: usize = 26;
 
 const ROWS: usize = 2;
 
@@ -43,7 +44,9 @@ const TREE: usize = 10;
 
 const PACKETS: usize = 14;
 
-const STEPS: usize = 22;
+const MESSAGES: usize = 16;
+
+const STEPS: usize = 25;
 
 // What came of a stream: a tally for each kind, and whether the stream was whole.
 struct Outcome {
@@ -141,8 +144,8 @@ fn judge(
 
 // What comes of a case.
 fn outcome_of(kind: usize, world: World, input: &[u8], out: &mut [u8]) -> Moved {
-    if PACKETS < kind && kind <= STEPS {
-        return steps::run(kind - PACKETS, world, input, out);
+    if MESSAGES < kind && kind <= STEPS {
+        return steps::run(kind - MESSAGES, world, input, out);
     }
     let len = alone(kind, input, out);
     Moved { world, len }
@@ -158,6 +161,9 @@ fn alone(kind: usize, input: &[u8], out: &mut [u8]) -> usize {
     }
     if kind <= PACKETS {
         return packets::run(kind - TREE, input, out);
+    }
+    if kind <= MESSAGES {
+        return messages::run(kind - PACKETS, input, out);
     }
     plans::run(input, out)
 }
@@ -194,7 +200,8 @@ fn print(outcome: Outcome) {
     let mut failed = coder::print(tallies, 0);
     failed = tree::print(tallies, failed);
     failed = packets::print(tallies, failed);
+    failed = messages::print(tallies, failed);
     failed = steps::print(tallies, failed);
-    failed = stream::print_tally(b"plans", tallies[22], failed);
+    failed = stream::print_tally(b"plans", tallies[25], failed);
     stream::print_end(failed, outcome.whole);
 }

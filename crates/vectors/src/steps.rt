@@ -2,16 +2,18 @@
 //
 // The party and an inbox are carried from case to case, each call taking the state that the last one gave back.
 // 1, openings: n, t and own (8 bytes each), the message. The verdict, and the root (32, zero if refused).
-// 2, agreed roots, step 2: the root. The verdict.
-// 3, agreed bits, step 3: the bit (2), the length of the buffer lent (2). The verdict.
-// 4, first inboxes, step 4, and 5, second inboxes, step 5: how many bytes of the inbox are handed in (2), the length of the buffer lent
+// 2, openings by a sender: n, t, own and the sender's number (8 each), the length of the buffer lent (2), the sender's own message or the
+// packet that came. The verdict, the root as before, and how many bytes were written, or are needed with cause 9 (8, zero with other causes).
+// 3, agreed roots, step 2: the root. The verdict.
+// 4, agreed bits, step 3: the bit (2), the length of the buffer lent (2). The verdict.
+// 5, first inboxes, step 4, and 6, second inboxes, step 5: how many bytes of the inbox are handed in (2), the length of the buffer lent
 // (2). The verdict.
-// 6, numbers changed: where (1: 0 n, 1 t, 2 own, 3 len, 4 held), the number (8). Nothing.
-// 7, stages changed: which (1: 0 root, 1 bit, 2 first, 3 second, 4 ended with nothing, 5 with a message), that message's length (8).
+// 7, numbers changed: where (1: 0 n, 1 t, 2 own, 3 len, 4 held), the number (8). Nothing.
+// 8, stages changed: which (1: 0 root, 1 bit, 2 first, 3 second, 4 ended with nothing, 5 with a message), that message's length (8).
 // Nothing.
-// 8, bytes changed: where (1: 0 message, 1 root, 2 share, 3 the inbox), from which place (2), the bytes. Nothing.
+// 9, bytes changed: where (1: 0 message, 1 root, 2 share, 3 the inbox), from which place (2), the bytes. Nothing.
 // The verdict: the answer, and SHA-256 (32) of the state given back with SHA-256 of the buffer behind it, which is empty where none is
-// lent. The state for it: n, t, own (8 each), the stage as in 7 (1) with its message's length or 0 (8), len, held (8 each), the root,
+// lent. The state for it: n, t, own (8 each), the stage as in 8 (1) with its message's length or 0 (8), len, held (8 each), the root,
 // the message's MAX_MESSAGE bytes and the share's MAX_SHARE.
 use crate::KINDS;
 use crate::answer;
@@ -24,6 +26,7 @@ use commitment::MAX_OUTBOX;
 use limits::MAX_MESSAGE;
 use limits::MAX_SHARE;
 use party::Opened;
+use party::OpenedBySender;
 use party::Party;
 use party::Reply;
 use party::Seat;
@@ -36,8 +39,13 @@ const MAX_INBOX: usize = 2 * MAX_OUTBOX;
 // The greatest length of a buffer lent: more than any outbox needs.
 const MAX_ROOM: usize = 2 * MAX_OUTBOX;
 
-// The length of a verdict.
+// The length of a verdict, and of what is told of an opening by a sender.
 const VERDICT: usize = ANSWER + 32;
+
+const BEGUN: usize = VERDICT + 40;
+
+// The bytes of an opening by a sender in front of what the party is handed.
+const AT_BYTES: usize = 34;
 
 // The length of the numbers at the start of what a digest is taken of, the places of what follows the root, and the whole length.
 const NUMBERS: usize = 49;
@@ -86,7 +94,7 @@ pub(crate) fn blank() -> World {
 
 pub(crate) fn run(kind: usize, world: World, input: &[u8], out: &mut [u8]) -> Moved {
     let mut inbox = world.inbox;
-    if kind == 8 && number_at(input, 0, 1) == 3 {
+    if kind == 9 && number_at(input, 0, 1) == 3 {
         let len = put_bytes(&mut inbox, input);
         let state = world.state;
         return Moved {
@@ -107,15 +115,18 @@ fn call(kind: usize, state: Party, inbox: &[u8], input: &[u8], out: &mut [u8]) -
         return opening(state, input, out);
     }
     if kind == 2 {
+        return opening_by_sender(state, input, out);
+    }
+    if kind == 3 {
         return agreed_root(state, input, out);
     }
-    if kind <= 5 {
+    if kind <= 6 {
         return lent(kind, state, inbox, input, out);
     }
-    if kind == 6 {
+    if kind == 7 {
         return new_number(state, number_at(input, 0, 1), number_at(input, 1, 8));
     }
-    if kind == 7 {
+    if kind == 8 {
         return new_stage(state, number_at(input, 0, 1), number_at(input, 1, 8));
     }
     new_bytes(state, input)
@@ -147,6 +158,49 @@ fn opening(before: Party, input: &[u8], out: &mut [u8]) -> Called {
 fn opened(cause: u8) -> Answer {
     if cause == 0 {
         return answer::done(0);
+    }
+    answer::refused(cause)
+}
+
+// An opening by a sender. The buffer lent lies behind what is told.
+fn opening_by_sender(before: Party, input: &[u8], out: &mut [u8]) -> Called {
+    if input.len() < AT_BYTES {
+        return malformed(before);
+    }
+    let room = number_at(input, 32, 2);
+    if MAX_ROOM < room {
+        return malformed(before);
+    }
+    let end = BEGUN + room;
+    if out.len() < end {
+        return malformed(before);
+    }
+    let n = number_at(input, 0, 8);
+    let t = number_at(input, 8, 8);
+    let own = number_at(input, 16, 8);
+    let sender = number_at(input, 24, 8);
+    let OpenedBySender { opened, len } = Party::open_by_sender(
+        n,
+        t,
+        own,
+        sender,
+        &input[AT_BYTES..],
+        &mut out[BEGUN..end],
+    );
+    let Opened { state, cause, root } = opened;
+    let bytes = verdict(state, begun(cause, len), &out[BEGUN..end]);
+    buffer::put(out, 0, &bytes);
+    buffer::put(out, VERDICT, &root);
+    buffer::put(out, VERDICT + 32, &spelled(len));
+    Called { state, len: BEGUN }
+}
+
+fn begun(cause: u8, len: usize) -> Answer {
+    if cause == 0 {
+        return answer::done(len);
+    }
+    if cause == 9 {
+        return answer::short(len);
     }
     answer::refused(cause)
 }
@@ -202,10 +256,10 @@ fn lent(kind: usize, before: Party, inbox: &[u8], input: &[u8], out: &mut [u8]) 
 
 // Step 3 with a bit, or step 4 or 5 with an inbox.
 fn step(kind: usize, before: Party, bit: usize, inbox: &[u8], out: &mut [u8]) -> Reply {
-    if kind == 3 {
+    if kind == 4 {
         return before.agree_bit(bit, out);
     }
-    if kind == 4 {
+    if kind == 5 {
         return before.take_shares(inbox, out);
     }
     before.take_relays(inbox, out)
@@ -372,12 +426,13 @@ fn put_bytes(bytes: &mut [u8], input: &[u8]) -> usize {
 // A line for each kind that had cases.
 pub(crate) fn print(tallies: [Tally; KINDS], before: u64) -> u64 {
     let mut failed = before;
-    failed = stream::print_tally(b"openings", tallies[14], failed);
-    failed = stream::print_tally(b"agreed roots", tallies[15], failed);
-    failed = stream::print_tally(b"agreed bits", tallies[16], failed);
-    failed = stream::print_tally(b"first inboxes", tallies[17], failed);
-    failed = stream::print_tally(b"second inboxes", tallies[18], failed);
-    failed = stream::print_tally(b"numbers changed", tallies[19], failed);
-    failed = stream::print_tally(b"stages changed", tallies[20], failed);
-    stream::print_tally(b"bytes changed", tallies[21], failed)
+    failed = stream::print_tally(b"openings", tallies[16], failed);
+    failed = stream::print_tally(b"openings by a sender", tallies[17], failed);
+    failed = stream::print_tally(b"agreed roots", tallies[18], failed);
+    failed = stream::print_tally(b"agreed bits", tallies[19], failed);
+    failed = stream::print_tally(b"first inboxes", tallies[20], failed);
+    failed = stream::print_tally(b"second inboxes", tallies[21], failed);
+    failed = stream::print_tally(b"numbers changed", tallies[22], failed);
+    failed = stream::print_tally(b"stages changed", tallies[23], failed);
+    stream::print_tally(b"bytes changed", tallies[24], failed)
 }
