@@ -239,14 +239,16 @@ fn pairs(plan: fn() -> Draft) -> impl Iterator<Item = Made> {
 #[cfg(test)]
 mod tests {
     use super::*;
+    use crate::coder::share_length;
     use crate::rehearsal::{play, rehearse};
+    use crate::tree::path_length;
     use std::collections::BTreeSet;
 
     fn refused(cause: u32) -> Vec<u8> {
         format!("refused {cause}\n").into_bytes()
     }
 
-    /// Every n and t, and with each t over 0 a bad sender too; both parties' kinds of results are seen.
+    /// Every n and t, and with each t over 0 a bad sender too.
     #[test]
     fn every_group_has_a_sender() {
         let mut seen = BTreeSet::new();
@@ -274,6 +276,31 @@ mod tests {
                 .results
                 .iter()
                 .all(|it| it.as_ref() == Some(message)));
+        }
+    }
+
+    /// Whoever sends, all good parties end alike. What they send is within the bound of a session
+    /// without a sender and, from a good sender, its packet to each other party; and where they end
+    /// with nothing they send nothing.
+    #[test]
+    fn all_end_alike_within_the_bound() {
+        for session in stored().filter_map(|made| play(&made.bytes).ok()) {
+            let (plan, sent) = (&session.plan, session.bytes_sent().iter().sum::<usize>());
+            let (good, others) = (plan.good.len(), plan.n - 1);
+            assert!(session.results.windows(2).all(|it| it[0] == it[1]));
+            let most = session.results[0].as_ref().map_or(0, |message| {
+                let s = share_length(plan.n - plan.t, message.len());
+                let packets = 2 * good * others * (4 + s + 32 * path_length(plan.n, 1));
+                let number = plan.sender.as_ref().expect("a sender").number;
+                let whole = others * (3 + message.len());
+                packets
+                    + if plan.good.contains(&number) {
+                        whole
+                    } else {
+                        0
+                    }
+            });
+            assert!(sent <= most, "n {}, t {}", plan.n, plan.t);
         }
     }
 
