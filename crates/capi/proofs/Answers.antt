@@ -4,6 +4,7 @@ use mathlib.Core.Path.{_≡_, refl, sym, ap, ap₂, _∙_}
 use mathlib.Core.List.{List, []}
 use mathlib.Core.Option.{Option, none, some}
 use Prim.Native.Nat.{ℕ, _<_, _≤_, _^_}
+use native.Mathlib.Decide.{decLt}
 use native.Mathlib.Omega.{arith}
 use borrow.Author.Tests.{lt-ltb, le-ltb, eq-eqb, ne-eqb}
 use lib.ListN.{length}
@@ -11,13 +12,17 @@ use Rattle.buffer.specs.Given.{written}
 use Rattle.sha256.specs.Sha256.{hashOf}
 use Rattle.party.specs.State.{Result, nothing, settled}
 use Rattle.party.specs.Steps.{openOf, causeOf, valueOf, resultGiven, Stepped, stepped}
+use Rattle.party.specs.Sender.{messageBy, packetBy, senderCause, Begun, openBySenderOf}
+use Rattle.party.proofs.Sender.{cause-bounds, begun-short, begun-given}
+use Rattle.party.proofs.Outcomes as party
+use Rattle.party.specs.declared.Opened.{Opened}
 use Rattle.party.specs.declared.Answer.{Answer}
 use Rattle.party.specs.declared.Answer.the-variants as answer
 use Rattle.party.specs.declared.Party.{Party}
 use Rattle.party.specs.declared.Reply.{Reply}
 use Rattle.state_bytes.specs.Layout.{stateLength, stateBytes, stateOf}
 use Rattle.agreement.specs.Calls.{Call, made}
-use Rattle.capi.specs.Calls.{packed, returned, replies, valueShown, numberOf, over, openCall, called, filled, hashCall}
+use Rattle.capi.specs.Calls.{packed, returned, replies, valueShown, numberOf, over, openCall, opens, openBySenderCall, called, filled, hashCall}
 
 -- the value hangs on the answer and not on the buffer, and fits its half
 value-same : (a : Answer) (out : List ℕ) → valueShown (resultGiven a []) (valueOf a) ≡ valueShown (resultGiven a out) (valueOf a)
@@ -82,6 +87,60 @@ module _ (H : List ℕ → List ℕ) (n t own : ℕ) (m s z : List ℕ) where
           ≡ replies (packed 0 32) (written (stateBytes (openOf H n t own m .state)) s .buffer) (written (openOf H n t own m .root) z .buffer)
       unfolding openCall
       open-done h = rw (eq-eqb (openOf H n t own m .cause) 0 fine, le-ltb (length s) stateLength long, le-ltb (length z) 32 h)
+
+-- the opening by a named sender
+module _ (H : List ℕ → List ℕ) (n t own q : ℕ) (bs s z out : List ℕ) where
+  abbrev begins : Begun
+  begins = openBySenderOf H n t own q bs out
+
+  pub sender-refused : (senderCause n t own q bs ≡ 0 → ⊥)
+      → openBySenderCall H n t own q bs s z out ≡ opens (packed (senderCause n t own q bs) 0) s z out
+  unfolding openBySenderCall
+  sender-refused h = rw (ne-eqb (senderCause n t own q bs) 0 h)
+
+  module _ (fine : senderCause n t own q bs ≡ 0) where
+    pub sender-state : length s < stateLength → openBySenderCall H n t own q bs s z out ≡ opens (packed 9 stateLength) s z out
+    unfolding openBySenderCall
+    sender-state h = rw (eq-eqb (senderCause n t own q bs) 0 fine, lt-ltb (length s) stateLength h)
+
+    module _ (long : stateLength ≤ length s) where
+      pub sender-root : length z < 32 → openBySenderCall H n t own q bs s z out ≡ opens (packed 9 32) s z out
+      unfolding openBySenderCall
+      sender-root h = rw (eq-eqb (senderCause n t own q bs) 0 fine, le-ltb (length s) stateLength long, lt-ltb (length z) 32 h)
+
+      module _ (wide : 32 ≤ length z) where
+        pub sender-short : (begins .opened .cause ≡ 0 → ⊥)
+            → openBySenderCall H n t own q bs s z out ≡ opens (packed (begins .opened .cause) (begins .value)) s z out
+        unfolding openBySenderCall
+        sender-short h =
+            rw (
+              eq-eqb (senderCause n t own q bs) 0 fine,
+              le-ltb (length s) stateLength long,
+              le-ltb (length z) 32 wide,
+              ne-eqb (begins .opened .cause) 0 h,
+            )
+
+        pub sender-done : begins .opened .cause ≡ 0 → openBySenderCall H n t own q bs s z out
+            ≡ opens (packed 0 (begins .value)) (written (stateBytes (begins .opened .state)) s .buffer) (written (begins .opened .root) z .buffer) (begins .buffer)
+        unfolding openBySenderCall
+        sender-done h =
+            rw (
+              eq-eqb (senderCause n t own q bs) 0 fine,
+              le-ltb (length s) stateLength long,
+              le-ltb (length z) 32 wide,
+              eq-eqb (begins .opened .cause) 0 h,
+            )
+
+  -- a packet that does not fit leaves its buffer
+  pub sender-kept : senderCause n t own q bs ≡ 0 → (begins .opened .cause ≡ 0 → ⊥) → begins .buffer ≡ out
+  sender-kept fine h = elim (decLt (length out) (length (packetBy n own q bs))) [
+    | yes l ↦ ap (λ (r : Begun). r .buffer) (begun-short n t own q bs H out fine l)
+    | no d ↦ absurd (h (ap (λ (r : Begun). r .opened .cause) (begun-given n t own q bs H out fine (omega arith))
+        ∙ ap (λ (o : Opened). o .cause) (party.open-given H n t own (messageBy own q bs) (cause-bounds n t own q bs fine .0))))
+  ]
+
+pub opens-are : (p P : ℕ) (s S z Z o O : List ℕ) → p ≡ P → s ≡ S → z ≡ Z → o ≡ O → opens p s z o ≡ opens P S Z O
+opens-are p P s S z Z o O qp qs qz qo = rw (qp, qs, qz, qo)
 
 -- the hash
 module _ (m out : List ℕ) where

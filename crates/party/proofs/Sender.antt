@@ -200,9 +200,12 @@ module _ (n t own sender : ℕ) (bs : List ℕ) where
           let f = accepted-fits accepted in
           ap (λ (r : Begun). take (r .value) (r .buffer)) (begun-given (f .0) (f .1)) ∙ take-spliced out packet
 
-    -- whatever comes of it, no more is written than the buffer has, where it has room for any packet
-    pub value-fits : maxMessagePacket ≤ length out → openBySenderOf H n t own sender bs out .value ≤ maxMessagePacket
-    value-fits room = elim (ℕ-discrete (senderCause n t own sender bs) 0) [
-      | yes f ↦ let p = packet-fits f in omega (arith, ap (λ (r : Begun). r .value) (begun-given f (omega (arith, p, room))), p)
+    -- whatever comes of it, the length that it tells is none of a longer packet than any
+    pub value-fits : openBySenderOf H n t own sender bs out .value ≤ maxMessagePacket
+    value-fits = elim (ℕ-discrete (senderCause n t own sender bs) 0) [
+      | yes f ↦ elim (decLt (length out) (length packet)) [
+        | yes l ↦ omega (arith, ap (λ (r : Begun). r .value) (begun-short f l), packet-fits f)
+        | no d ↦ omega (arith, ap (λ (r : Begun). r .value) (begun-given f (omega arith)), packet-fits f)
+      ]
       | no d ↦ omega (arith, ap (λ (r : Begun). r .value) (begun-refused d))
     ]

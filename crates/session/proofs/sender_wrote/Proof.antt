@@ -61,7 +61,7 @@ wrote o =
       omega (
         arith,
         ap (λ (r : Begun). r .value) (gives o),
-        value-fits (nIn (S st)) (tIn (S st)) q q (bookOf (S st) q) sha256 Zeros (omega (arith, length-replicate {A = ℕ} maxMessagePacket 0)),
+        value-fits (nIn (S st)) (tIn (S st)) q q (bookOf (S st) q) sha256 Zeros,
       ),
       ap (λ (r : Begun). take (r .value) (r .buffer)) (gives o),
     )
