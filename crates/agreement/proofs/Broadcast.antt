@@ -20,7 +20,7 @@ use Rattle.commitment.proofs.Opening.{open-bounds}
 use Rattle.party.specs.State.{Result, nothing, settled}
 use Rattle.party.specs.Sender.{messageRead, packetBy}
 use Rattle.party.specs.declared.Opened.{Opened}
-use Rattle.party.proofs.Sender.{message-bytes, sender-message, other-message, sender-packet, other-packet, packet-short, sent-read, cause-bounds}
+use Rattle.party.proofs.Sender.{sender-message, other-message, sender-packet, other-packet, packet-short, sent-read, cause-bounds}
 use Rattle.party.proofs.Sender.{accepted-fits, accepted-opens, accepted-wrote}
 use Rattle.agreement.specs.Calls.{opening}
 use Rattle.agreement.specs.Agreement.{Good, different, sumOver, sent, Conclusions}
@@ -58,8 +58,7 @@ module _ (H : List ℕ → List ℕ) (wide : (s : List ℕ) → length (H s) ≡
   premises =
       record {
         opened = record {
-          bytes = all-map partyOf (λ (A : Good). Bytes (A .message)) good
-              (λ A h. message-bytes (A .own) (A .sender) (A .bytes) (P .opened .bytes A h));
+          bytes = all-map partyOf (λ (A : Good). Bytes (A .message)) good (P .opened .bytes);
           accepted = all-map partyOf (λ (A : Good). opening H n t (A .own) (A .message) .cause ≡ 0) good
               (λ A h. sym (ap (λ (o : Opened). o .cause) (opens A h)) ∙ P .opened .accepted A h);
           apart = ap different numbers ∙ P .opened .apart;

@@ -8,7 +8,7 @@ use mathlib.Core.List.{List, [], _∷_, map, List·Memᴰ, List·Memᴰ·head}
 use mathlib.Core.Option.{Option, none, some, Option·none-ne-some}
 use Prim.Native.Nat.{ℕ, zero, suc, _+_, _*_, _<_}
 use native.Mathlib.Omega.{arith}
-use lib.Dec.{lit<}
+use lib.Dec.{lit<, lit≤}
 use lib.ListN.{length, replicate}
 use Rattle.limits.specs.Limits.{parties, numbered, groupCause}
 use Rattle.buffer.specs.Bounds.{Bytes}
@@ -37,17 +37,11 @@ use Rattle.agreement.specs.Calls.{stringsOver, checkedIn, recodedIn, did
 use Rattle.agreement.specs.Agreement.{Good, among, different, absent, sumOver, joinOver, step, allOpenedAndChecked}
 use Rattle.agreement.specs.Broadcast.{Opener, partyOf, parties as partiesOf, begun, gave, Premises, sentInAll, Settled}
 use Rattle.agreement.proofs.Lists.{same-some}
+use Rattle.packet.proofs.Messages.{packet-bytes}
+use Rattle.party.proofs.Sender.{message-bytes}
 use Rattle.agreement.proofs.Mapped.{all-map}
 use Rattle.agreement.proofs.Broadcast.{broadcast}
 use Rattle.agreement.proofs.Instances.{mix, digest, toy, wide, clean, cleanOf, clean-sound, there, pick, one-byte, M, z, room, pk, forged, rubbish, second2, second3, each, calls, y, calls1, calls2, two-books}
-
--- the bytes of a short message's packet
-packet-bytes : (m : List ℕ) → length m < 256 → Bytes m → Bytes (messagePacket m)
-unfolding messagePacket
-packet-bytes m l h zero = lit< tt
-packet-bytes m l h (suc zero) = omega arith
-packet-bytes m l h (suc (suc zero)) = omega arith
-packet-bytes m l h (suc (suc (suc i))) = h i
 
 -- what holds between two, both ways, holds between every two with different numbers
 crossed : {X : Type 0} (own : X → ℕ) (A B : X) (P : X → X → Type 0) → P A B × P B A
@@ -118,7 +112,8 @@ module _ (A B : Opener) (z : List ℕ) (R : Result) where
     opened = record {
       accepted = λ D h. all (λ C. (C .sender ≡ 3) × (begun toy 3 1 [] C .opened .cause ≡ 0)) (P .opened) D h .1;
       named = λ D h. all (λ C. (C .sender ≡ 3) × (begun toy 3 1 [] C .opened .cause ≡ 0)) (P .opened) D h .0;
-      bytes = all (λ C. Bytes (C .bytes)) (P .bytes);
+      bytes = all (λ C. Bytes (partyOf C .message))
+          (message-bytes (A .own) (A .sender) (A .bytes) (P .bytes .0), message-bytes (B .own) (B .sender) (B .bytes) (P .bytes .1));
       delivered = λ S h e D k d. crossed (λ (C : Opener). C .own) A B Handed (P .handed) S h D k (λ q. d (sym q ∙ e)) e;
       apart = P .apart;
       bad = omega (arith, P .bad);
@@ -217,7 +212,7 @@ pub computed : Computed
 unfolding size body rest fills bodies spliced tabulate parties numbered groupCause timesX productOf product power inverse sum pow value factor unit numerator denominator basis through shareLength headed frame block shareByte shareOf share shares present point framed other unframed joined recovered splitFrom split shapeOf shape leaves nodeString sides beside root path folded treeStrings foldStrings checkStrings topHash pathHashes leafString leafStrings sharesCause same leavesOf rootOf pathOf passes codingStrings stringsOf chained hashes packetOf entryOf shareIn readOf inboxOf classOf classStrings atRoot atBit atFirst atSecond atEnd blankState broken messageRoot happy stateCause openCause openOf rootCause agreeRootOf packetFor bitCause outboxOf agreeBitOf inboxCause firstValid relayOf heldOf takeSharesOf gathered resultFound resultOf relaysCause takeRelaysOf accepted first entry lengths sentOver made events final shareStrings relayStrings checkedIn stringsOver recodedIn did openedAndChecked recoded sentBy among different absent sumOver joinOver clean cleanOf there mix digest messagePacket messageIn readMessage senderCause openBySenderOf
 computed = record {
   two-went = record {
-    bytes = (packet-bytes (0x41 ∷ []) (lit< tt) (one-byte 0x41 (lit< tt)), packet-bytes (0x42 ∷ []) (lit< tt) (one-byte 0x42 (lit< tt)));
+    bytes = (packet-bytes (0x41 ∷ []) (one-byte 0x41 (lit< tt)) (lit≤ tt), packet-bytes (0x42 ∷ []) (one-byte 0x42 (lit< tt)) (lit≤ tt));
     opened = ((refl, refl), (refl, refl));
     called = ((refl, refl, refl, refl), (refl, refl, refl, refl));
     ends = (refl, refl);
@@ -245,7 +240,7 @@ computed = record {
     no-collision = refl;
   };
   good-went = record {
-    bytes = (packet-bytes M (lit< tt) (two-bytes 0x41 0x42 (lit< tt) (lit< tt)), two-bytes 0x41 0x42 (lit< tt) (lit< tt));
+    bytes = (packet-bytes M (two-bytes 0x41 0x42 (lit< tt) (lit< tt)) (lit≤ tt), two-bytes 0x41 0x42 (lit< tt) (lit< tt));
     opened = ((refl, refl), (refl, refl));
     called = ((refl, refl, refl, refl), (refl, refl, refl, refl));
     ends = (refl, refl);

@@ -42,12 +42,12 @@ module _ (H : List ℕ → List ℕ) (n t : ℕ) (good : List Opener) where
   abbrev pub gave : Opener → List ℕ
   gave A = take (begun A .value) (begun A .buffer)
 
-  -- all opened with n and t, under different numbers, and named the sender q; what they were handed is bytes, and where the sender is good, each other one was
-  -- handed what it wrote; bad are the numbers up to n that no good party bears, at most t
+  -- all opened with n and t, under different numbers, and named the sender q; what they opened with is bytes, as it is where what they were handed is; where the
+  -- sender is good, each other one was handed what it wrote; bad are the numbers up to n that no good party bears, at most t
   pub record OpenedAll (q : ℕ) : Type 0 where
     pub accepted : Every (λ A. begun A .opened .cause ≡ 0)
     pub named : Every (λ A. A .sender ≡ q)
-    pub bytes : Every (λ A. Bytes (A .bytes))
+    pub bytes : Every (λ A. Bytes (partyOf A .message))
     pub delivered : Every (λ S. S .own ≡ q → Every (λ A. A .own ≢ q → A .bytes ≡ gave S))
     pub apart : different (map (λ (A : Opener). A .own) good) ≡ true
     pub bad : absent n 1 (map (λ (A : Opener). A .own) good) ≤ t

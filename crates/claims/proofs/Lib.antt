@@ -6,3 +6,4 @@ pub mod Hosts
 pub mod ReadAgain
 pub mod LongestBook
 pub mod AgreedRoot
+pub mod OneSender

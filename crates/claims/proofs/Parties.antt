@@ -172,7 +172,7 @@ module _ (n t : ℕ) (good : List Good) (z : List ℕ) (bit : ℕ) where
             s .1 ∙ ap (λ (k : ℕ). some (rooted z k)) (sym b ∙ q)
 
   module _ (P : Sitting n t (map box good) z bit) where
-    premises : Premises sha256 n t good z bit
+    pub premises : Premises sha256 n t good z bit
     premises =
         record {
           opened = record {
@@ -240,7 +240,7 @@ module _ (n t : ℕ) (good : List Good) (z : List ℕ) (bit : ℕ) where
             ∙ P .second-inbox b1 (box A) (in-map box hA) (box B) (in-map box hB) d (s .0) (o .0) (o .1) (s .1) (s .2) (o .2)
             ∙ sym (ap wrote (f .1) ∙ w)
 
-    bytes : bytesSent n t (map box good) z bit ≡ allSent sha256 n t good
+    pub bytes : bytesSent n t (map box good) z bit ≡ allSent sha256 n t good
     unfolding sentBy
     bytes =
         sum-map box (λ (B : Box). sumOver (bytesIn n) (B .acts)) (λ (A : Good). sentBy sha256 n t (A .own) (A .message) (A .calls))
@@ -255,7 +255,7 @@ module _ (n t : ℕ) (good : List Good) (z : List ℕ) (bit : ℕ) where
         let i = first-in 5 (did sha256 n t (A .own) (A .message) (A .calls)) (e .0) (e .1) in
         (s .0, s .2 ∙ ap (λ (k : Option Result). some (ended (s .0) k)) (sym r ∙ C .gives A h (e .0) (i .0) (i .1)))
 
-    conclusions : (R : Result) → Conclusions sha256 n t good bit R → OneResult n t (map box good) z bit R
+    pub conclusions : (R : Result) → Conclusions sha256 n t good bit R → OneResult n t (map box good) z bit R
     conclusions R C =
         record {
           held = all-map box (λ (B : Box). B .result ≡ some R) good (C .holds);

@@ -3,3 +3,4 @@ pub mod Claims
 pub mod ReadAgain
 pub mod LongestBook
 pub mod AgreedRoot
+pub mod OneSender

@@ -5,7 +5,7 @@ use mathlib.Core.Bool.{Bool, true, false, cond, not, _||_}
 use mathlib.Core.List.{List, [], _∷_, _++_, map, List·Memᴰ}
 use mathlib.Core.Logic.{_⊎_, inl, inr}
 use mathlib.Core.Option.{Option, none, some}
-use Prim.Native.Nat.{ℕ, _+_, _-_, _*_, _/_, _^_}
+use Prim.Native.Nat.{ℕ, _+_, _-_, _*_, _/_, _%_, _^_}
 use lib.Dec.{leb, ltb, eqb}
 use lib.ListN.{length, take}
 use Rattle.limits.specs.Limits.{maxMessage, parties}
@@ -21,14 +21,16 @@ use Rattle.packet.specs.Format.{Reading, silence, unreadable, shared}
 use Rattle.commitment.specs.Rooms.{maxPacket, maxOutbox}
 use Rattle.party.specs.State.{Result, nothing, settled, resultBytes, resultIn, hasEnded, messageIn, atBit, atFirst, atSecond, atEnd, happy}
 use Rattle.party.specs.Steps.{openOf, Stepped, outboxOf, relayOf, heldOf, resultOf}
+use Rattle.party.specs.Sender.{messageBy, openBySenderOf}
 use Rattle.party.specs.declared.Outcome.the-variants.{Nothing, Message}
 use Rattle.party.specs.declared.Stage.{Stage}
 use Rattle.party.specs.declared.Stage.the-variants.{Root, Bit, First, Second, Ended}
 use Rattle.party.specs.declared.Party.{Party}
-use Rattle.agreement.specs.Calls.{Call, agreeRoot, agreeBit, takeShares, takeRelays, Event, did, openedAndChecked, recoded, lengths, resultAfter}
+use Rattle.agreement.specs.Calls.{Call, agreeRoot, agreeBit, takeShares, takeRelays, Event, accepted, events, final, did, openedAndChecked, recoded, lengths, resultAfter}
 use Rattle.agreement.specs.Agreement.{Good, sumOver, joinOver}
+use Rattle.agreement.specs.Broadcast.{Opener as Begins}
 use Rattle.state_bytes.specs.Layout.{stateOf}
-use Rattle.capi.specs.Calls.{Replies, openCall, called, resultLengthCall}
+use Rattle.capi.specs.Calls.{Replies, openCall, openBySenderCall, called, resultLengthCall}
 use Rattle.capi.specs.Lists.{left}
 
 -- a cause where it applies; and of causes, listed in the order in which they are given, the first that applies; 0: none
@@ -271,3 +273,70 @@ pub record NothingMore (n : ℕ) (before after : Box) : Type 0 where
   pub readings : (inbox : List ℕ) (r : Option Result) → List·Memᴰ (ended inbox r) (after .acts) → r ≡ before .result
   pub sent : sumOver (bytesIn n) (after .acts) ≡ sumOver (bytesIn n) (before .acts)
   pub hashed : (after .openedAndChecked ≡ before .openedAndChecked) × (after .recoded ≡ before .recoded)
+
+-- the packet of a book that is sent whole
+abbrev pub packetOf : List ℕ → List ℕ
+packetOf m = 0x08 ∷ length m / 256 ∷ length m % 256 ∷ m
+
+-- a good box that opened by a named sender: as a box, with the book that it opened with; the sender that it named, what it was handed, and the packet that it wrote
+pub record Opener : Type 0 where
+  pub box : Box
+  pub sender : ℕ
+  pub handed : List ℕ
+  pub packet : List ℕ
+
+-- a party; its calls are on the state that this opening gave
+abbrev pub openerParty : ℕ → ℕ → Begins → Opener
+openerParty n t A =
+    let m = messageBy (A .own) (A .sender) (A .bytes) in
+    let r = openBySenderOf sha256 n t (A .own) (A .sender) (A .bytes) (A .out) in
+    record {
+      box = record {
+        own = A .own;
+        book = m;
+        cause = r .opened .cause;
+        root = r .opened .root;
+        acts = map (λ (e : Event). actOf (e .call) (e .reply)) (accepted (events sha256 (r .opened .state) (A .calls)));
+        result = resultIn (final sha256 (r .opened .state) (A .calls));
+        openedAndChecked = openedAndChecked sha256 n t (A .own) m (A .calls);
+        recoded = recoded sha256 n t (A .own) m (A .calls);
+      };
+      sender = A .sender;
+      handed = A .bytes;
+      packet = take (r .value) (r .buffer);
+    }
+
+-- a host, with a buffer for the packet too
+pub record SenderHost : Type 0 where
+  pub own : ℕ
+  pub sender : ℕ
+  pub handed : List ℕ
+  pub stateRoom : List ℕ
+  pub rootRoom : List ℕ
+  pub packetRoom : List ℕ
+  pub calls : List Call
+
+abbrev pub openerHost : ℕ → ℕ → SenderHost → Opener
+openerHost n t h =
+    let m = messageBy (h .own) (h .sender) (h .handed) in
+    let r = openBySenderCall sha256 n t (h .own) (h .sender) (h .handed) (h .stateRoom) (h .rootRoom) (h .packetRoom) in
+    record {
+      box = record {
+        own = h .own;
+        book = m;
+        cause = r .number / 2 ^ 32;
+        root = take 32 (r .root);
+        acts = actsSeen (r .state) (h .calls);
+        result = resultIn (stateOf (left sha256 (r .state) (h .calls)));
+        openedAndChecked = openedAndChecked sha256 n t (h .own) m (h .calls);
+        recoded = recoded sha256 n t (h .own) m (h .calls);
+      };
+      sender = h .sender;
+      handed = h .handed;
+      packet = take (r .number % 2 ^ 32) (r .out);
+    }
+
+-- either
+abbrev pub openerOf : ℕ → ℕ → Begins ⊎ SenderHost → Opener
+openerOf n t (inl A) = openerParty n t A
+openerOf n t (inr h) = openerHost n t h

@@ -20,7 +20,7 @@ use Rattle.limits.proofs.Group.{group-of}
 use Rattle.limits.proofs.Ranges.{numbered-within}
 use Rattle.packet.specs.Message.{maxMessagePacket}
 use Rattle.party.specs.Sender.{openBySenderOf}
-use Rattle.party.proofs.Sender.{other-packet, accepted-wrote}
+use Rattle.party.proofs.Sender.{message-bytes as message-bytes-by, other-packet, accepted-wrote}
 use Rattle.buffer.specs.Bounds.{Bytes}
 use Rattle.buffer.specs.Splice.{tabulate}
 use Rattle.buffer.specs.Entries.{fills, bodies}
@@ -636,7 +636,7 @@ module _ (H : List ℕ → List ℕ) (wide : (x : List ℕ) → length (H x) ≡
           opened = record {
             accepted = every (λ A. begun H n t (openers H s) A .opened .cause ≡ 0) (λ p l h g. accepted-by p l h);
             named = every (λ A. A .sender ≡ q) (λ p l h g. refl);
-            bytes = every (λ A. Bytes (A .bytes)) (λ p l h g. handed-bytes s (causes .0) H there bytes p);
+            bytes = every (λ A. Bytes (partyOf A .message)) (λ p l h g. message-bytes-by p (senderIn s) (handedTo H s p) (handed-bytes s (causes .0) H there bytes p));
             delivered = every (λ S. S .own ≡ q → Every H n t (openers H s) (λ A. A .own ≢ q → A .bytes ≡ gave H n t (openers H s) S))
                 (λ i l h g e. every (λ A. A .own ≢ q → A .bytes ≡ gave H n t (openers H s) (opener H s i))
                 (λ p k j f d. handed-good s (causes .0) H p d (good-there i l h g e) ∙ sym (gave-is i e)));
