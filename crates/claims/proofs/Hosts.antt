@@ -143,7 +143,7 @@ module _ (n t own : ℕ) (m s z : List ℕ) where
       }
 
   -- the root that it wrote
-  root-length : r .cause ≡ 0 → length (r .root) ≡ 32
+  pub root-length : r .cause ≡ 0 → length (r .root) ≡ 32
   unfolding messageRoot
   root-length c =
       let o = opened-is sha256 n t own m c in
@@ -221,7 +221,7 @@ module _ (s : List ℕ) where
       told (settled m) o v q = ap (λ (r : Option Result). valueShown r v) q
 
 -- and a list of calls
-seen-all : (s : List ℕ) (cs : List Call) → actsSeen s cs ≡ map view (accepted (events sha256 (stateOf s) cs))
+pub seen-all : (s : List ℕ) (cs : List Call) → actsSeen s cs ≡ map view (accepted (events sha256 (stateOf s) cs))
 unfolding actsSeen accepted events
 seen-all s [] = refl
 seen-all s (c ∷ cs) =

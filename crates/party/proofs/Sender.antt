@@ -4,15 +4,15 @@ use mathlib.Core.Path.{_≡_, refl, sym, ap, subst, _∙_}
 use mathlib.Core.Logic.{_≢_}
 use mathlib.Core.Bool.{Bool, true, false, cond, not, _&&_}
 use mathlib.Core.List.{List, [], _∷_}
-use Prim.Native.Nat.{ℕ, _+_, _<_, _≤_}
+use Prim.Native.Nat.{ℕ, _+_, _*_, _<_, _≤_}
 use native.Mathlib.Decide.{ℕ-discrete, decLt}
 use native.Mathlib.Omega.{arith}
 use types.Run.{OneOf, miss}
 use denote.Enum.Declared.{tagOf}
 use borrow.Author.Tests.{lt-ltb, le-ltb, eq-eqb, ne-eqb, ltb-false, not-false}
-use lib.Dec.{ltb, eqb, lit<}
+use lib.Dec.{leb, ltb, eqb, lit<}
 use lib.ListN.{length, take}
-use Rattle.limits.specs.Limits.{maxMessage, numbered, groupCause}
+use Rattle.limits.specs.Limits.{maxMessage, parties, numbered, groupCause}
 use Rattle.limits.proofs.Ranges.{numbered-within, numbered-range}
 use Rattle.buffer.specs.Bounds.{Bytes}
 use Rattle.buffer.specs.Splice.{spliced}
@@ -122,6 +122,19 @@ module _ (n t own sender : ℕ) (bs : List ℕ) where
       unfolding senderCause
       cause-none h =
           rw (eq-eqb (groupCause n t) 0 group, there, known, le-ltb maxMessage (length (messageBy own sender bs)) h)
+
+  pub cause-small : senderCause n t own sender bs < 5
+  unfolding senderCause groupCause
+  cause-small =
+      go (not (parties n)) (leb n (2 * t)) (not (numbered n own)) (not (numbered n sender)) (ltb maxMessage (length (messageBy own sender bs)))
+    where
+      go : (a b c d e : Bool) → let g : ℕ = cond a 1 (cond b 2 0) in cond (not (eqb g 0)) g (cond c 3 (cond d 3 (cond e 4 0))) < 5
+      go true b c d e = lit< tt
+      go false true c d e = lit< tt
+      go false false true d e = lit< tt
+      go false false false true e = lit< tt
+      go false false false false true = lit< tt
+      go false false false false false = lit< tt
 
   -- where none applies, none applies to the ordinary opening, and the sender is one of the parties
   pub cause-bounds : senderCause n t own sender bs ≡ 0

@@ -187,12 +187,16 @@ fn opening_by_sender(before: Party, input: &[u8], out: &mut [u8]) -> Called {
         &input[AT_BYTES..],
         &mut out[BEGUN..end],
     );
-    let Opened { state, cause, root } = opened;
+    let Opened { state, cause, .. } = opened;
     let bytes = verdict(state, begun(cause, len), &out[BEGUN..end]);
     buffer::put(out, 0, &bytes);
-    buffer::put(out, VERDICT, &root);
+    buffer::put(out, VERDICT, &root_of(opened));
     buffer::put(out, VERDICT + 32, &spelled(len));
     Called { state, len: BEGUN }
+}
+
+fn root_of(opened: Opened) -> [u8; 32] {
+    opened.root
 }
 
 fn begun(cause: u8, len: usize) -> Answer {
