@@ -1,9 +1,8 @@
 -- Broadcast follows from agreement: an accepted opening by a sender is the ordinary one with the message that was read, so good parties that open by one
 -- sender are good parties of agreement; where the sender is good, all have read its message, and the common message is the result. Assumes nothing.
-use mathlib.Core.Path.{_≡_, refl, sym, ap, ap₂, subst, _∙_}
+use mathlib.Core.Path.{_≡_, sym, ap, subst, _∙_}
 use mathlib.Core.Logic.{_≢_}
-use mathlib.Core.Bool.{Bool, true, false}
-use mathlib.Core.List.{List, [], _∷_, map, List·Memᴰ, List·Memᴰ·head, List·Memᴰ·tail}
+use mathlib.Core.List.{List, map, List·Memᴰ}
 use Prim.Native.Nat.{ℕ, _+_, _-_, _*_, _≤_}
 use native.Mathlib.Decide.{ℕ-discrete}
 use native.Mathlib.Nat.{mul-le-mul-left}
@@ -23,9 +22,9 @@ use Rattle.party.specs.declared.Opened.{Opened}
 use Rattle.party.proofs.Sender.{sender-message, other-message, sender-packet, other-packet, packet-short, sent-read, cause-bounds}
 use Rattle.party.proofs.Sender.{accepted-fits, accepted-opens, accepted-wrote}
 use Rattle.agreement.specs.Calls.{opening}
-use Rattle.agreement.specs.Agreement.{Good, different, sumOver, sent, Conclusions}
+use Rattle.agreement.specs.Agreement.{Good, different, sent, Conclusions}
 use Rattle.agreement.specs.Agreement as agreement
-use Rattle.agreement.specs.Broadcast.{Opener, partyOf, Every, parties, begun, gave, Premises, sentInAll, Settled, Broadcast}
+use Rattle.agreement.specs.Broadcast.{Opener, partyOf, parties, begun, gave, Premises, Settled, Broadcast}
 use Rattle.agreement.proofs.Lists.{sum-none, sum-one, one-each}
 use Rattle.agreement.proofs.Mapped.{all-map, map-map}
 use Rattle.agreement.proofs.Agreement.{agreement}

@@ -2,7 +2,7 @@
 -- as one; and a host is such a party. Assumes nothing.
 use mathlib.Core.Path.{_≡_, refl, sym, ap, ap₂, _∙_, subst}
 use mathlib.Core.Logic.{_⊎_, inl, inr, _≢_}
-use mathlib.Core.Bool.{Bool, true, false, cond, not, _&&_}
+use mathlib.Core.Bool.{Bool, true, false, cond, not}
 use mathlib.Core.List.{List, [], _∷_, map, List·Memᴰ}
 use mathlib.Core.Option.{Option}
 use Prim.Native.Nat.{ℕ, _+_, _-_, _*_, _/_, _%_, _^_, _≤_, _<_}
@@ -17,7 +17,6 @@ use Rattle.buffer.specs.Given.{Given, written}
 use Rattle.buffer.proofs.Given.{written-done}
 use Rattle.buffer.proofs.Splice.{take-spliced}
 use Rattle.sha256.specs.Sha256.{sha256}
-use Rattle.packet.specs.Format.{readOf}
 use Rattle.packet.specs.Message.{messagePacket, readMessage, unreadable as nothingRead}
 use Rattle.packet.proofs.Messages.{message-read, read-message, read-length, message-no-share}
 use Rattle.party.specs.State.{Result, settled, resultIn}
@@ -27,10 +26,10 @@ use Rattle.party.specs.declared.Opened.{Opened}
 use Rattle.party.specs.declared.Party.{Party}
 use Rattle.party.proofs.Outcomes.{open-given}
 use Rattle.party.proofs.Sender.{cause-bounds, begun-refused, begun-short, begun-given, accepted-fits, accepted-opens, cause-small, value-fits}
-use Rattle.agreement.specs.Calls.{Call, Event, accepted, events, final, did, openedAndChecked, recoded}
-use Rattle.agreement.specs.Agreement.{Good, different, absent, sumOver}
+use Rattle.agreement.specs.Calls.{Event, accepted, events, final, did, openedAndChecked, recoded}
+use Rattle.agreement.specs.Agreement.{Good, different, absent}
 use Rattle.agreement.specs.Agreement as agreement
-use Rattle.agreement.specs.Broadcast.{Opener as Begins, partyOf as partyIn, gave, sentInAll, Settled}
+use Rattle.agreement.specs.Broadcast.{Opener as Begins, partyOf as partyIn, gave, sentInAll}
 use Rattle.agreement.specs.Broadcast as broadcast
 use Rattle.agreement.proofs.Mapped.{in-map, all-map, map-map, sum-map, map-same}
 use Rattle.agreement.proofs.Broadcast.{broadcast-sha256}
@@ -38,7 +37,7 @@ use Rattle.state_bytes.specs.Layout.{stateLength, stateBytes, stateOf}
 use Rattle.capi.specs.Calls.{packed, Replies, Opens, opens, openBySenderCall}
 use Rattle.capi.proofs.Answers.{open-done, sender-refused, sender-state, sender-root, sender-short, sender-done}
 use Rattle.capi.proofs.Kept.{open-kept, calls-kept}
-use Rattle.claims.specs.Terms.{Act, when, foremost, groupThen, packetOf, Box, actOf, partyBox, Opener, openerParty, SenderHost, openerHost, openerOf}
+use Rattle.claims.specs.Terms.{Act, when, foremost, groupThen, Box, actOf, partyBox, Opener, openerParty, SenderHost, openerHost, openerOf}
 use Rattle.claims.specs.Claims.{Sitting, OneResult, bytesSent}
 use Rattle.claims.specs.OneSender.{OpensBySender, SenderSitting, bytesInAll, SendersBook, AllSettle, OneSendsAllSettle}
 use Rattle.claims.proofs.Parties.{view, premises, bytes, conclusions}

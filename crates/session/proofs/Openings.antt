@@ -20,9 +20,7 @@ use Rattle.packet.proofs.Messages.{packet-bytes}
 use Rattle.commitment.proofs.Opening.{open-fine}
 use Rattle.party.specs.Steps.{openOf}
 use Rattle.party.specs.Sender.{messageBy, packetBy, senderCause, Begun}
-use Rattle.party.specs.declared.Opened.{Opened}
-use Rattle.party.proofs.Sender.{read-short, sender-message, other-message, message-bytes, cause-none, packet-fits, begun-given, accepted-wrote}
-use Rattle.party.proofs.Ways.{Way, on, off, way}
+use Rattle.party.proofs.Sender.{read-short, sender-message, other-message, message-bytes, cause-none, packet-fits, begun-given}
 use Rattle.plan.specs.Layout.{nIn, tIn, hasSender, senderIn, booksIn, holders, goodSender, senderPacket}
 use Rattle.plan.specs.Layout as layout
 use Rattle.plan.specs.Plan.{planCause}

@@ -24,7 +24,6 @@ use Rattle.party.proofs.Sender.{message-bytes as message-bytes-by, other-packet
 use Rattle.buffer.specs.Bounds.{Bytes}
 use Rattle.buffer.specs.Splice.{tabulate}
 use Rattle.buffer.specs.Entries.{fills, bodies}
-use Rattle.buffer.proofs.Bounds.{drop-bytes}
 use Rattle.buffer.proofs.Places.{entry-of-bodies}
 use Rattle.buffer.proofs.Tabulate.{length-tabulate, getD-tabulate}
 use Rattle.erasure.specs.Coding.{shares}
@@ -44,7 +43,7 @@ use Rattle.party.proofs.Kept.{message-root, message-bit, message-first, result-
 use Rattle.commitment.specs.Private.{Coded}
 use Rattle.commitment.proofs.Messages.{fine}
 use Rattle.party.proofs.Causes.{state-fine, root-fine}
-use Rattle.party.proofs.Outcomes.{open-given, open-refused, root-given, root-refused}
+use Rattle.party.proofs.Outcomes.{open-given, root-given, root-refused}
 use Rattle.party.proofs.Progress.{open-accepted, bit-accepted, shares-accepted, relays-accepted}
 use Rattle.party.proofs.Progress.{root-whole, bit-whole, first-whole, second-whole, held-short, result-short}
 use Rattle.party.proofs.Rooms.{outbox-fits, relay-fits}
@@ -67,7 +66,7 @@ use Rattle.exchange.proofs.Sending.{sent-good}
 use Rattle.report.specs.Output.{sentLine}
 use Rattle.session.specs.Session.{maxOutbox, wroteIn, orNothing, lineWith, isGood, bookOf, eachGood, lowestGood, openedBySender, senderWrote, handedTo, opened, messageOf, agreedRoot, step2, agreedBit}
 use Rattle.session.specs.Session.{sameRoots, sameBits, unlawful, sessionCause, step3, firstInbox, step4, secondInbox, step5}
-use Rattle.session.specs.Session.{endsWith, sentLater, sentOf, linesFrom, sentFrom, output, callsOf, goodParty, goodParties, givenBy, opener, openers}
+use Rattle.session.specs.Session.{endsWith, sentLater, linesFrom, sentFrom, output, callsOf, goodParty, goodParties, givenBy, opener, openers}
 use Rattle.session.proofs.Openings.{handed-own, handed-good, handed-bytes, message-short, message-small, opened-is}
 use Rattle.session.proofs.Wrote.{step3-counted, step4-counted}
 use Rattle.session.proofs.Parties.{goodSum, named, party-in, mapped, sum-of, apart, bad-count, sum-none, sent-split}

@@ -14,7 +14,7 @@ use Rattle.limits.proofs.Ranges.{numbered-within}
 use Rattle.limits.proofs.Group.{group-of}
 use Rattle.buffer.specs.Entries.{size}
 use Rattle.buffer.specs.Splice.{spliced}
-use Rattle.buffer.specs.Given.{Given, gave, causeOf, valueOf}
+use Rattle.buffer.specs.Given.{Given, gave, valueOf}
 use Rattle.buffer.specs.declared.Written.{Written}
 use Rattle.buffer.specs.declared.Written.the-variants.{Refused, Done}
 use Rattle.buffer.proofs.Splice.{length-spliced, take-spliced}

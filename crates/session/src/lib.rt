@@ -1,9 +1,8 @@
 // A rehearsal: a plan played by the parties themselves, and what it prints.
 ghost use mathlib.Core.Path.{_≡_};
-ghost use mathlib.Core.Bool.{true, cond};
+ghost use mathlib.Core.Bool.{true};
 ghost use mathlib.Core.List.{[]};
 ghost use Prim.Native.Nat.{_+_, _*_, _/_, _%_, _≤_, _<_};
-ghost use lib.Dec.{eqb};
 ghost use lib.ListN.{length, take, replicate};
 ghost use Rattle.sha256.specs.Sha256.{sha256};
 ghost use Rattle.limits.specs.Limits.{maxParties, maxMessage, maxPlan};

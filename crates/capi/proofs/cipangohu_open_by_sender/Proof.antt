@@ -1,6 +1,5 @@
 -- `capi::cipangohu_open_by_sender` meets its contract: by the opening's cause, by the room for the state, for the root and for the packet. Assumes nothing.
 use mathlib.Core.Path.{_≡_, refl, sym, ap, _∙_}
-use mathlib.Core.List.{List}
 use Prim.Native.Nat.{ℕ, _≤_}
 use native.Mathlib.Omega.{arith}
 use Rattle.buffer.specs.Given.{Given, written}

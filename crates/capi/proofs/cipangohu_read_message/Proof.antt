@@ -1,15 +1,14 @@
 -- `capi::cipangohu_read_message` meets its contract: by what the reader answered. Assumes nothing.
 use mathlib.Core.Path.{_≡_, sym, ap, _∙_}
 use mathlib.Core.List.{List}
-use Prim.Native.Nat.{ℕ, _+_, _≤_}
+use Prim.Native.Nat.{ℕ, _≤_}
 use native.Mathlib.Omega.{arith}
-use lib.ListN.{length}
 use Rattle.limits.specs.Limits.{maxMessage}
-use Rattle.packet.specs.Message.{Reading, message, placed, readMessage, Told}
+use Rattle.packet.specs.Message.{placed, readMessage, Told}
 use Rattle.packet.specs.declared.MessagePacket.{MessagePacket}
 use Rattle.packet.specs.declared.MessagePacket.the-variants as whole
 use Rattle.packet.proofs.Messages.{placed-message, read-length}
-use Rattle.capi.specs.Calls.{packed, messageAnswer, readMessageCall}
+use Rattle.capi.specs.Calls.{messageAnswer, readMessageCall}
 use borrow.Author.Needs.{needs}
 use Rattle.capi.proofs.cipangohu_read_message.Statement.{statement}
 use Rattle.capi.proofs.cipangohu_read_message.Tie as tie

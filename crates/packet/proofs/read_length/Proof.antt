@@ -4,7 +4,7 @@ use mathlib.Core.List.{List}
 use Prim.Native.Nat.{ℕ, _+_}
 use native.Mathlib.Omega.{arith}
 use lib.ListN.{length, drop, length-drop}
-use Rattle.packet.specs.Message.{Reading, lengthIn, placed, messageIn}
+use Rattle.packet.specs.Message.{lengthIn, placed}
 use Rattle.packet.specs.declared.MessagePacket.the-variants.{Message}
 use Rattle.packet.proofs.Messages.{length-at, message-short, message-long, message-misfit, message-told}
 use borrow.Author.Needs.{needs}

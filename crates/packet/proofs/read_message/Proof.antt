@@ -3,7 +3,6 @@ use mathlib.Core.Path.{_≡_, sym, ap, _∙_}
 use mathlib.Core.List.{List}
 use Prim.Native.Nat.{ℕ}
 use native.Mathlib.Omega.{arith}
-use lib.ListN.{length, getD}
 use Rattle.packet.specs.Message.{Reading, placed, told, readMessage}
 use Rattle.packet.proofs.Messages.{read-empty, read-whole, read-other, read-alone, read-more}
 use borrow.Author.Needs.{needs}

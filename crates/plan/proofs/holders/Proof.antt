@@ -1,15 +1,11 @@
 -- `plan::holders` meets its contract: after p turns the map names party p + 1 alone. Assumes nothing.
-use mathlib.Core.Path.{_≡_, refl, sym, ap, _∙_}
-use mathlib.Core.Bool.{Bool, true, false}
+use mathlib.Core.Path.{_≡_, refl, ap, _∙_}
 use Prim.Native.Nat.{ℕ, _+_, _-_, _*_, _^_, _≤_, _<_}
-use native.Mathlib.Nat.{pow-suc}
-use native.Mathlib.Numerals.{add-one}
 use native.Mathlib.Decide.{decLt}
 use native.Mathlib.Omega.{arith}
 use borrow.Author.Tests.{not-true, not-false}
 use Rattle.limits.specs.Limits.{maxParties}
 use Rattle.plan.specs.Layout.{only}
-use Rattle.plan.specs.Private.{holdersBy}
 use Rattle.plan.proofs.Maps.{doubled, only-small}
 use borrow.Author.Needs.{needs}
 use Rattle.plan.proofs.holders.Statement.{statement}

@@ -1,18 +1,16 @@
 -- `plan::packet_from` meets its contract: the receiver's entry in the sender's block, which stands behind those of lower bad parties. Assumes
 -- nothing.
-use mathlib.Core.Path.{_≡_, sym, ap, ap₂, _∙_}
+use mathlib.Core.Path.{_≡_, sym, ap, _∙_}
 use mathlib.Core.Bool.{true}
 use mathlib.Core.List.{List}
-use Prim.Native.Nat.{ℕ, _+_}
+use Prim.Native.Nat.{ℕ}
 use native.Mathlib.Omega.{arith}
 use borrow.Author.Tests.{not-false}
 use lib.ListN.{drop}
-use lib.Seq.{drop-drop}
 use Rattle.limits.specs.Limits.{numbered}
 use Rattle.limits.proofs.Booleans.{denied}
 use Rattle.limits.proofs.Ranges.{numbered-range}
-use Rattle.buffer.proofs.Places.{drop-min}
-use Rattle.plan.specs.Layout.{mapWidth, partyEntry, blockEntry, packetFrom}
+use Rattle.plan.specs.Layout.{blockEntry, packetFrom}
 use Rattle.plan.proofs.Blocks.{packet-none, packet-good, packet-bad}
 use Rattle.plan.proofs.Walks.{found-there}
 use borrow.Author.Needs.{needs}

@@ -1,21 +1,20 @@
 -- `plan::parts` meets its contract: the parts of the layout that was found, or the cause for which the plan is refused. Assumes nothing.
 use mathlib.Core.Path.{_≡_, refl, sym, ap, ap₂, subst, _∙_}
-use mathlib.Core.Bool.{Bool, true, false, not, _&&_}
+use mathlib.Core.Bool.{true, not, _&&_}
 use mathlib.Core.List.{List}
-use Prim.Native.Nat.{ℕ, _+_, _-_, _≤_}
+use Prim.Native.Nat.{ℕ, _-_, _≤_}
 use native.Mathlib.Omega.{arith}
-use borrow.Author.Tests.{not-true, not-false}
+use borrow.Author.Tests.{not-false}
 use lib.ListN.{length, drop}
 use Rattle.limits.specs.Limits.{maxParties, numbered}
 use Rattle.limits.proofs.Booleans.{denied}
 use Rattle.limits.proofs.Group.{group-of}
 use Rattle.buffer.specs.Entries.{size}
 use Rattle.plan.specs.Layout.{mapWidth, booksFit, nIn, tIn, optionsIn, hasSender, senderIn, goodAt, goodIn, booksIn, holders, behindBooks, exchangeAt, laidOut}
-use Rattle.plan.specs.Plan.{refused, planOf}
+use Rattle.plan.specs.Plan.{refused}
 use Rattle.plan.specs.Private.{holdersBy, sourceOf, LaidAt}
 use Rattle.plan.specs.declared.Behind.{Behind}
 use Rattle.plan.specs.declared.Behind.the-variants as behind
-use Rattle.plan.specs.declared.Plan.{Plan}
 use Rattle.plan.specs.declared.Source.{Source}
 use Rattle.plan.proofs.Reading.{plan-bad, plan-sender, plan-long, plan-taken, holders-source, stray-source, source-few}
 use borrow.Author.Needs.{needs}

@@ -1,16 +1,14 @@
 -- `plan::places` meets its contract: each part behind the header is found, or the plan is not laid out. Assumes nothing.
-use mathlib.Core.Path.{_≡_, refl, sym, ap, ap₂, subst₂, _∙_}
-use mathlib.Core.Bool.{true, false}
+use mathlib.Core.Path.{_≡_, sym, ap, ap₂, subst₂, _∙_}
 use mathlib.Core.List.{List}
 use mathlib.Core.Option.{Option, some}
-use Prim.Native.Nat.{ℕ, _+_, _-_, _≤_}
+use Prim.Native.Nat.{ℕ, _-_, _≤_}
 use native.Mathlib.Omega.{arith}
 use borrow.Author.Tests.{eq-eqb, ne-eqb}
 use lib.Dec.{eqb}
 use lib.ListN.{length, drop, length-drop}
-use Rattle.limits.specs.Limits.{maxParties}
-use Rattle.plan.specs.Layout.{mapWidth, skipEntries, nIn, goodAt, goodIn, booksIn, holders, skipSender, exchanges, skipExchanges, laidOut}
-use Rattle.plan.specs.Private.{Ends, holdersBy, skipSenderBy, sourceOf}
+use Rattle.plan.specs.Layout.{skipEntries, nIn, goodIn, booksIn, holders, skipSender, exchanges, skipExchanges, laidOut}
+use Rattle.plan.specs.Private.{Ends, holdersBy, skipSenderBy}
 use Rattle.plan.specs.declared.Offset.{Offset}
 use Rattle.plan.specs.declared.Offset.the-variants.{Nowhere, At}
 use Rattle.plan.specs.declared.Source.{Source}

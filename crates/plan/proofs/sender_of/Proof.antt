@@ -1,13 +1,13 @@
 -- `plan::sender_of` meets its contract: the field of the option, where it is named, stands before the map of good parties. Assumes nothing.
-use mathlib.Core.Path.{_≡_, refl, sym, ap, ap₂, _∙_}
-use mathlib.Core.Bool.{Bool, true, false, cond, _&&_}
+use mathlib.Core.Path.{_≡_, sym, ap, ap₂, _∙_}
+use mathlib.Core.Bool.{Bool, true}
 use mathlib.Core.List.{List}
-use Prim.Native.Nat.{ℕ, _+_, _<_, _≤_}
+use Prim.Native.Nat.{ℕ, _<_}
 use native.Mathlib.Omega.{arith}
 use borrow.Author.Tests.{not-false}
 use lib.ListN.{length, getD}
 use Rattle.limits.proofs.Booleans.{denied}
-use Rattle.plan.specs.Layout.{names, member, senderOption, fieldAt, nIn, optionsIn, hasSender, senderIn, goodAt, goodIn}
+use Rattle.plan.specs.Layout.{names, member, senderOption, fieldAt, nIn, optionsIn, hasSender, senderIn, goodIn}
 use Rattle.plan.specs.declared.Source.{Source}
 use Rattle.plan.proofs.Options.{field-inside}
 use borrow.Author.Needs.{needs}

@@ -1,10 +1,5 @@
 -- `plan::skip_sender` meets its contract: a bad sender has a block, and no other. Assumes nothing.
-use mathlib.Core.Path.{_≡_, refl, sym, subst, _∙_}
-use mathlib.Core.Bool.{Bool, true, false, cond, not, _&&_}
-use mathlib.Core.List.{List}
-use mathlib.Core.Option.{Option, some}
 use borrow.Author.Tests.{not-true, not-false}
-use Rattle.plan.specs.Private.{Ends, skipSenderBy}
 use borrow.Author.Needs.{needs}
 use Rattle.plan.proofs.skip_sender.Statement.{statement}
 use Rattle.plan.proofs.skip_sender.Tie as tie

@@ -1,6 +1,6 @@
 -- `plan::stray` meets its contract, by whether the plan names a sender. Assumes nothing.
 use mathlib.Core.Path.{ap}
-use mathlib.Core.Bool.{Bool, not}
+use mathlib.Core.Bool.{not}
 use borrow.Author.Needs.{needs}
 use Rattle.plan.proofs.stray.Statement.{statement}
 use Rattle.plan.proofs.stray.Tie as tie

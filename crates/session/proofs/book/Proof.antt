@@ -1,14 +1,11 @@
 -- `session::book` meets its contract: the book that is listed, or none. Assumes nothing.
-use mathlib.Core.Path.{_≡_, sym, ap, _∙_}
+use mathlib.Core.Path.{_≡_, ap, _∙_}
 use mathlib.Core.List.{List}
 use Prim.Native.Nat.{ℕ, _-_, _≤_}
 use native.Mathlib.Omega.{arith}
 use lib.ListN.{length, take, drop, length-drop}
 use lib.Seq.{take-all}
-use Rattle.limits.specs.Limits.{maxMessage}
-use Rattle.buffer.specs.Given.{gave, valueOf}
 use Rattle.plan.specs.Plan.{bookGiven}
-use Rattle.session.specs.Session.{bookOf}
 use Rattle.session.proofs.Rule.{Known, known, books-room, book-told}
 use borrow.Author.Needs.{needs}
 use Rattle.session.proofs.book.Statement.{statement}

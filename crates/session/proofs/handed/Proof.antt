@@ -1,17 +1,13 @@
 -- `session::handed` meets its contract: to the sender its book, to another one what a good sender wrote, or what the plan says. Assumes nothing.
-use mathlib.Core.Path.{_≡_, sym, ap, ap₂, _∙_}
-use mathlib.Core.Bool.{Bool, true, false}
+use mathlib.Core.Path.{_≡_, sym, ap, _∙_}
 use mathlib.Core.List.{List}
-use Prim.Native.Nat.{ℕ, _-_, _≤_}
+use Prim.Native.Nat.{ℕ, _-_}
 use native.Mathlib.Omega.{arith}
 use lib.ListN.{length, take, drop, length-drop}
 use lib.Seq.{take-all}
-use Rattle.limits.specs.Limits.{maxMessage, maxPlan}
 use Rattle.sha256.specs.Sha256.{sha256}
-use Rattle.packet.specs.Message.{maxMessagePacket}
-use Rattle.plan.specs.Layout.{names, nIn, hasSender, senderIn, goodIn, goodSender, behindBooks, senderPacket}
+use Rattle.plan.specs.Layout.{names, senderIn, goodSender}
 use Rattle.plan.specs.Plan.{blockGiven}
-use Rattle.session.specs.Session.{handedTo}
 use Rattle.session.proofs.Openings.{handed-own, handed-good, handed-bad}
 use Rattle.session.proofs.Rule.{Known, known, sender-number, packets-room, sender-good, block-told}
 use borrow.Author.Needs.{needs}

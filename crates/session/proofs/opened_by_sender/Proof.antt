@@ -1,15 +1,14 @@
 -- `session::opened_by_sender` meets its contract: the party's own opening, on what it is handed. Assumes nothing.
-use mathlib.Core.Path.{_≡_, sym, ap, ap₂, _∙_}
+use mathlib.Core.Path.{sym, ap, ap₂, _∙_}
 use mathlib.Core.List.{List}
-use Prim.Native.Nat.{ℕ, _≤_}
-use native.Mathlib.Omega.{arith}
-use lib.ListN.{length, take, replicate}
+use Prim.Native.Nat.{ℕ}
+use lib.ListN.{take, replicate}
 use lib.Seq.{length-take-le}
 use Rattle.sha256.specs.Sha256.{sha256}
 use Rattle.packet.specs.Message.{maxMessagePacket}
 use Rattle.party.specs.Sender.{Begun, openBySenderOf}
-use Rattle.plan.specs.Layout.{nIn, tIn, senderIn}
-use Rattle.session.specs.Session.{openedBySender, handedTo}
+use Rattle.plan.specs.Layout.{nIn, tIn}
+use Rattle.session.specs.Session.{openedBySender}
 use Rattle.session.proofs.Rule.{Known, known, sender-number}
 use borrow.Author.Needs.{needs}
 use Rattle.session.proofs.opened_by_sender.Statement.{statement}

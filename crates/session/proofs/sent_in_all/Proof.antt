@@ -1,5 +1,5 @@
 -- `session::sent_in_all` meets its contract: the sender's packet as often as there are others, and what the party sent later. Assumes nothing.
-use mathlib.Core.Path.{_≡_, sym, ap, ap₂, _∙_}
+use mathlib.Core.Path.{ap, ap₂, _∙_}
 use mathlib.Core.List.{List}
 use Prim.Native.Nat.{ℕ, _+_, _-_, _*_, _≤_}
 use native.Mathlib.Nat.{mul-le-mul}
@@ -9,7 +9,7 @@ use Rattle.limits.specs.Limits.{maxParties}
 use Rattle.packet.specs.Message.{maxMessagePacket}
 use Rattle.sha256.specs.Sha256.{sha256}
 use Rattle.plan.specs.Layout.{nIn}
-use Rattle.session.specs.Session.{givenBy, sentLater, sentOf}
+use Rattle.session.specs.Session.{givenBy, sentOf}
 use Rattle.session.proofs.Rule.{Known, known}
 use borrow.Author.Needs.{needs}
 use Rattle.session.proofs.sent_in_all.Statement.{statement}

@@ -1,7 +1,6 @@
 -- `party::Party::open` meets its contract: a refusal with the blank state, or the message kept and its root. Assumes nothing.
 use mathlib.Core.Path.{_≡_, refl, sym, ap, ap₂, _∙_}
 use mathlib.Core.List.{[]}
-use Prim.Native.Nat.{ℕ}
 use borrow.Author.Needs.{needs}
 use lib.ListN.{length}
 use Rattle.sha256.specs.Sha256.{sha256}

@@ -1,7 +1,6 @@
 -- `party::Party::open_by_sender` meets its contract: a refusal, the opening of a party that sends nothing, or that of the sender, whose packet stands at the start
 -- of the buffer. Assumes nothing.
-use mathlib.Core.Path.{_≡_, refl, sym, ap, ap₂, _∙_}
-use mathlib.Core.Logic.{_≢_}
+use mathlib.Core.Path.{_≡_, sym, ap, ap₂, _∙_}
 use mathlib.Core.List.{List, []}
 use Prim.Native.Nat.{ℕ, _+_, _≤_}
 use native.Mathlib.Omega.{arith}

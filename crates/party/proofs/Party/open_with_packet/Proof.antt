@@ -1,13 +1,13 @@
 -- `party::Party::open_with_packet` meets its contract: the message that is read lies behind the head of the packet, and where none is read there is none to
 -- open with. Assumes nothing.
-use mathlib.Core.Path.{_≡_, refl, sym, ap, _∙_}
-use mathlib.Core.List.{List, []}
-use Prim.Native.Nat.{ℕ, _+_, _-_, _≤_}
+use mathlib.Core.Path.{_≡_, sym, ap, _∙_}
+use mathlib.Core.List.{List}
+use Prim.Native.Nat.{ℕ, _+_, _-_}
 use native.Mathlib.Omega.{arith}
 use lib.ListN.{length, take, drop, length-drop}
 use lib.Seq.{take-all}
 use Rattle.sha256.specs.Sha256.{sha256}
-use Rattle.packet.specs.Message.{Reading, message, readMessage, placed, Told}
+use Rattle.packet.specs.Message.{message, readMessage, placed, Told}
 use Rattle.packet.proofs.Messages.{whole-of, placed-message}
 use Rattle.party.specs.Steps.{openOf}
 use Rattle.party.specs.Sender.{messageRead}

@@ -1,13 +1,11 @@
 -- `party::Party::sender_cause` meets its contract: causes 1 to 3 of the own number are those of an opening without a message, and only the sender's own
 -- message can be too long. Assumes nothing.
 use mathlib.Core.Path.{_≡_, sym, ap, _∙_}
-use mathlib.Core.Bool.{Bool, true}
-use mathlib.Core.List.{List}
-use Prim.Native.Nat.{ℕ, _≤_}
+use mathlib.Core.Bool.{true}
 use native.Mathlib.Omega.{arith}
 use borrow.Author.Tests.{not-false}
 use lib.ListN.{length}
-use Rattle.limits.specs.Limits.{maxMessage, numbered}
+use Rattle.limits.specs.Limits.{numbered}
 use Rattle.limits.proofs.Booleans.{denied}
 use Rattle.commitment.specs.Commitment.{openCause}
 use Rattle.party.proofs.Sender.{cause-seat, cause-number, cause-long, cause-none, sender-message, other-message, read-short}
