@@ -48,7 +48,8 @@
 extern "C" {
 #endif
 
-/* The version of this header, and as one number, which cipangohu_version gives of the library. New in 2.2: cipangohu_open_by_sender, cipangohu_read_message.
+/* The version of this header, and as one number, which cipangohu_version gives of the library. New in 2.2: cipangohu_open_by_sender, cipangohu_read_message,
+ * cipangohu_packet_message, CIPANGOHU_MESSAGE_PACKET.
  * New in 2.1: step 5 takes a message that it rebuilt only under the agreed root; cipangohu_rebuild_with_root; cause 15. */
 #define CIPANGOHU_VERSION_MAJOR 2
 #define CIPANGOHU_VERSION_MINOR 2
@@ -141,7 +142,7 @@ typedef char cipangohu_size_has_8_bytes[sizeof(size_t) == 8 ? 1 : -1];
 CIPANGOHU_MUST_USE cipangohu_answer cipangohu_open(size_t n, size_t t, size_t own, const uint8_t *message, size_t message_len,
                                                    uint8_t *state, size_t state_len, uint8_t *root, size_t root_len);
 
-/* Step 1 by a named sender, the same for all good parties. State and root are what cipangohu_open writes for the message that the party opens with, and all
+/* Step 1 by a named sender; all good parties name the same one. State and root are what cipangohu_open writes for the message that the party opens with, and all
  * later steps are as they are after it.
  *     The sender itself (own is sender) hands in its message as bytes. The packet for all others is written to out, the same for each of them; there is none
  * with n 1. CIPANGOHU_MESSAGE_PACKET is room for any.

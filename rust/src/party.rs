@@ -94,7 +94,7 @@ impl Party {
     /// let mut out = [0; MAX_MESSAGE_PACKET];
     /// let (_, root, length) = Party::open_as_sender(3, 1, 2, b"AB", &mut out)?;
     /// let packet = &out[..length];
-    /// // Party 1 gets the packet, party 3 the half of it, which opens it with the empty message.
+    /// // Party 1 gets the packet, party 3 only its first two bytes, and so it opens with the empty message.
     /// let (_, first) = Party::open_from_sender(3, 1, 1, 2, packet)?;
     /// let (_, third) = Party::open_from_sender(3, 1, 3, 2, &packet[..2])?;
     /// assert_eq!(first, root);

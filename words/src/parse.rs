@@ -18,7 +18,7 @@ use crate::phrases;
 const KEYWORDS: [&str; 2] = ["box", "hex"];
 
 const BOOK_EXPECTED: &str = "a book: its name, a text in quotes, or 'hex' and digits";
-const STATEMENTS: &str = "'sender', 'root', 'bit', 'book', 'box', 'sender's exchange', \
+const STATEMENTS: &str = "'sender', 'root', 'bit', 'book', 'box', \"sender's exchange\", \
     'first exchange', 'second exchange', 'options', 'behind', 'cut by' or a sender's number";
 
 pub fn parse(text: &str) -> Result<Draft, Error> {
@@ -234,7 +234,7 @@ impl Reader {
 
     fn exchange(&mut self, line: &mut Line, round: Round) -> Result<(), Error> {
         let name = phrases::name(round);
-        self.once(format!("'{name} exchange'"), line)?;
+        self.once(phrases::quoted(round).to_string(), line)?;
         line.expect(name)?;
         line.expect("exchange")?;
         if round == Round::Sender {
@@ -255,7 +255,7 @@ impl Reader {
         }
         Err(line.error(match self.draft.is_good(sender) {
             true => format!(
-                "box {sender} is good and gives its book to all; 'sender's exchange' is for a \
+                "box {sender} is good and gives its book to all; \"sender's exchange\" is for a \
                  bad sender"
             ),
             false => format!("no line above says that box {sender} is bad"),

@@ -6,6 +6,15 @@ use foreign::sha256::{hex, Hash};
 /// The exchanges of shares.
 pub const EXCHANGES: [Round; 2] = [Round::First, Round::Second];
 
+/// The line above an exchange, quoted.
+pub fn quoted(round: Round) -> &'static str {
+    match round {
+        Round::Sender => "\"sender's exchange\"",
+        Round::First => "'first exchange'",
+        Round::Second => "'second exchange'",
+    }
+}
+
 /// What an exchange is called.
 pub fn name(round: Round) -> &'static str {
     match round {

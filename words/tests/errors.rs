@@ -76,12 +76,12 @@ fn the_first_lines() {
 const STATEMENTS: &Cases = &[
     (
         "boxes 3",
-        "expected 'sender', 'root', 'bit', 'book', 'box', 'sender's exchange', 'first exchange', \
+        "expected 'sender', 'root', 'bit', 'book', 'box', \"sender's exchange\", 'first exchange', \
              'second exchange', 'options', 'behind', 'cut by' or a sender's number, found 'boxes'",
     ),
     (
         ": 3",
-        "expected 'sender', 'root', 'bit', 'book', 'box', 'sender's exchange', 'first exchange', \
+        "expected 'sender', 'root', 'bit', 'book', 'box', \"sender's exchange\", 'first exchange', \
              'second exchange', 'options', 'behind', 'cut by' or a sender's number, found ':'",
     ),
     ("first round", "expected 'exchange', found 'round'"),
@@ -301,7 +301,7 @@ fn sendings() {
         "line 6: ",
         &[(
             "3 to 1: empty",
-            "'sender's exchange', 'first exchange' or 'second exchange' must stand above",
+            "\"sender's exchange\", 'first exchange' or 'second exchange' must stand above",
         )],
     );
     check(&format!("{SOUND}first exchange\n"), "line 7: ", SENDINGS);
@@ -425,7 +425,7 @@ const BY_GOOD: &Cases = &[
     ("root of box 2", "no line above says what box 2 has"),
     (
         "sender's exchange",
-        "box 3 is good and gives its book to all; 'sender's exchange' is for a bad sender",
+        "box 3 is good and gives its book to all; \"sender's exchange\" is for a bad sender",
     ),
 ];
 
@@ -435,7 +435,7 @@ const BAD_SENDER: &str = "boxes 3\nlimit 1\nsender 3\nbook A \"AB\"\nbox 3 is ba
 const BY_BAD: &Cases = &[
     (
         "sender's exchange\nsender's exchange",
-        "line 8: 'sender's exchange' stands in line 7 already",
+        "line 8: \"sender's exchange\" stands in line 7 already",
     ),
     (
         "sender's exchange\n1 to 2: empty",

@@ -16,7 +16,7 @@ impl Reader {
     pub(super) fn sending(&mut self, line: &mut Line) -> Result<(), Error> {
         let Some(round) = self.round else {
             return Err(line.error(
-                "'sender's exchange', 'first exchange' or 'second exchange' must stand above",
+                "\"sender's exchange\", 'first exchange' or 'second exchange' must stand above",
             ));
         };
         let sender = line.number("a sender", 0..=255)?;
