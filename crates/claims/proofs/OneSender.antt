@@ -18,7 +18,7 @@ use Rattle.buffer.proofs.Given.{written-done}
 use Rattle.buffer.proofs.Splice.{take-spliced}
 use Rattle.sha256.specs.Sha256.{sha256}
 use Rattle.packet.specs.Message.{messagePacket, readMessage, unreadable as nothingRead}
-use Rattle.packet.proofs.Messages.{message-read, read-message, read-length, message-no-share}
+use Rattle.packet.proofs.Messages.{read-other, message-read, read-message, read-length, message-no-share}
 use Rattle.party.specs.State.{Result, settled, resultIn}
 use Rattle.party.specs.Steps.{openOf, refusedOpening}
 use Rattle.party.specs.Sender.{messageBy, packetBy, senderCause, Begun, openBySenderOf}
@@ -37,7 +37,7 @@ use Rattle.state_bytes.specs.Layout.{stateLength, stateBytes, stateOf}
 use Rattle.capi.specs.Calls.{packed, Replies, Opens, opens, openBySenderCall}
 use Rattle.capi.proofs.Answers.{open-done, sender-refused, sender-state, sender-root, sender-short, sender-done}
 use Rattle.capi.proofs.Kept.{open-kept, calls-kept}
-use Rattle.claims.specs.Terms.{Act, when, foremost, groupThen, Box, actOf, partyBox, Opener, openerParty, SenderHost, openerHost, openerOf}
+use Rattle.claims.specs.Terms.{Act, when, foremost, groupThen, Box, actOf, partyBox, OpenedBox, openerParty, SenderHost, openerHost, openerOf}
 use Rattle.claims.specs.Claims.{Sitting, OneResult, bytesSent}
 use Rattle.claims.specs.OneSender.{OpensBySender, SenderSitting, bytesInAll, SendersBook, AllSettle, OneSendsAllSettle}
 use Rattle.claims.proofs.Parties.{view, premises, bytes, conclusions}
@@ -100,7 +100,7 @@ module _ (n t own q : ℕ) (bs out : List ℕ) where
   last false false false false false true = refl
   last false false false false false false = refl
 
-  opening-told : OpensBySender n t own q bs out m p r
+  opening-told : OpensBySender n t own q out m p r
   opening-told =
       record {
         cause = cause-is ∙ ap (λ (g : ℕ). cond (eqb g 0) (when 9 (ltb (length out) (length p))) g) listed
@@ -149,15 +149,15 @@ module _ (n t : ℕ) (good : List Begins) (q : ℕ) (z : List ℕ) (bit : ℕ) (
   abbrev ones : List Good
   ones = map partyIn good
 
-  abbrev boxesOf : List Opener → List Box
-  boxesOf = map (λ (A : Opener). A .box)
+  abbrev boxesOf : List OpenedBox → List Box
+  boxesOf = map (λ (A : OpenedBox). A .box)
 
   opened : (A : Begins) → List·Memᴰ A good → openerParty n t A .box .cause ≡ 0
-  opened A h = P .sitting .opened (openerParty n t A .box) (in-map (λ (B : Opener). B .box) (in-map (openerParty n t) h)) .0
+  opened A h = P .sitting .opened (openerParty n t A .box) (in-map (λ (B : OpenedBox). B .box) (in-map (openerParty n t) h)) .0
 
   same : boxesOf (map (openerParty n t) good) ≡ map (partyBox n t) ones
   same =
-      map-map (openerParty n t) (λ (B : Opener). B .box) good
+      map-map (openerParty n t) (λ (B : OpenedBox). B .box) good
       ∙ map-same (λ (A : Begins). openerParty n t A .box) (λ (A : Begins). partyBox n t (partyIn A)) good (λ A h. party-same n t A (opened A h))
       ∙ sym (map-map partyIn (partyBox n t) good)
 
@@ -190,7 +190,7 @@ module _ (n t : ℕ) (good : List Begins) (q : ℕ) (z : List ℕ) (bit : ℕ) (
   bytes-same : bytesInAll n t (map (openerParty n t) good) q z bit ≡ sentInAll sha256 n t good
   bytes-same =
       ap₂ (λ (a b : ℕ). a + b)
-      (sum-map (openerParty n t) (λ (A : Opener). (n - 1) * length (A .packet)) (λ (A : Begins). (n - 1) * length (gave sha256 n t good A)) (λ A. refl) good)
+      (sum-map (openerParty n t) (λ (A : OpenedBox). (n - 1) * length (A .packet)) (λ (A : Begins). (n - 1) * length (gave sha256 n t good A)) (λ A. refl) good)
       later-same
 
   parties-settle : (R : Result) × SendersBook n t (map (openerParty n t) good) q z bit R
@@ -201,7 +201,7 @@ module _ (n t : ℕ) (good : List Begins) (q : ℕ) (z : List ℕ) (bit : ℕ) (
         R,
         record {
           one = subst (λ (l : List Box). OneResult n t l z bit R) (sym same) (conclusions n t ones z bit sits R (S .agreed));
-          senders = all-map (openerParty n t) (λ (B : Opener). B .box .own ≡ q → R ≡ settled (B .handed)) good (S .senders);
+          senders = all-map (openerParty n t) (λ (B : OpenedBox). B .box .own ≡ q → R ≡ settled (B .handed)) good (S .senders);
           bound = λ m e. rw (bytes-same, length-map good (openerParty n t)) (S .bound m e);
           bad-sender = λ d. bytes-same ∙ S .bound-bad (λ A h. d (openerParty n t A) (in-map (openerParty n t) h)) ∙ sym later-same;
         },
@@ -283,7 +283,7 @@ module _ (n t : ℕ) (h : SenderHost) where
     where
       openers : {i j : ℕ} {x y : List ℕ} {k l : ℕ} {z u : List ℕ} {as1 as2 : List Act} {q r : Option Result} {ss ts : List (List ℕ)} {p o : List ℕ} → k ≡ l
           → z ≡ u → as1 ≡ as2 → q ≡ r → p ≡ o
-          → _≡_ {A = Opener}
+          → _≡_ {A = OpenedBox}
           (record {
             box = record { own = i; book = x; cause = k; root = z; acts = as1; result = q; openedAndChecked = ss; recoded = ts };
             sender = j;
@@ -310,17 +310,16 @@ either-same n t (inr h) e = host-same n t h e
 all-settle : AllSettle openerOf
 all-settle n t good q z bit P =
     let opened : (g : Begins ⊎ SenderHost) → List·Memᴰ g good → openerOf n t g .box .cause ≡ 0 =
-    (λ g i. P .sitting .opened (openerOf n t g .box) (in-map (λ (B : Opener). B .box) (in-map (openerOf n t) i)) .0) in
+    (λ g i. P .sitting .opened (openerOf n t g .box) (in-map (λ (B : OpenedBox). B .box) (in-map (openerOf n t) i)) .0) in
     let same : map (openerOf n t) good ≡ map (openerParty n t) (map begins good) =
     map-same (openerOf n t) (λ (g : Begins ⊎ SenderHost). openerParty n t (begins g)) good (λ g i. either-same n t g (opened g i))
     ∙ sym (map-map begins (openerParty n t) good) in
-    subst (λ (l : List Opener). (R : Result) × SendersBook n t l q z bit R) (sym same)
-    (parties-settle n t (map begins good) q z bit (subst (λ (l : List Opener). SenderSitting n t l q z bit) same P))
+    subst (λ (l : List OpenedBox). (R : Result) × SendersBook n t l q z bit R) (sym same)
+    (parties-settle n t (map begins good) q z bit (subst (λ (l : List OpenedBox). SenderSitting n t l q z bit) same P))
 
--- no other map is a book's
+-- a packet of map 7, a share's, is not read as a book's
 no-book : (r : List ℕ) → readMessage (0x07 ∷ r) ≡ nothingRead
-unfolding readMessage
-no-book r = rw (ne-eqb (length (0x07 ∷ r)) 0 (λ e. omega arith))
+no-book r = read-other (0x07 ∷ r) (omega arith) (λ e. omega arith) (λ e. omega arith)
 
 pub one-sends-all-settle : OneSendsAllSettle
 unfolding messagePacket

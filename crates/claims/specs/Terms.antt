@@ -1,5 +1,5 @@
 -- The words of the claims: causes in their order, what a step is lent and has to do, and what is told of a good box, be it a party with its states or a
--- host of the C interface with bytes. Assumes nothing.
+-- host of the C interface with bytes, opened with its own book or by a named sender. Assumes nothing.
 use mathlib.Core.Path.{_≡_}
 use mathlib.Core.Bool.{Bool, true, false, cond, not, _||_}
 use mathlib.Core.List.{List, [], _∷_, _++_, map, List·Memᴰ}
@@ -275,18 +275,18 @@ pub record NothingMore (n : ℕ) (before after : Box) : Type 0 where
   pub hashed : (after .openedAndChecked ≡ before .openedAndChecked) × (after .recoded ≡ before .recoded)
 
 -- the packet of a book that is sent whole
-abbrev pub packetOf : List ℕ → List ℕ
-packetOf m = 0x08 ∷ length m / 256 ∷ length m % 256 ∷ m
+abbrev pub bookPacket : List ℕ → List ℕ
+bookPacket m = 0x08 ∷ length m / 256 ∷ length m % 256 ∷ m
 
 -- a good box that opened by a named sender: as a box, with the book that it opened with; the sender that it named, what it was handed, and the packet that it wrote
-pub record Opener : Type 0 where
+pub record OpenedBox : Type 0 where
   pub box : Box
   pub sender : ℕ
   pub handed : List ℕ
   pub packet : List ℕ
 
 -- a party; its calls are on the state that this opening gave
-abbrev pub openerParty : ℕ → ℕ → Begins → Opener
+abbrev pub openerParty : ℕ → ℕ → Begins → OpenedBox
 openerParty n t A =
     let m = messageBy (A .own) (A .sender) (A .bytes) in
     let r = openBySenderOf sha256 n t (A .own) (A .sender) (A .bytes) (A .out) in
@@ -316,7 +316,7 @@ pub record SenderHost : Type 0 where
   pub packetRoom : List ℕ
   pub calls : List Call
 
-abbrev pub openerHost : ℕ → ℕ → SenderHost → Opener
+abbrev pub openerHost : ℕ → ℕ → SenderHost → OpenedBox
 openerHost n t h =
     let m = messageBy (h .own) (h .sender) (h .handed) in
     let r = openBySenderCall sha256 n t (h .own) (h .sender) (h .handed) (h .stateRoom) (h .rootRoom) (h .packetRoom) in
@@ -337,6 +337,6 @@ openerHost n t h =
     }
 
 -- either
-abbrev pub openerOf : ℕ → ℕ → Begins ⊎ SenderHost → Opener
+abbrev pub openerOf : ℕ → ℕ → Begins ⊎ SenderHost → OpenedBox
 openerOf n t (inl A) = openerParty n t A
 openerOf n t (inr h) = openerHost n t h

@@ -36,7 +36,7 @@ packet-bytes m small short (suc zero) = omega arith
 packet-bytes m small short (suc (suc zero)) = omega arith
 packet-bytes m small short (suc (suc (suc i))) = small i
 
--- the stated length is that of an entry without the map
+-- the stated length is what the bytes behind the map say as an entry's length
 pub length-at : (p : List ℕ) → lengthIn p ≡ size (drop 1 p)
 length-at p = sym (size-drop 1 p)
 

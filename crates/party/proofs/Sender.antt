@@ -37,7 +37,7 @@ module _ (bs : List ℕ) where
       go unreadable e = omega arith
       go (message m) e = read-length bs m e
 
-  pub read-bytes : Bytes bs → Bytes (messageRead (readMessage bs))
+  read-bytes : Bytes bs → Bytes (messageRead (readMessage bs))
   read-bytes h = go (readMessage bs) refl
     where
       go : (r : Reading) → readMessage bs ≡ r → Bytes (messageRead r)
@@ -213,7 +213,7 @@ module _ (n t own sender : ℕ) (bs : List ℕ) where
           let f = accepted-fits accepted in
           ap (λ (r : Begun). take (r .value) (r .buffer)) (begun-given (f .0) (f .1)) ∙ take-spliced out packet
 
-    -- whatever comes of it, the length that it tells is none of a longer packet than any
+    -- whatever comes of it, the length that it tells is at most that of the longest packet
     pub value-fits : openBySenderOf H n t own sender bs out .value ≤ maxMessagePacket
     value-fits = elim (ℕ-discrete (senderCause n t own sender bs) 0) [
       | yes f ↦ elim (decLt (length out) (length packet)) [

@@ -155,35 +155,20 @@ impl Party {
     {
         let cause = Party::sender_cause(n, t, own, sender, bytes);
         if cause != 0 {
-            return OpenedBySender {
-                opened: refused_opening(cause),
-                len: 0,
-            };
+            return begun(refused_opening(cause), 0);
         }
         if own != sender {
-            return OpenedBySender {
-                opened: Party::open_with_packet(n, t, own, bytes),
-                len: 0,
-            };
+            return begun(Party::open_with_packet(n, t, own, bytes), 0);
         }
         if n == 1 {
-            return OpenedBySender {
-                opened: Party::open(n, t, own, bytes),
-                len: 0,
-            };
+            return begun(Party::open(n, t, own, bytes), 0);
         }
         let answer = packet::write_message(bytes, out);
         let len = buffer::value_of(answer);
         let Written::Done(_) = answer else {
-            return OpenedBySender {
-                opened: refused_opening(9),
-                len,
-            };
+            return begun(refused_opening(9), len);
         };
-        OpenedBySender {
-            opened: Party::open(n, t, own, bytes),
-            len,
-        }
+        begun(Party::open(n, t, own, bytes), len)
     }
 
     // Why an opening by a named sender is refused before any buffer is looked at: cause 1, 2, 3 or 4, or 0.
@@ -676,6 +661,12 @@ fn refused_opening(cause: u8) -> Opened
         cause,
         root: [0; 32],
     }
+}
+
+fn begun(opened: Opened, len: usize) -> OpenedBySender
+    ensures { λ r. ⌜ r ≡ record { opened = opened; len = len } ⌝ }
+{
+    OpenedBySender { opened, len }
 }
 
 fn turn_of(stage: Stage) -> usize

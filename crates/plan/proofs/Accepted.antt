@@ -1,4 +1,4 @@
--- What holds of a plan that is taken: n and t are within their limits, the fields of options are there, and no book is over its limit. By the tests
+-- What holds of a plan that is taken: n and t are within their limits, the fields of options are there, a sender is one of the parties, and no book is over its limit. By the tests
 -- of the definitions, and by induction along the parties. Assumes nothing.
 use mathlib.Core.Path.{_≡_, refl, sym, ap, subst, _∙_}
 use mathlib.Core.Bool.{Bool, true, false, cond, not, _&&_, _||_, true≢false, false≢true}

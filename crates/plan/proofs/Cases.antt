@@ -61,7 +61,7 @@ unfolding parties groupCause size rest skipEntry skipBlock every numbered holder
 bad-receiver = refl
 
 -- the same parties, and one of them sends: party 2, which is good and alone has a book; party 3, which is bad and gives party 1 a packet; and numbers that none
--- has, laid out as a bad sender's
+-- has, laid out as a bad sender's; without that block the layout is wrong
 abbrev sends : ℕ → List ℕ → List ℕ
 sends q r = 0x03 ∷ 0x01 ∷ 0x04 ∷ q ∷ 0x00 ∷ 0x03 ∷ (r ++ (0x00 ∷ 0x00 ∷ 0x00 ∷ 0x00 ∷ []))
 

@@ -1,4 +1,4 @@
--- The outcomes of giving a book, a packet or one of a block: its causes, else its bytes. Assumes nothing.
+-- The outcomes of giving a book, a packet of an exchange or one of a bad sender's block: its causes, else its bytes. Assumes nothing.
 use mathlib.Core.Path.{_≡_}
 use mathlib.Core.Bool.{true, false}
 use mathlib.Core.List.{List}

@@ -13,7 +13,7 @@ use Rattle.limits.proofs.Ranges.{numbered-range}
 use Rattle.plan.specs.Layout.{names, member, only, skipBlock}
 use Rattle.plan.specs.Layout.{mapWidth, andThen, orEmpty, skipEntries, booksFit, fields, nIn, tIn, optionsIn, hasSender, senderIn, goodAt, goodIn, booksIn, walk}
 use Rattle.plan.specs.Layout.{holders, behindBooks, skipSender, exchanges, skipExchanges, exchangeIn, exchangeAt, endOf, laidOut}
-use Rattle.plan.specs.Plan.{planCause, refused, planOf}
+use Rattle.plan.specs.Plan.{planCause, refused, partsOf, planOf}
 use Rattle.plan.specs.Private.{Header, sourceOf, holdersBy, skipSenderBy}
 use Rattle.plan.specs.declared.Plan.{Plan}
 use Rattle.plan.specs.declared.Source.{Source}
@@ -110,7 +110,7 @@ pub record Parts (x : Plan) (s : List ℕ) : Type 0 where
   pub n-is : x .n ≡ nIn s
   pub t-is : x .t ≡ tIn s
   pub options-is : x .options ≡ optionsIn s
-  pub sender-is : x .sender ≡ sourceOf s .number
+  pub sender-is : x .sender ≡ cond (hasSender s) (senderIn s) 0
   pub good-is : x .good ≡ goodIn s
   pub holders-is : x .holders ≡ holders s
   pub books-is : x .books ≡ goodAt s + mapWidth
@@ -118,18 +118,7 @@ pub record Parts (x : Plan) (s : List ℕ) : Type 0 where
   pub exchanges-is : x .exchanges ≡ exchangeAt 0 s
 
 parts-same : (x : Plan) (s : List ℕ) → x .cause ≡ 0 → Parts x s
-    → x ≡ record {
-      cause = 0;
-      n = nIn s;
-      t = tIn s;
-      options = optionsIn s;
-      sender = sourceOf s .number;
-      good = goodIn s;
-      holders = holders s;
-      books = goodAt s + mapWidth;
-      packets = length s - length (behindBooks s);
-      exchanges = exchangeAt 0 s;
-    }
+    → x ≡ partsOf s
 parts-same x s e p =
     go (x .cause) (x .n) (x .t) (x .options) (x .sender) (x .good) (x .holders) (x .books) (x .packets) (x .exchanges) e (p .n-is) (p .t-is) (p .options-is)
     (p .sender-is) (p .good-is) (p .holders-is) (p .books-is) (p .packets-is) (p .exchanges-is)

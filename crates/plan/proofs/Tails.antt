@@ -1,4 +1,4 @@
--- What stands behind a walk stands at the end of the list, so that an exchange is told by where it starts. By induction along the walk. Assumes
+-- What stands behind a walk stands at the end of the list, so that an exchange, and what stands behind the books, is told by where it starts. By induction along the walk. Assumes
 -- nothing.
 use mathlib.Core.Path.{_≡_, refl, sym, ap, _∙_}
 use mathlib.Core.Bool.{Bool, true, false, cond, not, _||_}

@@ -1,6 +1,6 @@
 -- The layout of a plan (document 01, "The rehearsal"): n, t, an option map, the fields of the options that it names, a map of good parties, their
 -- books, and for each exchange the blocks of the bad parties. Where one party sends (document 02, No. 5), its book alone is listed, if it is good; if it is
--- not, its own block stands behind the books. Assumes nothing.
+-- not, no book is, and a block of its own stands before the first exchange. Assumes nothing.
 use mathlib.Core.Bool.{Bool, true, false, cond, not, _&&_, _||_}
 use mathlib.Core.List.{List, [], _∷_}
 use mathlib.Core.Option.{Option, none, some}
@@ -152,14 +152,14 @@ goodIn s = size (drop (goodAt s) s)
 abbrev pub booksIn : List ℕ → List ℕ
 booksIn s = drop (goodAt s + mapWidth) s
 
--- the sender is a good party; it is not, as one whose number is none of the n parties'
+-- there is a sender and it is a good party; there is one and it is not, as where its number is none of the n parties'
 abbrev pub goodSender : List ℕ → Bool
 goodSender s = hasSender s && member (nIn s) (goodIn s) (senderIn s)
 
 abbrev pub badSender : List ℕ → Bool
 badSender s = hasSender s && not (member (nIn s) (goodIn s) (senderIn s))
 
--- the map of those whose books are listed: all good parties, or a good sender alone
+-- the map that names party q alone; and the map of those whose books are listed: all good parties, a good sender alone, or none where the sender is bad
 abbrev pub only : ℕ → ℕ
 only q = 2 ^ (q - 1)
 

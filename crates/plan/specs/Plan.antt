@@ -28,10 +28,9 @@ refused k =
     record { cause = k; n = 0; t = 0; options = 0; sender = 0; good = 0; holders = 0; books = 0; packets = 0; exchanges = 0 }
 
 -- the parts; the books, what stands behind them and the exchanges by where they start
-unfoldable pub planOf : List ℕ → Plan
-planOf s =
-    cond (not (eqb (planCause s) 0)) (refused (planCause s))
-    (record {
+abbrev pub partsOf : List ℕ → Plan
+partsOf s =
+    record {
       cause = 0;
       n = nIn s;
       t = tIn s;
@@ -42,7 +41,10 @@ planOf s =
       books = goodAt s + mapWidth;
       packets = length s - length (behindBooks s);
       exchanges = exchangeAt 0 s;
-    })
+    }
+
+unfoldable pub planOf : List ℕ → Plan
+planOf s = cond (not (eqb (planCause s) 0)) (refused (planCause s)) (partsOf s)
 
 -- the offset of exchange e of a plan with these parts, counted from 0; the end, if one before it is not in order
 unfoldable pub exchangeOf : Plan → ℕ → List ℕ → ℕ

@@ -7,7 +7,7 @@ ghost use lib.ListN.{length, take, drop};
 ghost use Rattle.limits.specs.Limits.{maxParties, numbered};
 ghost use Rattle.buffer.specs.Given.{gave, written};
 ghost use Rattle.plan.specs.Layout.{names, member, within, skipEntry, skipEntries, partyEntry, booksFit, skipBlock, skipBlocks, blockEntry, packetFrom};
-ghost use Rattle.plan.specs.Layout.{fieldAt, nIn, optionsIn, goodAt, goodIn, skipExchanges};
+ghost use Rattle.plan.specs.Layout.{fieldAt, nIn, optionsIn, goodAt, goodIn, holders, skipExchanges};
 ghost use Rattle.plan.specs.Plan.{refused, planOf, bookGiven, packetGiven, blockGiven, exchangeOf};
 ghost use Rattle.plan.specs.Private.{Ends, orEnd, Spans, Header, HeaderEnds, Rest, sourceOf, holdersBy, skipSenderBy, LaidAt};
 use buffer::Written;
@@ -229,7 +229,7 @@ fn parts(plan: &[u8], n: usize, t: usize, books: usize) -> Plan
     let good = buffer::size_at(plan, books - MAP);
     let source = sender_of(plan, options, n, good);
     let holders = holders(source, good);
-    let Behind::At(packets, exchanges) = places(plan, books, n, good, source) else {
+    let Behind::At(packets, exchanges) = places(plan, books, n, good, holders, source) else {
         return refused(13);
     };
     if stray(source, n) {
@@ -304,14 +304,13 @@ fn holders(source: Source, good: usize) -> usize
     map
 }
 
-// Where what follows the books starts, if all is in order and no byte is left over behind the exchanges.
-fn places(plan: &[u8], books: usize, n: usize, good: usize, source: Source) -> Behind
-    requires { ⌜ Header books (now plan) × (n ≡ nIn (now plan)) × (good ≡ goodIn (now plan)) × (source ≡ sourceOf (now plan))
-        × (n ≤ maxParties) ⌝ }
+// Where what follows the books of those that a map names starts, if all is in order and no byte is left over behind the exchanges.
+fn places(plan: &[u8], books: usize, n: usize, good: usize, map: usize, source: Source) -> Behind
+    requires { ⌜ Header books (now plan) × (n ≡ nIn (now plan)) × (good ≡ goodIn (now plan)) × (map ≡ holders (now plan))
+        × (source ≡ sourceOf (now plan)) ⌝ }
     ensures { λ r. ⌜ LaidAt r (now (plan .entry)) ⌝ }
 {
-    let holders = holders(source, good);
-    let Offset::At(packets) = skip_entries(plan, books, n, holders) else {
+    let Offset::At(packets) = skip_entries(plan, books, n, map) else {
         return Behind::Nowhere;
     };
     let Offset::At(exchanges) = skip_sender(plan, packets, n, good, source) else {

@@ -88,12 +88,12 @@ module _ (s : List ℕ) (taken : planCause s ≡ 0) where
           ap (λ (r : Begun). r .opened) (begun-given (nIn s) (tIn s) p (senderIn s) bs H room c
           (omega (arith, packet-fits (nIn s) (tIn s) p (senderIn s) bs c, length-replicate {A = ℕ} maxMessagePacket 0)))
 
-      pub opened-by : (p : ℕ) → 1 ≤ p → p ≤ nIn s
+      opened-by : (p : ℕ) → 1 ≤ p → p ≤ nIn s
           → openedBySender H s p (handedTo H s p) .opened ≡ openOf H (nIn s) (tIn s) p (messageBy p (senderIn s) (handedTo H s p))
       opened-by p one last = begins p (handedTo H s p) one last (handed-short p)
 
       -- what the sender wrote
-      pub wrote-is : senderWrote H s ≡ packetBy (nIn s) (senderIn s) (senderIn s) (bookOf s (senderIn s))
+      wrote-is : senderWrote H s ≡ packetBy (nIn s) (senderIn s) (senderIn s) (bookOf s (senderIn s))
       unfolding senderWrote openedBySender
       wrote-is =
           let q = senderIn s in

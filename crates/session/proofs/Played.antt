@@ -1,6 +1,6 @@
--- A plan that is taken is a session as agreement supposes it: every opening and every step is accepted, the agreed root and bit keep the rule, and
+-- A plan that is taken is a session as agreement supposes it, and where it has a sender one as broadcast does: every opening and every step is accepted, the agreed root and bit keep the rule, and
 -- packets between good parties arrive. So, unless two different strings of their openings and path checks have one hash, all good parties' lines
--- give one result, and the figure after `sent` is the theorem's own sum. By the laws of progress, step by step. Assumes nothing.
+-- give one result, and the figure after `sent` is the theorem's own sum: agreement's, or with a sender broadcast's. By the laws of progress, step by step. Assumes nothing.
 use mathlib.Core.Path.{_≡_, refl, sym, ap, ap₂, _∙_, subst}
 use mathlib.Core.Logic.{_≢_}
 use mathlib.Core.Bool.{Bool, true, false, cond, not, _&&_, _||_, true≢false, false≢true}
@@ -20,7 +20,7 @@ use Rattle.limits.proofs.Group.{group-of}
 use Rattle.limits.proofs.Ranges.{numbered-within}
 use Rattle.packet.specs.Message.{maxMessagePacket}
 use Rattle.party.specs.Sender.{openBySenderOf}
-use Rattle.party.proofs.Sender.{message-bytes as message-bytes-by, other-packet, accepted-wrote}
+use Rattle.party.proofs.Sender.{message-bytes, other-packet, accepted-wrote}
 use Rattle.buffer.specs.Bounds.{Bytes}
 use Rattle.buffer.specs.Splice.{tabulate}
 use Rattle.buffer.specs.Entries.{fills, bodies}
@@ -156,9 +156,6 @@ module _ (H : List ℕ → List ℕ) (wide : (x : List ℕ) → length (H x) ≡
         faults = g .faults;
         short = message-short s (causes .0) H p;
       }
-
-  message-bytes : (p : ℕ) → Bytes (messageOf H s p)
-  message-bytes p = message-small s (causes .0) H bytes p
 
   -- the lowest good party
   few-bad : unnamed n 1 (goodIn s) ≤ t
@@ -526,7 +523,7 @@ module _ (H : List ℕ → List ℕ) (wide : (x : List ℕ) → length (H x) ≡
   premises clean =
       record {
         opened = record {
-          bytes = each (λ A. Bytes (A .message)) (λ q l h g. message-bytes q);
+          bytes = each (λ A. Bytes (A .message)) (λ q l h g. message-small s (causes .0) H bytes q);
           accepted = each (λ A. opening H n t (A .own) (A .message) .cause ≡ 0)
               (λ q l h g. ap (λ (o : Opened). o .cause) (sym (opened-to q l h) ∙ opened-as q l h));
           apart = ap different numbers ∙ apart s n 1;
@@ -594,7 +591,7 @@ module _ (H : List ℕ → List ℕ) (wide : (x : List ℕ) → length (H x) ≡
       go (on g) = rw g (ap (lineWith p) (f p l (omega arith) g))
       go (off g) = rw g
 
-  -- where there is a sender, the session is one of broadcast: each opening by the sender was accepted, and a good sender's packet is handed to all
+  -- where there is a sender, the session is one of broadcast: each opening by the sender was accepted, and a good sender's packet is handed to all others
   module _ (there : hasSender s ≡ true) where
     abbrev q : ℕ
     q = senderIn s
@@ -635,7 +632,7 @@ module _ (H : List ℕ → List ℕ) (wide : (x : List ℕ) → length (H x) ≡
           opened = record {
             accepted = every (λ A. begun H n t (openers H s) A .opened .cause ≡ 0) (λ p l h g. accepted-by p l h);
             named = every (λ A. A .sender ≡ q) (λ p l h g. refl);
-            bytes = every (λ A. Bytes (partyOf A .message)) (λ p l h g. message-bytes-by p (senderIn s) (handedTo H s p) (handed-bytes s (causes .0) H there bytes p));
+            bytes = every (λ A. Bytes (partyOf A .message)) (λ p l h g. message-bytes p (senderIn s) (handedTo H s p) (handed-bytes s (causes .0) H there bytes p));
             delivered = every (λ S. S .own ≡ q → Every H n t (openers H s) (λ A. A .own ≢ q → A .bytes ≡ gave H n t (openers H s) S))
                 (λ i l h g e. every (λ A. A .own ≢ q → A .bytes ≡ gave H n t (openers H s) (opener H s i))
                 (λ p k j f d. handed-good s (causes .0) H p d (good-there i l h g e) ∙ sym (gave-is i e)));

@@ -25,8 +25,8 @@ use Rattle.party.specs.Steps.{openOf, rootCause, withRoot, gives, refused, agre
 use Rattle.party.specs.declared.Party.{Party}
 use Rattle.party.specs.declared.Answer.the-variants.{Happy}
 use Rattle.plan.specs.Layout.{mapWidth, names, member, unnamed, lowest, fieldAt, nIn, tIn, optionsIn, hasRoot, hasBit, rootIn, bitIn, goodAt, goodIn, booksIn}
-use Rattle.plan.specs.Layout.{hasSender, senderIn, goodSender, badSender, holders, behindBooks, blockEntry, senderPacket, exchangeAt, laidOut}
-use Rattle.plan.specs.Plan.{planCause, planOf, bookGiven, blockGiven}
+use Rattle.plan.specs.Layout.{hasSender, senderIn, goodSender, badSender, holders, behindBooks, blockEntry, senderPacket, laidOut}
+use Rattle.plan.specs.Plan.{planCause, partsOf, planOf, bookGiven, blockGiven}
 use Rattle.plan.specs.declared.Plan.{Plan}
 use Rattle.plan.proofs.Maps.{named}
 use Rattle.plan.proofs.Maps as maps
@@ -58,28 +58,13 @@ pub record Known (s : List ℕ) (parts : Plan) : Type 0 where
   pub sender-one : hasSender s ≡ true → (1 ≤ senderIn s) × (senderIn s ≤ nIn s)
   pub short : (q : ℕ) → length (bookOf s q) ≤ maxMessage
 
-abbrev takenPlan : List ℕ → Plan
-takenPlan s =
-    record {
-      cause = 0;
-      n = nIn s;
-      t = tIn s;
-      options = optionsIn s;
-      sender = cond (hasSender s) (senderIn s) 0;
-      good = goodIn s;
-      holders = holders s;
-      books = goodAt s + mapWidth;
-      packets = length s - length (behindBooks s);
-      exchanges = exchangeAt 0 s;
-    }
-
-plan-is : (s : List ℕ) → planCause s ≡ 0 → planOf s ≡ takenPlan s
+plan-is : (s : List ℕ) → planCause s ≡ 0 → planOf s ≡ partsOf s
 unfolding planOf
 plan-is s e = rw e
 
 pub known : (s : List ℕ) (parts : Plan) → Ready s parts → Known s parts
 known s parts r =
-    let e : parts ≡ takenPlan s = r .read ∙ plan-is s (r .taken) in
+    let e : parts ≡ partsOf s = r .read ∙ plan-is s (r .taken) in
     let a = accepted s (r .taken) in
     let g = group-of (nIn s) (tIn s) (a .group) in
     record {

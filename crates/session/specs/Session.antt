@@ -145,7 +145,8 @@ module _ (H : List ℕ → List ℕ) (s : List ℕ) where
   unfoldable pub endsWith : ℕ → Result
   endsWith p = cond (eqb agreedBit 0) nothing (orNothing (step5 p .result))
 
-  -- the bytes that party p sent: as the sender, its packet to the n - 1 others; and from step 3 on its packets, and its relay to them
+  -- the packet that party p gives to each other one, if it is the sender; the bytes that it sent from step 3 on, its packets and its relay to the n - 1 others;
+  -- and all that it sent
   abbrev pub givenBy : ℕ → List ℕ
   givenBy p = cond (hasSender s && eqb p (senderIn s)) senderWrote []
 

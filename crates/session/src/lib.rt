@@ -374,7 +374,7 @@ fn sender_wrote(bytes: &[u8], parts: Plan, out: &mut [u8]) -> usize
     size
 }
 
-// The bytes of the packet that party q gives to each other one in its opening.
+// The length of the packet that party q gives to each other one in its opening; 0 where it gives none.
 fn given(bytes: &[u8], parts: Plan, q: usize) -> usize
     requires { ⌜ Ready (now bytes) parts ⌝ }
     ensures { λ r. ⌜ (r ≤ maxMessagePacket) × (r ≡ length (givenBy sha256 (now (bytes .entry)) q)) ⌝ }
@@ -397,7 +397,7 @@ fn book(bytes: &[u8], parts: Plan, q: usize, out: &mut [u8]) -> usize
     buffer::value_of(plan::book(&bytes[from..], parts.n, parts.holders, q, out))
 }
 
-// Room for a book or any packet of a plan, in a function of its own: its callers' proofs then meet its length and not its bytes.
+// Room for what an opening by the sender is handed, a book or any packet, in a function of its own: its callers' proofs then meet its length and not its bytes.
 fn blank_packet() -> [u8; MAX_PLAN]
     ensures { λ r. ⌜ length r ≡ maxPlan ⌝ }
 {

@@ -1,4 +1,4 @@
--- `plan::holders` meets its contract: after p turns the map names party p + 1 alone. Assumes nothing.
+-- `plan::holders` meets its contract: at every turn the map names party p alone. Assumes nothing.
 use mathlib.Core.Path.{_≡_, refl, ap, _∙_}
 use Prim.Native.Nat.{ℕ, _+_, _-_, _*_, _^_, _≤_, _<_}
 use native.Mathlib.Decide.{decLt}
@@ -23,7 +23,7 @@ last number p a b h = elim (decLt number 1) [
   | no d ↦ omega (arith, b (omega arith))
 ]
 
--- the sender's number is that of a party
+-- the party that the map names is no higher than the greatest number of parties
 few : (c : tie.In-loop Inv-loop μ-loop) → c .before .loop .p ≤ maxParties
 few c =
     let i = c .before .before in

@@ -106,7 +106,7 @@ places-requires : tie.Need-places-requires
 places-requires c κs =
     let z = Sized c in
     let p = Entry z .pre in
-    (p .header, p .n-is, good-is z, source-is (c .before), omega (arith, p .n-is, few z))
+    (p .header, p .n-is, good-is z, held c, source-is (c .before))
 
 enum-known-packets : tie.Need-enum-known-packets
 enum-known-packets c = search needs

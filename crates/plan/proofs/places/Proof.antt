@@ -8,24 +8,24 @@ use borrow.Author.Tests.{eq-eqb, ne-eqb}
 use lib.Dec.{eqb}
 use lib.ListN.{length, drop, length-drop}
 use Rattle.plan.specs.Layout.{skipEntries, nIn, goodIn, booksIn, holders, skipSender, exchanges, skipExchanges, laidOut}
-use Rattle.plan.specs.Private.{Ends, holdersBy, skipSenderBy}
+use Rattle.plan.specs.Private.{Ends, skipSenderBy}
 use Rattle.plan.specs.declared.Offset.{Offset}
 use Rattle.plan.specs.declared.Offset.the-variants.{Nowhere, At}
 use Rattle.plan.specs.declared.Source.{Source}
-use Rattle.plan.proofs.Reading.{books-none, behind-is, sender-none, first-is, end-none, end-at, offset-of, holders-source, sender-source, source-few}
+use Rattle.plan.proofs.Reading.{books-none, behind-is, sender-none, first-is, end-none, end-at, offset-of, sender-source}
 use borrow.Author.Needs.{needs}
 use Rattle.plan.proofs.places.Statement.{statement}
 use Rattle.plan.proofs.places.Tie as tie
 
 -- the names of the source
-abbrev Entry : tie.After-holders → tie.Start
+abbrev Entry : tie.After-skip-entries → tie.Start
 Entry c = c .before .before
 
-abbrev S : tie.After-holders → List ℕ
+abbrev S : tie.After-skip-entries → List ℕ
 S c = Entry c .args .plan .now
 
-abbrev Held : tie.After-packets → tie.After-holders
-Held k = k .before .before .before
+abbrev Held : tie.After-packets → tie.After-skip-entries
+Held k = k .before .before
 
 abbrev Packets : tie.After-packets → ℕ
 Packets k = k .packets .given .0 .0
@@ -42,25 +42,18 @@ Firsts k = k .before .before .before .before
 abbrev End : tie.After-end → ℕ
 End k = k .end .given .0 .0
 
--- whose books are listed
-held : (c : tie.After-holders) → c .holders .result ≡ holders (S c)
-held c =
-    let p = Entry c .pre in
-    c .holders .ensures ∙ ap₂ holdersBy (p .3) (p .2) ∙ sym (holders-source (S c))
-
 -- the answers of the walks
-entries-are : (c : tie.After-skip-entries) → let z = c .before in (q : Offset) → c .skip-entries .result ≡ q
-    → Ends q (skipEntries (nIn (S z)) (holders (S z)) (booksIn (S z))) (S z)
+entries-are : (c : tie.After-skip-entries) (q : Offset) → c .skip-entries .result ≡ q
+    → Ends q (skipEntries (nIn (S c)) (holders (S c)) (booksIn (S c))) (S c)
 entries-are c q e =
-    let z = c .before in
-    let p = Entry z .pre in
-    subst₂ (λ (r : Offset) (o : Option (List ℕ)). Ends r o (S z)) e
-    (ap₂ (λ (n k : ℕ). skipEntries n (z .holders .result) (drop k (S z))) (p .1) (p .0 .there)
-    ∙ ap (λ (h : ℕ). skipEntries (nIn (S z)) h (booksIn (S z))) (held z)) (c .skip-entries .ensures)
+    let p = Entry c .pre in
+    subst₂ (λ (r : Offset) (o : Option (List ℕ)). Ends r o (S c)) e
+    (ap₂ (λ (n k : ℕ). skipEntries n (Entry c .args .map) (drop k (S c))) (p .1) (p .0 .there)
+    ∙ ap (λ (h : ℕ). skipEntries (nIn (S c)) h (booksIn (S c))) (p .3)) (c .skip-entries .ensures)
 
 packets-at : (k : tie.After-packets) → let s = S (Held k) in
     (skipEntries (nIn s) (holders s) (booksIn s) ≡ some (drop (Packets k) s)) × (Packets k ≤ length s)
-packets-at k = entries-are (k .before .before) (At (Packets k)) (k .packets .given .1)
+packets-at k = entries-are (Held k) (At (Packets k)) (k .packets .given .1)
 
 sender-is : (c : tie.After-skip-sender) → let k = c .before .before in let s = S (Held k) in (q : Offset) → c .skip-sender .result ≡ q
     → Ends q (skipSender s (drop (Packets k) s)) s
@@ -70,7 +63,7 @@ sender-is c q e =
     let p = Entry z .pre in
     subst₂ (λ (r : Offset) (o : Option (List ℕ)). Ends r o (S z)) e
     (ap₂ (λ (n g : ℕ). skipSenderBy (Entry z .args .source) n g (drop (Packets k) (S z))) (p .1) (p .2)
-    ∙ ap (λ (x : Source). skipSenderBy x (nIn (S z)) (goodIn (S z)) (drop (Packets k) (S z))) (p .3)
+    ∙ ap (λ (x : Source). skipSenderBy x (nIn (S z)) (goodIn (S z)) (drop (Packets k) (S z))) (p .4)
     ∙ sym (sender-source (S z) (drop (Packets k) (S z)))) (c .skip-sender .ensures)
 
 first-at : (k : tie.After-exchanges) → let s = S (Held (Behind k)) in
@@ -99,9 +92,6 @@ laid-is k =
     end-at (Entry z .args .books) (S z) (Entry z .pre .0) (drop (Packets b) (S z)) (packets-at b .0) (drop (First f) (S z)) (first-at f .0)
     (drop (End k) (S z)) (ends-at k .0)
 
-holders-requires : tie.Need-holders-requires
-holders-requires c κs = let p = c .before .pre in λ h. source-few (c .before .args .plan .now) _ (p .3) (omega (arith, p .1, p .4)) h
-
 skip-entries-requires : tie.Need-skip-entries-requires
 skip-entries-requires c κs = search needs
 
@@ -113,9 +103,8 @@ enum-told c = search needs
 
 returns : tie.Need-returns
 returns c =
-    let b = c .before .before in
-    let z = b .before in
-    books-none (Entry z .args .books) (S z) (Entry z .pre .0) (entries-are b Nowhere (c .enum-told .given .1))
+    let z = c .before .before in
+    books-none (Entry z .args .books) (S z) (Entry z .pre .0) (entries-are z Nowhere (c .enum-told .given .1))
 
 skip-sender-requires : tie.Need-skip-sender-requires
 skip-sender-requires c κs = packets-at (c .before) .1
@@ -176,7 +165,6 @@ pub places-spec : {M : Type 1} → statement M
 places-spec =
     tie.close
     (tie.spec
-    holders-requires
     skip-entries-requires
     enum-known-packets
     enum-told

@@ -15,6 +15,7 @@ use Rattle.commitment.proofs.Opening.{open-bounds}
 use Rattle.party.specs.Steps.{refusedOpening, openOf}
 use Rattle.party.specs.Sender.{messageBy, packetBy, senderCause, Begun, begun, openBySenderOf}
 use Rattle.party.specs.declared.Opened.{Opened}
+use Rattle.party.specs.declared.OpenedBySender.{OpenedBySender}
 use Rattle.party.proofs.Sender.{sender-message, other-message, sender-packet, alone-packet, other-packet, cause-bounds}
 use Rattle.party.proofs.Sender.{begun-refused, begun-short, begun-given, begun-silent}
 use borrow.Author.Needs.{needs}
@@ -66,38 +67,53 @@ sender-cause-requires c κs = search needs
 refused-opening-requires : tie.Need-refused-opening-requires
 refused-opening-requires c κs = search needs
 
+begun-requires : tie.Need-begun-requires
+begun-requires c κs = search needs
+
 returns : tie.Need-returns
 returns c =
-    let t = c .before in
+    let r = c .before in
+    let t = r .before in
     let q = t .before in
     let a = q .before .before .before .args in
     let k = q .sender-cause .ensures in
-    ap {B = Begun} (λ (x : Opened). record { opened = x; value = 0; buffer = a .out .now }) (c .refused-opening .ensures ∙ ap refusedOpening k)
+    ap (λ (x : OpenedBySender). begun x (a .out .now)) (c .begun .ensures)
+    ∙ ap {B = Begun} (λ (x : Opened). record { opened = x; value = 0; buffer = a .out .now }) (r .refused-opening .ensures ∙ ap refusedOpening k)
     ∙ sym (begun-refused (a .n) (a .t) (a .own) (a .sender) (a .bytes .now) sha256 (a .out .now) (λ i. t .if1 .taken (k ∙ i)))
 
 open-with-packet-requires : tie.Need-open-with-packet-requires
 open-with-packet-requires c κs = search needs
 
+begun-requires-2 : tie.Need-begun-requires-2
+begun-requires-2 c κs = search needs
+
 returns-2 : tie.Need-returns-2
 returns-2 c =
-    let t = c .before in
+    let o = c .before in
+    let t = o .before in
     let e = t .before in
     let a = Entry e .args in
-    silent e _ (other-packet (a .own) (a .sender) (a .bytes .now) (a .n) (t .if2 .taken))
-    (c .open-with-packet .ensures
+    ap (λ (x : OpenedBySender). begun x (a .out .now)) (c .begun2 .ensures)
+    ∙ silent e _ (other-packet (a .own) (a .sender) (a .bytes .now) (a .n) (t .if2 .taken))
+    (o .open-with-packet .ensures
     ∙ ap (openOf sha256 (a .n) (a .t) (a .own)) (sym (other-message (a .own) (a .sender) (a .bytes .now) (t .if2 .taken))))
 
 open-requires : tie.Need-open-requires
 open-requires c κs = search needs
 
+begun-requires-3 : tie.Need-begun-requires-3
+begun-requires-3 c κs = search needs
+
 returns-3 : tie.Need-returns-3
 returns-3 c =
-    let t = c .before in
+    let o = c .before in
+    let t = o .before in
     let i = t .before in
     let e = i .before in
     let a = Entry e .args in
-    silent e _ (alone-packet (a .own) (a .sender) (a .bytes .now) (a .n) (t .if3 .taken))
-    (c .open .ensures ∙ ap (openOf sha256 (a .n) (a .t) (a .own)) (sym (sender-message (a .own) (a .sender) (a .bytes .now) (i .if2 .left))))
+    ap (λ (x : OpenedBySender). begun x (a .out .now)) (c .begun3 .ensures)
+    ∙ silent e _ (alone-packet (a .own) (a .sender) (a .bytes .now) (a .n) (t .if3 .taken))
+    (o .open .ensures ∙ ap (openOf sha256 (a .n) (a .t) (a .own)) (sym (sender-message (a .own) (a .sender) (a .bytes .now) (i .if2 .left))))
 
 write-message-requires : tie.Need-write-message-requires
 write-message-requires c κs = search needs
@@ -111,43 +127,53 @@ enum-told c = search needs
 refused-opening-requires-2 : tie.Need-refused-opening-requires-2
 refused-opening-requires-2 c κs = search needs
 
+begun-requires-4 : tie.Need-begun-requires-4
+begun-requires-4 c κs = search needs
+
 same-length : tie.Need-same-length
 same-length c = search needs
 
 returns-4 : tie.Need-returns-4
 returns-4 c =
-    let v = c .before .before in
+    let f = c .before in
+    let v = f .before .before in
     let w = v .before .before .before in
     let e = First w in
     let a = Entry e .args in
     let r = w .write-message .result in
     let y = answer-short (a .bytes .now) (a .out .now) (short e (sends w .0)) r _ (w .write-message .ensures)
-    (λ k q. not-done r k q (c .before .match .keys2)) in
-    ap₂ {C = Begun} (λ (k : ℕ) (o : List ℕ). record { opened = c .refused-opening2 .result; value = k; buffer = o })
+    (λ k q. not-done r k q (f .before .match .keys2)) in
+    ap (λ (x : OpenedBySender). begun x (w .write-message .last .1 .0)) (c .begun4 .ensures)
+    ∙ ap₂ {C = Begun} (λ (k : ℕ) (o : List ℕ). record { opened = f .refused-opening2 .result; value = k; buffer = o })
     (v .value-of .ensures ∙ y .1 ∙ sym (size w)) (y .2)
     ∙ ap {B = Begun} (λ (x : Opened). record { opened = x; value = length (packetBy (a .n) (a .own) (a .sender) (a .bytes .now)); buffer = a .out .now })
-    (c .refused-opening2 .ensures)
+    (f .refused-opening2 .ensures)
     ∙ sym (begun-short (a .n) (a .t) (a .own) (a .sender) (a .bytes .now) sha256 (a .out .now) (no-cause e) (omega (arith, y .0, size w)))
 
 open-requires-2 : tie.Need-open-requires-2
 open-requires-2 c κs = search needs
+
+begun-requires-5 : tie.Need-begun-requires-5
+begun-requires-5 c κs = search needs
 
 same-length-2 : tie.Need-same-length-2
 same-length-2 c = search needs
 
 returns-5 : tie.Need-returns-5
 returns-5 c =
-    let v = c .before .before .before in
+    let f = c .before in
+    let v = f .before .before .before in
     let w = v .before .before .before in
     let e = First w in
     let a = Entry e .args in
     let r = w .write-message .result in
     let p = packetBy (a .n) (a .own) (a .sender) (a .bytes .now) in
-    let y = answer-done (a .bytes .now) (a .out .now) (short e (sends w .0)) r _ (w .write-message .ensures) _ (c .before .enum-told .given .1) in
-    ap₂ {C = Begun} (λ (k : ℕ) (o : List ℕ). record { opened = c .open2 .result; value = k; buffer = o })
+    let y = answer-done (a .bytes .now) (a .out .now) (short e (sends w .0)) r _ (w .write-message .ensures) _ (f .before .enum-told .given .1) in
+    ap (λ (x : OpenedBySender). begun x (w .write-message .last .1 .0)) (c .begun5 .ensures)
+    ∙ ap₂ {C = Begun} (λ (k : ℕ) (o : List ℕ). record { opened = f .open2 .result; value = k; buffer = o })
     (v .value-of .ensures ∙ y .1 ∙ sym (size w)) (y .2 ∙ ap (spliced (a .out .now) 0) (sym (sends w .1)))
     ∙ ap {B = Begun} (λ (x : Opened). record { opened = x; value = length p; buffer = spliced (a .out .now) 0 p })
-    (c .open2 .ensures ∙ ap (openOf sha256 (a .n) (a .t) (a .own)) (sym (sender-message (a .own) (a .sender) (a .bytes .now) (sends w .0))))
+    (f .open2 .ensures ∙ ap (openOf sha256 (a .n) (a .t) (a .own)) (sym (sender-message (a .own) (a .sender) (a .bytes .now) (sends w .0))))
     ∙ sym (begun-given (a .n) (a .t) (a .own) (a .sender) (a .bytes .now) sha256 (a .out .now) (no-cause e) (omega (arith, y .0, size w)))
 
 pub open-by-sender-spec : {M : Type 1} → statement M
@@ -156,17 +182,22 @@ open-by-sender-spec =
     (tie.spec
     sender-cause-requires
     refused-opening-requires
+    begun-requires
     returns
     open-with-packet-requires
+    begun-requires-2
     returns-2
     open-requires
+    begun-requires-3
     returns-3
     write-message-requires
     value-of-requires
     enum-told
     refused-opening-requires-2
+    begun-requires-4
     same-length
     returns-4
     open-requires-2
+    begun-requires-5
     same-length-2
     returns-5)
