@@ -16,7 +16,7 @@ use crate::liars::{flip, Lie, Scene, Sharing, Way, LONGEST_LIE};
 use crate::limits::{INSIDE, LONGEST_ENTRY, LONGEST_MESSAGE, LONGEST_PLAN};
 use crate::limits::{MOST_NAMED, MOST_PARTIES};
 use crate::random::Random;
-use crate::rehearsal::{BIT_GIVEN, ROOT_GIVEN, SENDER_GIVEN};
+use crate::rehearsal::{BIT_GIVEN, ROOT_GIVEN, SENDER_GIVEN, SESSION_GIVEN};
 use crate::sha256::Hash;
 
 /// A plan, and what was put into it.
@@ -116,6 +116,8 @@ struct Draft {
     root: Option<Hash>,
     bit: Option<u8>,
     source: Option<Source>,
+    /// The session's number as it is written.
+    session: Option<u32>,
     good: BTreeSet<usize>,
     bad: Vec<usize>,
     /// What the good parties open with.
@@ -189,15 +191,19 @@ impl Draft {
     }
 
     fn bytes(&self) -> Vec<u8> {
-        let root_given = if self.root.is_some() { ROOT_GIVEN } else { 0 };
-        let bit_given = if self.bit.is_some() { BIT_GIVEN } else { 0 };
         let sender = self.source.as_ref().map(|it| it.number as u8);
-        let sender_given = if sender.is_some() { SENDER_GIVEN } else { 0 };
-        let options = self.turned_options ^ (root_given | bit_given | sender_given);
-        let mut bytes = [&self.head[..], &[options]].concat();
+        let given = [
+            (self.root.is_some(), ROOT_GIVEN),
+            (self.bit.is_some(), BIT_GIVEN),
+            (sender.is_some(), SENDER_GIVEN),
+            (self.session.is_some(), SESSION_GIVEN),
+        ];
+        let options: u8 = given.iter().filter(|it| it.0).map(|it| it.1).sum();
+        let mut bytes = [&self.head[..], &[self.turned_options ^ options]].concat();
         bytes.extend(self.root.iter().flatten());
         bytes.extend(self.bit);
         bytes.extend(sender);
+        bytes.extend(self.session.iter().flat_map(|it| it.to_be_bytes()));
         bytes.extend(map_of(&self.good));
         for message in self.listed() {
             bytes.extend(two_bytes(message.len()));
@@ -245,6 +251,7 @@ impl Draft {
             root: None,
             bit: None,
             source: None,
+            session: None,
             good: Vec::into_iter(good).collect(),
             bad,
             messages: Vec::new(),
@@ -357,8 +364,13 @@ impl Draft {
         other
     }
 
+    /// The shares of a message in the session of this plan.
+    fn sharing(&self, message: &[u8]) -> Sharing {
+        Sharing::of(self.session.unwrap_or(0), self.n, self.t, message)
+    }
+
     fn roots(&self) -> Vec<Hash> {
-        let root = |message: &Vec<u8>| Sharing::of(self.n, self.t, message).root;
+        let root = |message: &Vec<u8>| self.sharing(message).root;
         self.messages.iter().map(root).collect()
     }
 
@@ -368,15 +380,16 @@ impl Draft {
         match random.below(4) {
             0 => root.copy_from_slice(&random.bytes(32)),
             1 if !self.messages.is_empty() => {
-                root = Sharing::of(self.n, self.t, &self.messages[0]).root;
+                root = self.sharing(&self.messages[0]).root;
                 flip(&mut root, random);
             }
             // A frame of three rows is well made only by rare luck.
             2 => {
                 let frame = random.bytes(3 * (self.n - self.t));
-                root = Sharing::of_frame(self.n, self.t, &frame).root;
+                let session = self.session.unwrap_or(0);
+                root = Sharing::of_frame(session, self.n, self.t, &frame).root;
             }
-            _ => root = Sharing::of(self.n, self.t, &random.bytes(45)).root,
+            _ => root = self.sharing(&random.bytes(45)).root,
         }
         root
     }
@@ -417,8 +430,8 @@ impl Draft {
             _ => self.other_message(&one, LONGEST_MESSAGE.min(one.len() + 1), random),
         };
         Scene {
-            agreed: Sharing::of(self.n, self.t, &one),
-            other: Sharing::of(self.n, self.t, &other),
+            agreed: self.sharing(&one),
+            other: self.sharing(&other),
         }
     }
 }

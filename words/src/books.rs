@@ -35,8 +35,8 @@ pub struct Coded {
 
 impl Coded {
     fn new(n: usize, t: usize, message: &[u8]) -> Coded {
-        let Sharing { shares, root } = Sharing::of(n, t, message);
-        let leaves = tree::leaves(&shares);
+        let Sharing { shares, root, .. } = Sharing::of(0, n, t, message);
+        let leaves = tree::leaves(0, &shares);
         let packet = |j| write(j, &shares[j - 1], &tree::path_of(&leaves, j));
         Coded {
             packets: (1..=n).map(packet).collect(),

@@ -174,7 +174,7 @@ impl View {
 
     /// The worth to a box that demands this share.
     fn share_worth(&self, demanded: usize, packet: &[u8]) -> Worth {
-        let standing = classify(self.n(), demanded, self.session.root, packet);
+        let standing = classify(0, self.n(), demanded, self.session.root, packet);
         match (standing, read(self.n(), packet)) {
             (Ok(Standing::Valid(_)), _) => Worth::Passes,
             (Ok(Standing::Silent), _) => Worth::Silence,

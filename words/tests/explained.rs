@@ -246,7 +246,7 @@ fn refused_plans() {
         counted from 0.";
     assert_eq!(two("behind hex 00"), format!("{layout}{left_over}"));
     let option = "At byte 2: the option map has an unknown option. It has 9 bytes, counted from 0.";
-    assert_eq!(two("options 8"), format!("{layout}{option}"));
+    assert_eq!(two("options 16"), format!("{layout}{option}"));
 }
 
 /// A sender that no box is: what it sends is looked for all the same.

@@ -293,8 +293,8 @@ fn found(packet: &[u8]) -> String {
 /// The words for a lie from box 4 to box 2.
 fn lie(lie: Lie, exchange: usize, random: &mut Random) -> String {
     let scene = Scene {
-        agreed: Sharing::of(4, 1, A),
-        other: Sharing::of(4, 1, B),
+        agreed: Sharing::of(0, 4, 1, A),
+        other: Sharing::of(0, 4, 1, B),
     };
     let packet = scene.told(lie, Way::new(exchange, 4, 2), random);
     found(&packet.expect("a packet"))
@@ -337,7 +337,7 @@ fn lies_of_senders_have_words() {
     let offer = Offer {
         one: A.to_vec(),
         other: B.to_vec(),
-        shares: Sharing::of(4, 1, A),
+        shares: Sharing::of(0, 4, 1, A),
     };
     let expected = [
         (SenderLie::Honest, "book A"),
@@ -364,7 +364,7 @@ fn lies_of_senders_have_words() {
 /// Bytes that have only little in common with a share are told as they are.
 #[test]
 fn little_in_common() {
-    let packet = Sharing::of(4, 1, A).packet(1);
+    let packet = Sharing::of(0, 4, 1, A).packet(1);
     let header_and_share = &packet[..8];
     assert_eq!(found(header_and_share), "share 1 of A, cut by 64");
     let renumbered = [&[7, 3], &header_and_share[2..]].concat();

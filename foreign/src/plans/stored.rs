@@ -88,8 +88,8 @@ fn liars((n, t): (usize, usize), lies: &mut impl Iterator<Item = Lie>) -> Made {
     let mut other = one.clone();
     flip(&mut other, &mut random);
     let scene = Scene {
-        agreed: Sharing::of(n, t, &one),
-        other: Sharing::of(n, t, &other),
+        agreed: Sharing::of(0, n, t, &one),
+        other: Sharing::of(0, n, t, &other),
     };
     draft.messages = vec![other; n - t];
     draft.messages[0] = one;
@@ -237,7 +237,7 @@ fn no_codewords() -> impl Iterator<Item = Made> {
 
 fn no_codeword((n, t): (usize, usize), bit: Option<u8>) -> Draft {
     let mut random = seeded(n, t);
-    let sharing = Sharing::no_codeword(n, t, &mut random);
+    let sharing = Sharing::no_codeword(0, n, t, &mut random);
     let mut draft = Draft::of(n, t, (1 << t) - 1);
     draft.messages = (0..n - t).map(|_| random.bytes(5)).collect();
     draft.root = Some(sharing.root);
@@ -261,7 +261,7 @@ fn no_codeword((n, t): (usize, usize), bit: Option<u8>) -> Draft {
 /// one whose bad party sends the packets that a good one would send, one with a good sender, and one
 /// with a bad sender that gives two messages.
 fn small() -> [Vec<u8>; 5] {
-    let agreed = Sharing::of(3, 1, b"A");
+    let agreed = Sharing::of(0, 3, 1, b"A");
     let mut given = of_three(3);
     given.root = Some(agreed.root);
     given.bit = Some(1);

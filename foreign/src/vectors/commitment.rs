@@ -40,7 +40,7 @@ impl File {
     ) -> (Answer, Vec<u8>) {
         assert!(entries.len() <= MOST_INPUT && room <= MOST_ROOM);
         let mut out = vec![UNTOUCHED; room];
-        let answer = rebuild_with_root(n, t, root, entries, &mut out);
+        let answer = rebuild_with_root(0, n, t, root, entries, &mut out);
         let front = Part::new().two(n).two(t).four(room).two(root.len());
         self.out.push(Case {
             kind: Kind::RebuildWithRoot,
@@ -82,7 +82,7 @@ impl File {
 
     /// The message if this is its root, else cause 15.
     fn held_to(&mut self, group: Group, given: &[u8], entries: &[u8], message: &[u8]) {
-        if root(group.0, group.1, message)[..] == *given {
+        if root(0, group.0, group.1, message)[..] == *given {
             self.found(group, given, entries, message);
         } else {
             self.refused(group, given, entries, 15);
@@ -107,9 +107,9 @@ impl File {
 /// message.
 fn worked(file: &mut File) {
     let entries = [0, 0, 0, 2, 0x82, 0x86, 0, 2, 0xC3, 0xC4];
-    file.found((3, 1), &root(3, 1, b"AB"), &entries, b"AB");
-    file.refused((3, 1), &root(3, 1, b"AC"), &entries, 15);
-    file.found((3, 1), &root(3, 1, b""), &[0, 1, 0, 0, 1, 0, 0, 0], b"");
+    file.found((3, 1), &root(0, 3, 1, b"AB"), &entries, b"AB");
+    file.refused((3, 1), &root(0, 3, 1, b"AC"), &entries, 15);
+    file.found((3, 1), &root(0, 3, 1, b""), &[0, 1, 0, 0, 1, 0, 0, 0], b"");
 }
 
 /// Every n and t, from the shares with the lowest numbers, the highest, and others.
@@ -120,10 +120,10 @@ fn right(file: &mut File) {
         for map in [all, all >> t, all & all << t, any] {
             let message = file.message();
             let entries = join(&keep(&coded((n, t), &message), map));
-            file.found((n, t), &root(n, t, &message), &entries, &message);
+            file.found((n, t), &root(0, n, t, &message), &entries, &message);
         }
         let entries = join(&coded((n, t), b""));
-        file.found((n, t), &root(n, t, b""), &entries, b"");
+        file.found((n, t), &root(0, n, t, b""), &entries, b"");
     }
 }
 
@@ -137,9 +137,9 @@ fn long(file: &mut File) {
             let message = file.random.bytes(length);
             let map = file.random.choice(n, n - t);
             let entries = join(&keep(&coded((n, t), &message), map));
-            let right = root(n, t, &message);
+            let right = root(0, n, t, &message);
             file.found((n, t), &right, &entries, &message);
-            let other = root(n, t, &message[1..]);
+            let other = root(0, n, t, &message[1..]);
             file.refused((n, t), &other, &entries, 15);
         }
     }
@@ -155,8 +155,8 @@ fn ignored(file: &mut File) {
             *share = file.random.bytes(length);
         }
         let entries = join(&shares);
-        file.found((n, t), &root(n, t, &message), &entries, &message);
-        file.held_to((n, t), &tree::root(&shares), &entries, &message);
+        file.found((n, t), &root(0, n, t, &message), &entries, &message);
+        file.held_to((n, t), &tree::root(0, &shares), &entries, &message);
     }
 }
 
@@ -172,9 +172,9 @@ fn other_roots(file: &mut File) {
         let same_length = file.random.bytes(length);
         let longer = [&message[..], &[0]].concat();
         for other in [&near, &same_length, &longer, &message[1..].to_vec()] {
-            file.held_to((n, t), &root(n, t, other), &entries, &message);
+            file.held_to((n, t), &root(0, n, t, other), &entries, &message);
         }
-        let leaf = tree::leaves(&shares)[n - 1];
+        let leaf = tree::leaves(0, &shares)[n - 1];
         for other in [[0; 32], leaf] {
             file.held_to((n, t), &other, &entries, &message);
         }
@@ -195,7 +195,7 @@ fn other_groups(file: &mut File) {
                 let shares = coded((n, t), &message);
                 let entries = join(&file.some_of(&shares, n - t));
                 let &(other_n, other_t) = file.random.pick(others);
-                let given = root(other_n, other_t, &message);
+                let given = root(0, other_n, other_t, &message);
                 file.held_to((n, t), &given, &entries, &message);
             }
         }
@@ -208,7 +208,7 @@ fn near_roots(file: &mut File) {
         let message = file.random.bytes(20);
         let shares = coded((n, t), &message);
         let entries = join(&file.some_of(&shares, n - t));
-        let right = root(n, t, &message);
+        let right = root(0, n, t, &message);
         for place in 0..right.len() {
             let mut near = right;
             near[place] ^= 1 << file.random.below(8);
@@ -225,7 +225,7 @@ fn root_lengths(file: &mut File) {
         let shares = coded((n, t), &message);
         let entries = join(&file.some_of(&shares, n - t));
         for length in LENGTHS {
-            let mut given = root(n, t, &message).repeat(2);
+            let mut given = root(0, n, t, &message).repeat(2);
             given.resize(length, 0);
             file.refused((n, t), &given, &entries, 7);
             let noise = file.random.bytes(length);
@@ -239,12 +239,14 @@ fn root_lengths(file: &mut File) {
 fn no_codewords(file: &mut File) {
     for (n, t) in pairs(3, MOST_PARTIES).into_iter().filter(|it| it.1 > 0) {
         for _ in 0..3 {
-            let Sharing { shares, root: tree } = Sharing::no_codeword(n, t, &mut file.random);
+            let Sharing {
+                shares, root: tree, ..
+            } = Sharing::no_codeword(0, n, t, &mut file.random);
             for kept in [file.some_of(&shares, n - t), shares] {
                 let entries = join(&kept);
                 let message = find_message(n, t, &entries).expect("a message");
                 file.refused((n, t), &tree, &entries, 15);
-                file.found((n, t), &root(n, t, &message), &entries, &message);
+                file.found((n, t), &root(0, n, t, &message), &entries, &message);
             }
         }
     }
@@ -258,9 +260,9 @@ fn mixed(file: &mut File) {
         let [first, second] = [0, 1].map(|place| coded((n, t), &messages[place]));
         let shares = [&first[..n - t], &second[n - t..]].concat();
         let entries = join(&shares);
-        file.refused((n, t), &tree::root(&shares), &entries, 15);
-        file.refused((n, t), &root(n, t, &messages[1]), &entries, 15);
-        file.found((n, t), &root(n, t, &messages[0]), &entries, &messages[0]);
+        file.refused((n, t), &tree::root(0, &shares), &entries, 15);
+        file.refused((n, t), &root(0, n, t, &messages[1]), &entries, 15);
+        file.found((n, t), &root(0, n, t, &messages[0]), &entries, &messages[0]);
     }
 }
 
@@ -271,7 +273,7 @@ fn before_the_root(file: &mut File) {
         let shares = coded((n, t), &message);
         let entries = join(&file.some_of(&shares, n - t));
         let few = join(&keep(&shares, file.random.choice(n, n - t - 1)));
-        for given in [root(n, t, &message), [0; 32]] {
+        for given in [root(0, n, t, &message), [0; 32]] {
             file.refused((n, t), &given, &entries[..entries.len() - 1], 8);
             file.refused((n, t), &given, &[&entries[..], &[0]].concat(), 8);
             file.refused((n, t), &given, &few[..few.len() - 1], 8);
@@ -298,8 +300,8 @@ fn no_frames(file: &mut File) {
         }
         for shares in sharings {
             let entries = join(&shares);
-            file.refused((n, t), &tree::root(&shares), &entries, 12);
-            file.refused((n, t), &root(n, t, &message), &entries, 12);
+            file.refused((n, t), &tree::root(0, &shares), &entries, 12);
+            file.refused((n, t), &root(0, n, t, &message), &entries, 12);
         }
     }
 }
@@ -365,7 +367,7 @@ fn faulty(file: &mut File, (n, t): Group, faults: Faults) {
         let end = entries.len();
         entries.resize(file.random.pick(&[end - 1, end + 1, end + 2]), 0);
     }
-    let mut given = tree::root(&shares).to_vec();
+    let mut given = tree::root(0, &shares).to_vec();
     if faults.has(Fault::OtherRoot) {
         flip(&mut given, &mut file.random);
     }
@@ -397,7 +399,7 @@ fn misnumbered(file: &mut File, (n, t): Group, faults: Faults) -> Group {
 /// n and t at the edges of their ranges, with a right root and one that is none.
 fn groups(file: &mut File) {
     let (most, half) = GREATEST;
-    let right = root(most, half, b"AB");
+    let right = root(0, most, half, b"AB");
     let entries = join(&coded(GREATEST, b"AB"));
     file.found(GREATEST, &right, &entries, b"AB");
     for given in [&right[..], &right[1..], &[]] {
@@ -423,8 +425,8 @@ fn random(file: &mut File) {
         let kept = file.some_of(&shares, n - t);
         let mut entries = join(&kept);
         let mut given = match round % 4 {
-            0 => tree::root(&kept).to_vec(),
-            _ => root(n, t, &message).to_vec(),
+            0 => tree::root(0, &kept).to_vec(),
+            _ => root(0, n, t, &message).to_vec(),
         };
         match round % 7 {
             0..=2 => flip(&mut entries, &mut file.random),

@@ -163,11 +163,11 @@ impl File {
     /// Packet j of n over random shares of this length.
     fn good(&mut self, n: usize, j: usize, length: usize) -> Good {
         let shares: Vec<Vec<u8>> = (0..n).map(|_| self.random.bytes(length)).collect();
-        let path = tree::path(&shares, j);
+        let path = tree::path(0, &shares, j);
         Good {
             n,
             j,
-            root: tree::root(&shares),
+            root: tree::root(0, &shares),
             bytes: packet::write(j, &shares[j - 1], &path),
             share: shares[j - 1].clone(),
             path,
@@ -226,7 +226,7 @@ impl File {
 
     /// Finds the standing of the bytes and writes it as a case; gives the answer.
     fn stood(&mut self, n: usize, j: usize, root: Hash, bytes: &[u8]) -> Answer {
-        let answer = answered(classify(n, j, root, bytes));
+        let answer = answered(classify(0, n, j, root, bytes));
         let read = match placed(packet::read(n, bytes), bytes, 0) {
             (SILENCE, share) => (0, share),
             (SHARE, share) => (1, share),
@@ -245,7 +245,7 @@ impl File {
         place: Place,
         answer: Answer,
     ) {
-        let found = answered(classify_at((n, j), root, bytes, place));
+        let found = answered(classify_at(0, (n, j), root, bytes, place));
         assert_eq!(found, answer, "n {n}, j {j}, {place:?}");
         let share = [place.number, place.from, place.length, place.hashes];
         self.judgement((n, j), root, (1, share), bytes, answer);
@@ -347,7 +347,7 @@ fn made_up_paths(file: &mut File) {
     for n in CHOSEN {
         let share = file.random.bytes(3);
         let path: Vec<Hash> = (0..path_length(n, 1)).map(|_| file.random_hash()).collect();
-        let leaf = hash(&leaf_string(1, &share));
+        let leaf = hash(&leaf_string(0, 1, &share));
         let root = path.iter().fold(leaf, |below, &right| node(below, right));
         let bytes = packet::write(1, &share, &path);
         file.stands(n, 1, root, &bytes, VALID);
@@ -581,7 +581,7 @@ fn other_roots(file: &mut File) {
         for j in ends(n) {
             let good = file.good(n, j, 2);
             let mut roots = vec![file.random_hash(), [0; 32], [0xFF; 32]];
-            roots.push(hash(&leaf_string(j, &good.share)));
+            roots.push(hash(&leaf_string(0, j, &good.share)));
             for place in [0, 1, 15, 16, 30, 31] {
                 let mut root = good.root;
                 root[place] ^= 1 << file.random.below(8);
@@ -739,7 +739,7 @@ fn false_lengths(file: &mut File) {
     let lengths = [0, 1, LONGEST_SHARE, LONGEST_SHARE + 1];
     for (length, answer) in lengths.into_iter().zip([VALID, VALID, VALID, FAULTY]) {
         let bytes = file.random.bytes(2 + length);
-        let root = hash(&leaf_string(1, &bytes[2..]));
+        let root = hash(&leaf_string(0, 1, &bytes[2..]));
         let place = Place {
             number: 1,
             from: 2,

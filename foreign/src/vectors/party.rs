@@ -187,7 +187,7 @@ impl File {
     }
 
     fn open(&mut self, n: u64, t: u64, own: u64, message: &[u8]) {
-        let (state, answer) = State::open(n, t, own, message);
+        let (state, answer) = State::open(0, n, t, own, message);
         let (answer, root) = match answer {
             Ok(root) => (Done(0), root),
             Err(refusal) => (Refused(refusal.cause), [0; 32]),
@@ -439,7 +439,7 @@ impl File {
         let n = sharing.shares.len();
         let good = sharing.packet(j);
         let share = &sharing.shares[j - 1];
-        let path = tree::path(&sharing.shares, j);
+        let path = tree::path(0, &sharing.shares, j);
         let behind = 4 + share.len();
         let flip = |place: usize| {
             let mut bytes = good.clone();
@@ -461,7 +461,7 @@ impl File {
             10 if n > 1 => flip(behind),
             11 => {
                 let other = j % n + 1;
-                packet::write(other, share, &tree::path(&sharing.shares, other))
+                packet::write(other, share, &tree::path(0, &sharing.shares, other))
             }
             12 => self.random.bytes(37),
             13 => packet::write(j, &sharing.shares[j % n], &path),
@@ -572,7 +572,7 @@ impl File {
             Making::SpoiltLast => shares[n - 1][0] ^= 1,
             _ => {}
         }
-        Sharing::over(shares)
+        Sharing::over(0, shares)
     }
 
     /// A set of this many of the other parties, or of all there are.
@@ -679,7 +679,7 @@ fn forge(file: &mut File, plan: &Plan) {
 /// Agreed roots that differ from the own one in a single bit, each byte's turn: not happy.
 fn near_roots(file: &mut File) {
     file.open(3, 1, 2, b"AB");
-    let own = Sharing::of(3, 1, b"AB").root;
+    let own = Sharing::of(0, 3, 1, b"AB").root;
     for place in 0..own.len() {
         let mut root = own;
         root[place] ^= 1 << file.random.below(8);
@@ -702,7 +702,7 @@ fn end_with(file: &mut File, length: Option<usize>, bit: u8) {
     let message = file.random.bytes(length.unwrap_or(4));
     file.open(n as u64, t as u64, own as u64, &message);
     let root = match length {
-        Some(_) => Sharing::of(n, t, &message).root,
+        Some(_) => Sharing::of(0, n, t, &message).root,
         None => [7; 32],
     };
     file.call(&Call::Root(root.to_vec()), 0);
@@ -760,7 +760,7 @@ fn soil(file: &mut File, stale: Stale, other: &Sharing) {
         }
         Stale::Happy => {
             let length = (result + 3).min(LONGEST_MESSAGE - 1);
-            let root = Sharing::of(n, t, &file.state.message[..length]).root;
+            let root = Sharing::of(0, n, t, &file.state.message[..length]).root;
             file.put(Place::Root, 0, &root);
             file.set(Number::Len, length as u64);
         }
@@ -861,7 +861,7 @@ fn happy(file: &mut File) {
     for (place, (n, t)) in groups().enumerate() {
         let length = some_length(file, n - t);
         let message = file.random.bytes(length);
-        let agreed = Sharing::of(n, t, &message);
+        let agreed = Sharing::of(0, n, t, &message);
         let own = 1 + file.random.below(n);
         let few = file.random.below(3);
         let plan = Plan {
@@ -989,7 +989,7 @@ fn before_relays(
 fn other_root(file: &mut File) {
     for (place, (n, t)) in groups().filter(|it| it.1 > 0).enumerate() {
         for round in 0..4 {
-            let agreed = Sharing::no_codeword(n, t, &mut file.random);
+            let agreed = Sharing::no_codeword(0, n, t, &mut file.random);
             let (senders, more) = [(1, 0), (0, 0), (2, 1), (1, n)][(place + round) % 4];
             let inbox = before_relays(file, (n, t), &agreed, senders, more);
             let Some(Rebuilt::OtherRoot(message)) = file.state.rebuilt(&inbox) else {
@@ -1007,7 +1007,7 @@ fn other_root(file: &mut File) {
 /// A party whose agreed root is changed before step 5 by a bit, in each byte: the share that it holds
 /// still counts, and is enough with n 1 alone, where what it gives has another root.
 fn changed_root(file: &mut File) {
-    let agreed = Sharing::of(1, 0, b"AB");
+    let agreed = Sharing::of(0, 1, 0, b"AB");
     for place in 0..agreed.root.len() {
         file.open(1, 0, 1, b"no");
         file.call(&Call::Root(agreed.root.to_vec()), 0);
@@ -1077,7 +1077,7 @@ fn alone(file: &mut File) {
         &[],
         &longest,
     ] {
-        let right = Sharing::over(vec![share.to_vec()]).root;
+        let right = Sharing::over(0, vec![share.to_vec()]).root;
         let mut near = right;
         near[31] ^= 1;
         for root in [right, near] {
@@ -1189,7 +1189,7 @@ fn wander(file: &mut File) {
         let own = 1 + file.random.below(n);
         file.open(n as u64, t as u64, own as u64, &message);
         let sharing = match file.once_in(2) {
-            true => Sharing::of(n, t, &message),
+            true => Sharing::of(0, n, t, &message),
             false => file.sharing(n, n - t, 7, Making::Honest),
         };
         let count = file.random.below(n + 1);
@@ -1236,7 +1236,7 @@ fn wander_once(file: &mut File, sharing: &Sharing, first: &[u8], second: &[u8]) 
 
 /// The worked cases: two of three parties, whose third is silent, and a party alone.
 fn worked(file: &mut File) {
-    let lowest = Sharing::of(3, 1, b"A");
+    let lowest = Sharing::of(0, 3, 1, b"A");
     for (own, message) in [(1, b"A"), (2, b"B")] {
         file.open(3, 1, own, message);
         file.call(&Call::Root(lowest.root.to_vec()), 0);
@@ -1249,7 +1249,7 @@ fn worked(file: &mut File) {
     }
     for message in [&b"AB"[..], b"", &[9; LONGEST_MESSAGE]] {
         file.open(1, 0, 1, message);
-        let root = Sharing::of(1, 0, message).root;
+        let root = Sharing::of(0, 1, 0, message).root;
         file.call(&Call::Root(root.to_vec()), 0);
         file.short_then_enough(&Call::Bit(1));
         file.short_then_enough(&Call::Shares(vec![0, 0]));

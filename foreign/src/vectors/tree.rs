@@ -39,14 +39,14 @@ struct Call {
 
 /// The right call for leaf j of the tree over `shares`.
 fn right(shares: &Shares, j: usize) -> Call {
-    let path = tree::path(shares, j);
+    let path = tree::path(0, shares, j);
     Call {
         n: shares.len(),
         j,
         share: shares[j - 1].clone(),
         count: path.len(),
         path,
-        root: tree::root(shares).to_vec(),
+        root: tree::root(0, shares).to_vec(),
     }
 }
 
@@ -70,9 +70,9 @@ impl File {
     }
 
     fn tree(&mut self, shares: &Shares) {
-        let mut expected = Part::new().one(0).bytes(&tree::root(shares));
+        let mut expected = Part::new().one(0).bytes(&tree::root(0, shares));
         for j in 1..=shares.len() {
-            let mut path = tree::path(shares, j);
+            let mut path = tree::path(0, shares, j);
             expected = expected.answer(Answer::Done(path.len()));
             path.resize(MOST_HASHES, [0; 32]);
             expected = expected.bytes(&path.concat());
@@ -89,7 +89,7 @@ impl File {
         let mut path = [UNSTORED; MOST_HASHES];
         path[..call.path.len()].copy_from_slice(&call.path);
         let parties = (call.n, call.j);
-        let answer = match judge(parties, &call.share, &path, call.count, &call.root) {
+        let answer = match judge(0, parties, &call.share, &path, call.count, &call.root) {
             Ok(passes) => Answer::Done(passes.into()),
             Err(cause) => Answer::Refused(cause),
         };
@@ -184,7 +184,7 @@ fn leaf_checks(file: &mut File) {
             damaged(file, &good);
             past_the_count(file, &good);
             wrong_counts(file, &good);
-            folding_counts(file, &good, &tree::leaves(&shares));
+            folding_counts(file, &good, &tree::leaves(0, &shares));
             if n > 1 {
                 mixed_leaves(file, &good, &shares);
             }

@@ -32,14 +32,14 @@ fn sender_lies() -> impl Iterator<Item = SenderLie> + Clone {
 fn offer((n, t): (usize, usize), random: &mut Random) -> Offer {
     let [one, other] = [n, n + 3].map(|length| random.bytes(length));
     Offer {
-        shares: Sharing::of(n, t, &one),
+        shares: Sharing::of(0, n, t, &one),
         one,
         other,
     }
 }
 
 fn scene((n, t): (usize, usize), offer: &Offer) -> Scene {
-    let [agreed, other] = [&offer.one, &offer.other].map(|message| Sharing::of(n, t, message));
+    let [agreed, other] = [&offer.one, &offer.other].map(|message| Sharing::of(0, n, t, message));
     Scene { agreed, other }
 }
 
@@ -180,7 +180,7 @@ const WRONGS: [Wrong; 13] = [
         draft.head[0] = MOST_PARTIES as u8 + 1
     }),
     (2, Damage::Faults, |draft| draft.head[1] = 2),
-    (13, Damage::Options, |draft| draft.turned_options = 8),
+    (13, Damage::Options, |draft| draft.turned_options = 16),
     (13, Damage::Options, |draft| {
         draft.turned_options = SENDER_GIVEN
     }),

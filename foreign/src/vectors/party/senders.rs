@@ -27,7 +27,7 @@ impl File {
     fn open_by_sender(&mut self, seats: Seats, bytes: &[u8], room: usize) -> Answer {
         let Seats { n, t, own, sender } = seats;
         let mut out = vec![UNTOUCHED; room];
-        let given = State::open_by_sender((n, t), own, sender, bytes, &mut out);
+        let given = State::open_by_sender(0, (n, t), own, sender, bytes, &mut out);
         let root = given.1.as_ref().map_or([0; 32], |begun| begun.root);
         let (state, answer) = told(given, |begun| Answer::Done(begun.written));
         let value = match answer {
@@ -105,7 +105,7 @@ fn came(file: &mut File) {
 fn lied(file: &mut File) {
     for (n, t) in [(2, 0), (3, 1), GREATEST] {
         let [one, other] = [5, 9].map(|length| file.random.bytes(length));
-        let shares = Sharing::of(n, t, &one);
+        let shares = Sharing::of(0, n, t, &one);
         let offer = Offer { one, other, shares };
         for lie in SenderLie::SMALL.into_iter().chain(SenderLie::LARGE) {
             let told = offer.told(lie, 1, &mut file.random).unwrap_or_default();
