@@ -49,6 +49,7 @@ mod tests {
     use crate::liars::Sharing;
     use crate::limits::{LONGEST_MESSAGE, MOST_FAULTS, MOST_PARTIES};
     use crate::random::Random;
+    use crate::sessions::EDGES;
     use crate::sha256::hex;
 
     const LENT: u8 = 0xA5;
@@ -100,10 +101,9 @@ mod tests {
     #[test]
     fn a_root_is_its_own_sessions() {
         let entries = lay_out(&Sharing::of(0, 5, 2, b"message").shares);
-        let sessions = [0, 1, 0xFF, 0x0100_0000, u32::MAX];
-        for session in sessions {
+        for session in EDGES {
             let given = root(session, 5, 2, b"message");
-            for other in sessions {
+            for other in EDGES {
                 let expected = match other == session {
                     true => (Answer::Done(7), b"message".to_vec()),
                     false => (Answer::Refused(15), Vec::new()),

@@ -8,6 +8,7 @@ use crate::limits::{LONGEST_PACKET, LONGEST_SHARE, MOST_PARTIES};
 use crate::message_packet;
 use crate::packet::write;
 use crate::random::Random;
+use crate::sessions;
 use crate::sha256::Hash;
 use crate::tree;
 
@@ -55,13 +56,15 @@ pub enum Lie {
     NumberOutside,
     /// A packet of a whole message, which only a sender's exchange has; the message is the share.
     WholeMessage,
+    /// The demanded number's packet of the same message as another session has it.
+    OtherSession,
     /// More bytes than any packet has.
     Huge,
 }
 
 impl Lie {
     /// Every lie but the huge one, which would make most plans long.
-    pub const SMALL: [Lie; 25] = [
+    pub const SMALL: [Lie; 26] = [
         Lie::Honest,
         Lie::Unnamed,
         Lie::Empty,
@@ -87,6 +90,7 @@ impl Lie {
         Lie::FieldMap,
         Lie::NumberOutside,
         Lie::WholeMessage,
+        Lie::OtherSession,
     ];
 }
 
@@ -130,6 +134,11 @@ impl Sharing {
             shares[place][s - 1] ^= 1 + random.below(255) as u8;
         }
         Sharing::over(session, shares)
+    }
+
+    /// The same shares in another session.
+    pub fn in_session(&self, session: u32) -> Sharing {
+        Sharing::over(session, self.shares.clone())
     }
 
     fn share(&self, j: usize) -> &[u8] {
@@ -195,6 +204,10 @@ impl Scene {
             Lie::Honest => agreed.packet(j),
             Lie::OtherMessage => self.other.packet(j),
             Lie::WholeMessage => message_packet::write(agreed.share(j)),
+            Lie::OtherSession => {
+                let session = sessions::another(agreed.session, random);
+                agreed.in_session(session).packet(j)
+            }
             Lie::Replay => agreed.packet(self.another(j, random)),
             Lie::Crossed => agreed.packet(way.sender + way.receiver - j),
             Lie::Renumbered | Lie::OthersShare | Lie::OthersPath => self.mixed(lie, j, random),
@@ -326,9 +339,9 @@ mod tests {
     fn only_the_honest_packet_is_taken() {
         let mut random = Random::new(1);
         for n in 2..=MOST_PARTIES {
-            let t = (n - 1) / 2;
-            let agreed = Sharing::of(0, n, t, &random.bytes(3 * n));
-            let other = Sharing::of(0, n, t, &random.bytes(3 * n));
+            let (session, t) = (sessions::EDGES[n % 5], (n - 1) / 2);
+            let agreed = Sharing::of(session, n, t, &random.bytes(3 * n));
+            let other = Sharing::of(session, n, t, &random.bytes(3 * n));
             let scene = Scene { agreed, other };
             for lie in Lie::SMALL.into_iter().chain([Lie::Huge]) {
                 for (sender, receiver) in [(1, 2), (2, 1), (n, 1), (1, n)] {

@@ -467,6 +467,7 @@ mod tests {
     use crate::liars::Sharing;
     use crate::limits::{LONGEST_OUTBOX, MOST_FAULTS};
     use crate::random::Random;
+    use crate::sessions::EDGES;
     use std::collections::BTreeSet;
 
     const LENT: u8 = 0xA5;
@@ -556,7 +557,7 @@ mod tests {
     /// The number goes from the opening through every step, and takes part in no other answer.
     #[test]
     fn a_session_is_kept_to_the_end() {
-        for session in [0, 1, 0xFF, 0x0100_0000, u32::MAX] {
+        for session in EDGES {
             let (state, root) = State::open(session, 3, 1, 2, b"AB");
             assert_eq!(root, Ok(Sharing::of(session, 3, 1, b"AB").root));
             let (state, happy) = state.agree_root(&root.unwrap());

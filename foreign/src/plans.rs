@@ -1,6 +1,6 @@
 //! Random plans for the rehearsal, plan k from the number k alone: about two thirds of them
 //! valid, with liars of every kind, the rest damaged in one way or two. Some two in five name a
-//! sender, which is bad more often than good.
+//! sender, which is bad more often than good, and as many give the session's number.
 //!
 //! Where the agreed bit is 1, good parties end with the agreed message whatever the bad ones
 //! send. A program that takes a lie shows it only where a good party is unhappy and the liar
@@ -17,6 +17,7 @@ use crate::limits::{INSIDE, LONGEST_ENTRY, LONGEST_MESSAGE, LONGEST_PLAN};
 use crate::limits::{MOST_NAMED, MOST_PARTIES};
 use crate::random::Random;
 use crate::rehearsal::{BIT_GIVEN, ROOT_GIVEN, SENDER_GIVEN, SESSION_GIVEN};
+use crate::sessions;
 use crate::sha256::Hash;
 
 /// A plan, and what was put into it.
@@ -264,6 +265,7 @@ impl Draft {
 
     fn new(size: Size, damages: &[Damage], random: &mut Random) -> Draft {
         let mut draft = Draft::group(size, damages, random);
+        draft.session = (random.below(5) < 2).then(|| sessions::some(random));
         draft.name_sender(damages, random);
         match draft.source {
             Some(_) => draft.hand_out(size, random),
@@ -364,9 +366,14 @@ impl Draft {
         other
     }
 
-    /// The shares of a message in the session of this plan.
+    /// The number of the plan's session.
+    fn session_number(&self) -> u32 {
+        self.session.unwrap_or(0)
+    }
+
+    /// The shares of a message in that session.
     fn sharing(&self, message: &[u8]) -> Sharing {
-        Sharing::of(self.session.unwrap_or(0), self.n, self.t, message)
+        Sharing::of(self.session_number(), self.n, self.t, message)
     }
 
     fn roots(&self) -> Vec<Hash> {
@@ -377,17 +384,21 @@ impl Draft {
     /// A root that no good party puts in.
     fn strange_root(&self, random: &mut Random) -> Hash {
         let mut root = [0; 32];
-        match random.below(4) {
+        match random.below(5) {
             0 => root.copy_from_slice(&random.bytes(32)),
             1 if !self.messages.is_empty() => {
                 root = self.sharing(&self.messages[0]).root;
                 flip(&mut root, random);
             }
+            // A good party's in another session.
+            2 if !self.messages.is_empty() => {
+                let session = sessions::another(self.session_number(), random);
+                root = self.sharing(&self.messages[0]).in_session(session).root;
+            }
             // A frame of three rows is well made only by rare luck.
-            2 => {
+            3 => {
                 let frame = random.bytes(3 * (self.n - self.t));
-                let session = self.session.unwrap_or(0);
-                root = Sharing::of_frame(session, self.n, self.t, &frame).root;
+                root = Sharing::of_frame(self.session_number(), self.n, self.t, &frame).root;
             }
             _ => root = self.sharing(&random.bytes(45)).root,
         }
@@ -595,7 +606,7 @@ impl Draft {
                 let above = least + random.below(240) as u8;
                 self.head[1] = random.pick(&[least, least, least + 1, 127, 128, 129, 255, above]);
             }
-            Damage::Options => self.turned_options |= random.pick(&[4, 8, 16, 32, 64, 128, 248]),
+            Damage::Options => self.turned_options |= random.pick(&[4, 8, 16, 32, 64, 128, 240]),
             Damage::GoodBeyond => self.name_beyond(random),
             Damage::Receiver => self.name_not_good(random),
             Damage::Oversize => {

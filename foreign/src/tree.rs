@@ -133,6 +133,7 @@ pub fn judge(
 #[cfg(test)]
 mod tests {
     use super::*;
+    use crate::sessions::EDGES;
     use crate::sha256::hex;
 
     fn lengths(n: usize) -> Vec<usize> {
@@ -235,13 +236,12 @@ mod tests {
 
     #[test]
     fn a_path_passes_under_its_own_session_alone() {
-        let sessions = [0, 1, 0xFF, 0x0100_0000, u32::MAX];
         for n in 1..=MOST_PARTIES {
             let shares = some_shares(n);
-            for session in sessions {
+            for session in EDGES {
                 let root = root(session, &shares);
                 let path = path(session, &shares, n);
-                for other in sessions {
+                for other in EDGES {
                     let passes = check(other, n, n, &shares[n - 1], &path, root);
                     assert_eq!(passes, other == session, "n {n}, {session} and {other}");
                 }

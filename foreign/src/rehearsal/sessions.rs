@@ -4,9 +4,7 @@ use super::tests::{cause, plan, printed, SILENT};
 use super::*;
 use crate::liars::Sharing;
 use crate::message_packet::write;
-
-/// The numbers that are tried: of one byte and of four, with a byte alone at either end.
-const NUMBERS: [u32; 5] = [0, 1, 0xFF, 0x0100_0000, u32::MAX];
+use crate::sessions::EDGES;
 
 /// Of three parties the first two are good and have these messages; what the third sends is told
 /// behind them.
@@ -25,7 +23,7 @@ fn a_number_changes_no_line() {
     for messages in [[b"AB", b"AB"], [b"AB", b"CD"]] {
         let messages = messages.map(|it| &it[..]);
         let without = printed(&plan(&[3, 1, 0], 3, &messages, SILENT));
-        for session in NUMBERS {
+        for session in EDGES {
             let with = of_three(&[8], session, &messages, SILENT);
             assert_eq!(printed(&with), without);
             assert_eq!(
@@ -39,8 +37,8 @@ fn a_number_changes_no_line() {
 /// The root that is given counts in the session of the plan alone.
 #[test]
 fn a_given_root_is_the_sessions_own() {
-    for session in NUMBERS {
-        for other in NUMBERS {
+    for session in EDGES {
+        for other in EDGES {
             let root = root_of(other, b"A");
             let fields = [&[9], &root[..]].concat();
             let found = cause(&of_three(&fields, session, &[b"A", b"A"], SILENT));
@@ -52,8 +50,8 @@ fn a_given_root_is_the_sessions_own() {
 /// The third party hands the second its share, which passes if it was made for this session.
 #[test]
 fn packets_of_another_session_are_not_taken() {
-    for session in NUMBERS {
-        for other in NUMBERS {
+    for session in EDGES {
+        for other in EDGES {
             let packets = Sharing::of(other, 3, 1, b"A");
             let first = [&[0, 2], &lay_out(&[packets.packet(2)])[..]].concat();
             let second = [&[0, 2], &lay_out(&[packets.packet(3)])[..]].concat();
@@ -71,7 +69,7 @@ fn packets_of_another_session_are_not_taken() {
 /// Fields stand lowest option first, the number behind the sender's.
 #[test]
 fn beside_a_sender() {
-    for session in NUMBERS {
+    for session in EDGES {
         let good = of_three(&[12, 1], session, &[b"AB"], SILENT);
         assert_eq!(printed(&good), "1 = 4142\n2 = 4142\nsent 506\n");
         let two = [&[0, 3][..], &lay_out(&[write(b"A"), write(b"BC")])].concat();
