@@ -6,7 +6,15 @@ use crate::random::Random;
 /// and the greatest.
 pub const EDGES: [u32; 5] = [0, 1, 0xFF, 0x0100_0000, u32::MAX];
 
-/// One of these, or any.
+/// The number in this place of a list without end: the edges, then two others, and so on.
+pub fn in_place(place: usize) -> u32 {
+    match EDGES.get(place % (EDGES.len() + 2)) {
+        Some(edge) => *edge,
+        None => Random::new(place as u64).word() as u32,
+    }
+}
+
+/// One of the edges, or any.
 pub fn some(random: &mut Random) -> u32 {
     let any = random.word() as u32;
     match random.once_in(2) {
@@ -40,5 +48,13 @@ mod tests {
         }
         let seen: BTreeSet<u32> = (0..100).map(|_| some(&mut random)).collect();
         assert!(EDGES.iter().all(|edge| seen.contains(edge)) && seen.len() > 30);
+    }
+
+    #[test]
+    fn edges_come_again_and_others_do_not() {
+        let list: Vec<u32> = (0..70).map(in_place).collect();
+        assert_eq!((&list[..5], &list[63..68]), (&EDGES[..], &EDGES[..]));
+        let seen: BTreeSet<u32> = list.into_iter().collect();
+        assert_eq!(seen.len(), EDGES.len() + 20);
     }
 }

@@ -4,8 +4,7 @@ use super::of_three;
 use super::senders::{small_bad, small_good};
 use crate::liars::{Lie, Sharing};
 use crate::plans::{Damage, Draft, Made, Size};
-use crate::random::Random;
-use crate::sessions::EDGES;
+use crate::sessions::{in_place, EDGES};
 
 /// A number whose bytes differ, and the same bytes from the last to the first.
 const ORDERED: u32 = 0x0102_0304;
@@ -17,14 +16,10 @@ pub(super) fn stored() -> impl Iterator<Item = Made> {
         .chain(pairs().flat_map(other_roots))
 }
 
-/// What may be written of the number, from this place on in turn: nothing, each edge, and any number.
+/// What may be written of the number, from this place on in turn: now and then nothing, else a number
+/// of the list.
 pub(super) fn written(first: usize) -> impl Iterator<Item = Option<u32>> {
-    let any = |place: usize| Random::new(place as u64).word() as u32;
-    (first..).map(move |place| match place % (EDGES.len() + 2) {
-        0 => None,
-        last if last > EDGES.len() => Some(any(place)),
-        edge => Some(EDGES[edge - 1]),
-    })
+    (first..).map(|place| (!place.is_multiple_of(8)).then(|| in_place(place)))
 }
 
 fn numbers() -> impl Iterator<Item = u32> + Clone {
@@ -160,13 +155,5 @@ mod tests {
             bytes[at + bit / 8] ^= 1 << (bit % 8);
             assert_eq!(rehearse(&bytes), b"1 -\n2 -\nsent 0\n");
         }
-    }
-
-    #[test]
-    fn numbers_are_written_in_turn() {
-        let round: Vec<Option<u32>> = written(0).take(14).collect();
-        assert_eq!((round[0], round[7]), (None, None));
-        assert!(round[1..6].iter().copied().eq(EDGES.map(Some)));
-        assert!(round[6].is_some() && round[6] != round[13]);
     }
 }
