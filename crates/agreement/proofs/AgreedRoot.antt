@@ -33,7 +33,7 @@ use Rattle.commitment.proofs.Rebuild.{Short, short-recovered}
 use Rattle.party.specs.State.{Result, nothing, settled, messageIn, resultIn, hasEnded, happy}
 use Rattle.party.specs.Steps.{Stepped, recoveredBy, rebuilt, resultFound, heldOr, resultOf, relaysCause, ending, takeRelaysOf}
 use Rattle.party.specs.declared.Party.{Party}
-use Rattle.party.specs.declared.Seat.{Seat}
+use Rattle.commitment.specs.declared.Seat.{Seat}
 use Rattle.party.proofs.Outcomes.{holds-not, found-rebuilt}
 use Rattle.party.proofs.Ways.{Way, on, off, way, clash}
 use Rattle.agreement.specs.Calls.{Call, agreeRoot, agreeBit, takeShares, takeRelays, stepOf, inboxIn, Event, accepted, stringsOver, made, events, recodedIn}

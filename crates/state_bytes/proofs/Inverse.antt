@@ -20,7 +20,7 @@ use Rattle.party.specs.State.{Result, nothing, settled, resultBytes, padded, at
 use Rattle.party.specs.declared.Outcome.the-variants as outcome
 use Rattle.party.specs.declared.Stage.{Stage}
 use Rattle.party.specs.declared.Stage.the-variants.{Root, Bit, First, Second, Ended}
-use Rattle.party.specs.declared.Seat.{Seat}
+use Rattle.commitment.specs.declared.Seat.{Seat}
 use Rattle.party.specs.declared.Party.{Party}
 use Rattle.state_bytes.specs.Layout.{rootPlace, headLength, stateLength, stageNumber, lengthFor, headOf, stateBytes, stageOf}
 use Rattle.state_bytes.specs.Layout.{layoutVersion, versionTold, stageTold, lengthTold, heldTold, stateOf}
