@@ -29,36 +29,36 @@ use Rattle.agreement.proofs.Lists.{sum-none, sum-one, one-each}
 use Rattle.agreement.proofs.Mapped.{all-map, map-map}
 use Rattle.agreement.proofs.Agreement.{agreement}
 
-module _ (H : List ℕ → List ℕ) (wide : (s : List ℕ) → length (H s) ≡ 32) (n t : ℕ) (good : List Opener) (q : ℕ) (z : List ℕ) (bit : ℕ)
-    (P : Premises H n t good q z bit) where
+module _ (H : List ℕ → List ℕ) (wide : (s : List ℕ) → length (H s) ≡ 32) (session n t : ℕ) (good : List Opener) (q : ℕ) (z : List ℕ) (bit : ℕ)
+    (P : Premises H session n t good q z bit) where
   abbrev In : Opener → Type 0
   In A = List·Memᴰ A good
 
   -- each opening is the ordinary one, and what was written is the packet
-  opens : (A : Opener) → In A → begun H n t good A .opened ≡ opening H n t (A .own) (partyOf A .message)
-  opens A h = accepted-opens n t (A .own) (A .sender) (A .bytes) H (A .out) (P .opened .accepted A h)
+  opens : (A : Opener) → In A → begun H session n t good A .opened ≡ opening H session n t (A .own) (partyOf A .message)
+  opens A h = accepted-opens n t (A .own) (A .sender) (A .bytes) H session (A .out) (P .opened .accepted A h)
 
-  wrote : (A : Opener) → In A → gave H n t good A ≡ packetBy n (A .own) (A .sender) (A .bytes)
-  wrote A h = accepted-wrote n t (A .own) (A .sender) (A .bytes) H (A .out) (P .opened .accepted A h)
+  wrote : (A : Opener) → In A → gave H session n t good A ≡ packetBy n (A .own) (A .sender) (A .bytes)
+  wrote A h = accepted-wrote n t (A .own) (A .sender) (A .bytes) H session (A .out) (P .opened .accepted A h)
 
   -- the numbers of the sender and of the party, and its message's length
   bounds : (A : Opener) → In A → (1 ≤ A .own) × (A .own ≤ n) × (length (partyOf A .message) ≤ maxMessage) × (1 ≤ q) × (q ≤ n)
   bounds A h =
-      let f = accepted-fits n t (A .own) (A .sender) (A .bytes) H (A .out) (P .opened .accepted A h) in
+      let f = accepted-fits n t (A .own) (A .sender) (A .bytes) H session (A .out) (P .opened .accepted A h) in
       let c = cause-bounds n t (A .own) (A .sender) (A .bytes) (f .0) in
       let b = open-bounds n t (A .own) (length (partyOf A .message)) (c .0) in
       let e = P .opened .named A h in
       (b .1, b .2, b .3, omega (arith, c .1, e), omega (arith, c .2, e))
 
-  numbers : map (λ (A : Good). A .own) (parties H n t good) ≡ map (λ (A : Opener). A .own) good
+  numbers : map (λ (A : Good). A .own) (parties H session n t good) ≡ map (λ (A : Opener). A .own) good
   numbers = map-map partyOf (λ (A : Good). A .own) good
 
-  premises : agreement.Premises H n t (parties H n t good) z bit
+  premises : agreement.Premises H session n t (parties H session n t good) z bit
   premises =
       record {
         opened = record {
           bytes = all-map partyOf (λ (A : Good). Bytes (A .message)) good (P .opened .bytes);
-          accepted = all-map partyOf (λ (A : Good). opening H n t (A .own) (A .message) .cause ≡ 0) good
+          accepted = all-map partyOf (λ (A : Good). opening H session n t (A .own) (A .message) .cause ≡ 0) good
               (λ A h. sym (ap (λ (o : Opened). o .cause) (opens A h)) ∙ P .opened .accepted A h);
           apart = ap different numbers ∙ P .opened .apart;
           bad = subst (λ (l : List ℕ). agreement.absent n 1 l ≤ t) (sym numbers) (P .opened .bad);
@@ -92,14 +92,14 @@ module _ (H : List ℕ → List ℕ) (wide : (s : List ℕ) → length (H s) ≡
       | no d ↦ received A h d
     ]
 
-  module _ (R : Result) (C : Conclusions H n t (parties H n t good) bit R) where
+  module _ (R : Result) (C : Conclusions H session n t (parties H session n t good) bit R) where
     senders : (S : Opener) → In S → S .own ≡ q → R ≡ settled (S .bytes)
     senders S hS eS =
         C .common (S .bytes) (all-map partyOf (λ (A : Good). A .message ≡ S .bytes) good (λ A h. all-have S hS eS A h))
 
     -- the bytes of the sender's exchange
     abbrev first : Opener → ℕ
-    first A = (n - 1) * length (gave H n t good A)
+    first A = (n - 1) * length (gave H session n t good A)
 
     others-none : (A : Opener) → In A → A .own ≢ q → first A ≡ 0
     others-none A h d =
@@ -109,7 +109,7 @@ module _ (H : List ℕ → List ℕ) (wide : (s : List ℕ) → length (H s) ≡
     sender-some : (m : List ℕ) → R ≡ settled m → (A : Opener) → In A → A .own ≡ q → first A ≤ (n - 1) * (3 + length m)
     sender-some m e A h eA =
         let own : A .bytes ≡ m = let same : settled (A .bytes) ≡ settled m = sym (senders A h eA) ∙ e in cc in
-        mul-le-mul-left {m = length (gave H n t good A)} {n = 3 + length m} (n - 1) (omega (
+        mul-le-mul-left {m = length (gave H session n t good A)} {n = 3 + length m} (n - 1) (omega (
           arith,
           ap length (wrote A h),
           packet-short n (A .own) (A .sender) (A .bytes),
@@ -117,15 +117,15 @@ module _ (H : List ℕ → List ℕ) (wide : (s : List ℕ) → length (H s) ≡
         ))
 
     sent-bound : (m : List ℕ) → R ≡ settled m
-        → sent H n t (parties H n t good) ≤ 2 * length good * (n - 1) * (4 + shareLength (n - t) (length m) + 32 * height n)
+        → sent H session n t (parties H session n t good) ≤ 2 * length good * (n - 1) * (4 + shareLength (n - t) (length m) + 32 * height n)
     sent-bound m e =
-        subst (λ (k : ℕ). sent H n t (parties H n t good) ≤ 2 * k * (n - 1) * (4 + shareLength (n - t) (length m) + 32 * height n))
+        subst (λ (k : ℕ). sent H session n t (parties H session n t good) ≤ 2 * k * (n - 1) * (4 + shareLength (n - t) (length m) + 32 * height n))
         (length-map good partyOf) (C .bound m e)
 
     no-sender : R ≡ nothing → (A : Opener) → In A → A .own ≢ q
     no-sender e A h eA = let same : nothing ≡ settled (A .bytes) = sym e ∙ senders A h eA in let c : _≡_ {A = ℕ} 0 1 = cc in omega arith
 
-    settles : Settled H n t good q bit R
+    settles : Settled H session n t good q bit R
     settles =
         record {
           opens = opens;
@@ -141,9 +141,9 @@ module _ (H : List ℕ → List ℕ) (wide : (s : List ℕ) → length (H s) ≡
         }
 
 pub broadcast : (H : List ℕ → List ℕ) → ((s : List ℕ) → length (H s) ≡ 32) → Broadcast H
-broadcast H wide n t good q z bit P =
-    let a = agreement H wide n t (parties H n t good) z bit (premises H wide n t good q z bit P) in
-    (a .0, settles H wide n t good q z bit P (a .0) (a .1))
+broadcast H wide session n t good q z bit P =
+    let a = agreement H wide session n t (parties H session n t good) z bit (premises H wide session n t good q z bit P) in
+    (a .0, settles H wide session n t good q z bit P (a .0) (a .1))
 
 -- at SHA-256
 pub broadcast-sha256 : Broadcast sha256

@@ -51,108 +51,108 @@ module _ (H K : List ℕ → List ℕ) where
   recoding-agree x call f = agree-right (checkedIn H x call) (recodedIn H x call) f
 
   -- a packet's class, by the strings of its check
-  passes-depends : (n j : ℕ) (z x : List ℕ) (p : List (List ℕ)) → Agree H K (stringsOf H n j x p (length p))
-      → passes H n j x p (length p) z ≡ passes K n j x p (length p) z
-  passes-depends n j z x p f = go (way (eqb (length p) (length (sidesOf n j))))
+  passes-depends : (session n j : ℕ) (z x : List ℕ) (p : List (List ℕ)) → Agree H K (stringsOf H session n j x p (length p))
+      → passes H session n j x p (length p) z ≡ passes K session n j x p (length p) z
+  passes-depends session n j z x p f = go (way (eqb (length p) (length (sidesOf n j))))
     where
-      go : Way (eqb (length p) (length (sidesOf n j))) → passes H n j x p (length p) z ≡ passes K n j x p (length p) z
+      go : Way (eqb (length p) (length (sidesOf n j))) → passes H session n j x p (length p) z ≡ passes K session n j x p (length p) z
       go (on e) =
           let c = eqb-true (length p) (length (sidesOf n j)) e in
-          passes-same H n j x p (length p) z c
-          ∙ ap (λ (y : List ℕ). same y z) (check-hashed H n j x p (length p) K c f)
-          ∙ sym (passes-same K n j x p (length p) z c)
+          passes-same H session n j x p (length p) z c
+          ∙ ap (λ (y : List ℕ). same y z) (check-hashed H session n j x p (length p) K c f)
+          ∙ sym (passes-same K session n j x p (length p) z c)
       go (off e) =
           let d = eqb-false (length p) (length (sidesOf n j)) e in
-          passes-miscount H n j x p (length p) z d ∙ sym (passes-miscount K n j x p (length p) z d)
+          passes-miscount H session n j x p (length p) z d ∙ sym (passes-miscount K session n j x p (length p) z d)
 
-  judged-depends : (n j : ℕ) (z : List ℕ) (r : Reading) → Agree H K (checkedStrings H n j r) → judged H n j z r ≡ judged K n j z r
-  judged-depends n j z silence f = refl
-  judged-depends n j z unreadable f = refl
-  judged-depends n j z (shared k x p) f = go (way (eqb k j))
+  judged-depends : (session n j : ℕ) (z : List ℕ) (r : Reading) → Agree H K (checkedStrings H session n j r) → judged H session n j z r ≡ judged K session n j z r
+  judged-depends session n j z silence f = refl
+  judged-depends session n j z unreadable f = refl
+  judged-depends session n j z (shared k x p) f = go (way (eqb k j))
     where
-      go : Way (eqb k j) → judged H n j z (shared k x p) ≡ judged K n j z (shared k x p)
-      go (on e) = rw (e, passes-depends n j z x p (rw e at f))
+      go : Way (eqb k j) → judged H session n j z (shared k x p) ≡ judged K session n j z (shared k x p)
+      go (on e) = rw (e, passes-depends session n j z x p (rw e at f))
       go (off e) = rw e
 
-  pub class-depends : (n j : ℕ) (z w : List ℕ) → Agree H K (classStrings H n j w) → classOf H n j z w ≡ classOf K n j z w
+  pub class-depends : (session n j : ℕ) (z w : List ℕ) → Agree H K (classStrings H session n j w) → classOf H session n j z w ≡ classOf K session n j z w
   unfolding classOf classStrings
-  class-depends n j z w f = judged-depends n j z (readOf n w) f
+  class-depends session n j z w f = judged-depends session n j z (readOf n w) f
 
   -- the search of step 4, and the shares of step 5
-  pub first-depends : (n own : ℕ) (z : List ℕ) (j : ℕ) (ps : List (List ℕ)) → Agree H K (shareStrings H n own z j ps)
-      → firstValid H n own z j ps ≡ firstValid K n own z j ps
+  pub first-depends : (session n own : ℕ) (z : List ℕ) (j : ℕ) (ps : List (List ℕ)) → Agree H K (shareStrings H session n own z j ps)
+      → firstValid H session n own z j ps ≡ firstValid K session n own z j ps
   unfolding firstValid shareStrings
-  first-depends n own z j [] f = refl
-  first-depends n own z j (w ∷ ps) f = go (way (eqb j own)) (first-depends n own z (j + 1) ps)
+  first-depends session n own z j [] f = refl
+  first-depends session n own z j (w ∷ ps) f = go (way (eqb j own)) (first-depends session n own z (j + 1) ps)
     where
-      later : eqb j own ≡ false → (c : Class) → classOf H n own z w ≡ c → classOf K n own z w ≡ c
-          → (Agree H K (shareStrings H n own z (j + 1) ps) → firstValid H n own z (j + 1) ps ≡ firstValid K n own z (j + 1) ps)
-          → firstValid H n own z j (w ∷ ps) ≡ firstValid K n own z j (w ∷ ps)
+      later : eqb j own ≡ false → (c : Class) → classOf H session n own z w ≡ c → classOf K session n own z w ≡ c
+          → (Agree H K (shareStrings H session n own z (j + 1) ps) → firstValid H session n own z (j + 1) ps ≡ firstValid K session n own z (j + 1) ps)
+          → firstValid H session n own z j (w ∷ ps) ≡ firstValid K session n own z j (w ∷ ps)
       later e silent p q r =
-          rw (e, p, q) (r (agree-right (classStrings H n own w) (shareStrings H n own z (j + 1) ps) (rw (e, p) at f)))
+          rw (e, p, q) (r (agree-right (classStrings H session n own w) (shareStrings H session n own z (j + 1) ps) (rw (e, p) at f)))
       later e faulty p q r =
-          rw (e, p, q) (r (agree-right (classStrings H n own w) (shareStrings H n own z (j + 1) ps) (rw (e, p) at f)))
+          rw (e, p, q) (r (agree-right (classStrings H session n own w) (shareStrings H session n own z (j + 1) ps) (rw (e, p) at f)))
       later e (valid x path) p q r = rw (e, p, q)
 
       go : Way (eqb j own)
-          → (Agree H K (shareStrings H n own z (j + 1) ps) → firstValid H n own z (j + 1) ps ≡ firstValid K n own z (j + 1) ps)
-          → firstValid H n own z j (w ∷ ps) ≡ firstValid K n own z j (w ∷ ps)
+          → (Agree H K (shareStrings H session n own z (j + 1) ps) → firstValid H session n own z (j + 1) ps ≡ firstValid K session n own z (j + 1) ps)
+          → firstValid H session n own z j (w ∷ ps) ≡ firstValid K session n own z j (w ∷ ps)
       go (on e) r = rw e (r (rw e at f))
       go (off e) r =
-          let c = class-depends n own z w
-          (agree-left (classStrings H n own w) (unlessValid (classOf H n own z w) (shareStrings H n own z (j + 1) ps)) (rw e at f)) in
-          later e (classOf H n own z w) refl (sym c) r
+          let c = class-depends session n own z w
+          (agree-left (classStrings H session n own w) (unlessValid (classOf H session n own z w) (shareStrings H session n own z (j + 1) ps)) (rw e at f)) in
+          later e (classOf H session n own z w) refl (sym c) r
 
-  pub gathered-depends : (x : Party) (j : ℕ) (ps : List (List ℕ)) → Agree H K (relayStrings H (x .seat .n) (x .seat .own) j ps)
+  pub gathered-depends : (x : Party) (j : ℕ) (ps : List (List ℕ)) → Agree H K (relayStrings H (x .seat .session) (x .seat .n) (x .seat .own) j ps)
       → gathered H x j ps ≡ gathered K x j ps
   unfolding gathered relayStrings
   gathered-depends x j [] f = refl
   gathered-depends x j (w ∷ ps) f =
-      let s : List (List ℕ) = cond (eqb j (x .seat .own)) [] (classStrings H (x .seat .n) j w) in
-      ap₂ {C = List (List ℕ)} (λ y l. y ∷ l) (go (way (eqb j (x .seat .own))) (agree-left s (relayStrings H (x .seat .n) (x .seat .own) (j + 1) ps) f))
-      (gathered-depends x (j + 1) ps (agree-right s (relayStrings H (x .seat .n) (x .seat .own) (j + 1) ps) f))
+      let s : List (List ℕ) = cond (eqb j (x .seat .own)) [] (classStrings H (x .seat .session) (x .seat .n) j w) in
+      ap₂ {C = List (List ℕ)} (λ y l. y ∷ l) (go (way (eqb j (x .seat .own))) (agree-left s (relayStrings H (x .seat .session) (x .seat .n) (x .seat .own) (j + 1) ps) f))
+      (gathered-depends x (j + 1) ps (agree-right s (relayStrings H (x .seat .session) (x .seat .n) (x .seat .own) (j + 1) ps) f))
     where
-      go : Way (eqb j (x .seat .own)) → Agree H K (cond (eqb j (x .seat .own)) [] (classStrings H (x .seat .n) j w))
-          → cond (eqb j (x .seat .own)) (shareHeld x) (shareFrom (classOf H (x .seat .n) j (x .root) w))
-          ≡ cond (eqb j (x .seat .own)) (shareHeld x) (shareFrom (classOf K (x .seat .n) j (x .root) w))
+      go : Way (eqb j (x .seat .own)) → Agree H K (cond (eqb j (x .seat .own)) [] (classStrings H (x .seat .session) (x .seat .n) j w))
+          → cond (eqb j (x .seat .own)) (shareHeld x) (shareFrom (classOf H (x .seat .session) (x .seat .n) j (x .root) w))
+          ≡ cond (eqb j (x .seat .own)) (shareHeld x) (shareFrom (classOf K (x .seat .session) (x .seat .n) j (x .root) w))
       go (on e) g = rw e
-      go (off e) g = rw e (ap shareFrom (class-depends (x .seat .n) j (x .root) w (rw e at g)))
+      go (off e) g = rw e (ap shareFrom (class-depends (x .seat .session) (x .seat .n) j (x .root) w (rw e at g)))
 
   -- a message's root and packets, by the strings of its tree
-  module _ (wide : (x : List ℕ) → length (H x) ≡ 32) (n t : ℕ) (m : List ℕ) (c : Coded n t m)
-      (tree : Agree H K (codingStrings H n (shares n (n - t) m))) where
-    pub root-depends : messageRoot H n t m ≡ messageRoot K n t m
+  module _ (wide : (x : List ℕ) → length (H x) ≡ 32) (session n t : ℕ) (m : List ℕ) (c : Coded n t m)
+      (tree : Agree H K (codingStrings H session n (shares n (n - t) m))) where
+    pub root-depends : messageRoot H session n t m ≡ messageRoot K session n t m
     unfolding messageRoot
     root-depends =
-        root-hashed H wide n (shares n (n - t) m) (fine n t m c) K tree
-        ∙ sym (tree-root K n (shares n (n - t) m) (fine n t m c) (c .low) (c .high))
+        root-hashed H wide session n (shares n (n - t) m) (fine n t m c session) K tree
+        ∙ sym (tree-root K session n (shares n (n - t) m) (fine n t m c session) (c .low) (c .high))
 
     path-same : (j : ℕ) → 1 ≤ j → j ≤ n
-        → pathOf H n j (leavesOf H n (shares n (n - t) m)) ≡ pathOf K n j (leavesOf K n (shares n (n - t) m))
+        → pathOf H n j (leavesOf H session n (shares n (n - t) m)) ≡ pathOf K n j (leavesOf K session n (shares n (n - t) m))
     path-same j first last =
-        path-hashed H wide n (shares n (n - t) m) (fine n t m c) j first last K tree
-        ∙ sym (tree-path K n (shares n (n - t) m) (fine n t m c) (c .low) (c .high) j first last)
+        path-hashed H wide session n (shares n (n - t) m) (fine n t m c session) j first last K tree
+        ∙ sym (tree-path K session n (shares n (n - t) m) (fine n t m c session) (c .low) (c .high) j first last)
 
   -- whether what was rebuilt has a root, by the strings of its second coding
-  under-depends : ((x : List ℕ) → length (H x) ≡ 32) → (n t : ℕ) (z m : List ℕ) → Coded n t m → (a : Recovered) → Short a
-      → Agree H K (recodedStrings H n t a) → underRoot H n t z a ≡ underRoot K n t z a
-  under-depends wide n t z m c (cause k) s f = refl
-  under-depends wide n t z m c (message o) s f =
+  under-depends : ((x : List ℕ) → length (H x) ≡ 32) → (session n t : ℕ) (z m : List ℕ) → Coded n t m → (a : Recovered) → Short a
+      → Agree H K (recodedStrings H session n t a) → underRoot H session n t z a ≡ underRoot K session n t z a
+  under-depends wide session n t z m c (cause k) s f = refl
+  under-depends wide session n t z m c (message o) s f =
       ap (λ (r : List ℕ). cond (same r z) (message o) (cause 15))
-      (root-depends wide n t o (record { low = c .low; high = c .high; faults = c .faults; short = s }) f)
+      (root-depends wide session n t o (record { low = c .low; high = c .high; faults = c .faults; short = s }) f)
 
   -- so all that a state's own message gives
   module _ (wide : (x : List ℕ) → length (H x) ≡ 32) (x : Party) (c : Coded (x .seat .n) (x .seat .t) (messageIn x)) (own : 1 ≤ x .seat .own) (last : x .seat .own ≤ x .seat .n)
-      (tree : Agree H K (codingStrings H (x .seat .n) (shares (x .seat .n) (x .seat .n - x .seat .t) (messageIn x)))) where
+      (tree : Agree H K (codingStrings H (x .seat .session) (x .seat .n) (shares (x .seat .n) (x .seat .n - x .seat .t) (messageIn x)))) where
     happy-depends : happy H x ≡ happy K x
     unfolding happy
-    happy-depends = ap (λ (r : List ℕ). same r (x .root)) (root-depends wide (x .seat .n) (x .seat .t) (messageIn x) c tree)
+    happy-depends = ap (λ (r : List ℕ). same r (x .root)) (root-depends wide (x .seat .session) (x .seat .n) (x .seat .t) (messageIn x) c tree)
 
     packet-depends : (j : ℕ) → 1 ≤ j → j ≤ x .seat .n → packetFor H x j ≡ packetFor K x j
     unfolding packetFor
     packet-depends j first end =
         ap (λ (p : List (List ℕ)). packetOf j (share (x .seat .n - x .seat .t) j (messageIn x)) (take (length (sidesOf (x .seat .n) j)) p))
-        (path-same wide (x .seat .n) (x .seat .t) (messageIn x) c tree j first end)
+        (path-same wide (x .seat .session) (x .seat .n) (x .seat .t) (messageIn x) c tree j first end)
 
     pub outbox-depends : (bit : ℕ) → outboxOf H x bit ≡ outboxOf K x bit
     unfolding outboxOf
@@ -175,7 +175,7 @@ module _ (H K : List ℕ → List ℕ) where
 
       taken-depends : happy H x ≡ false → Shares → takenBy H x inbox ≡ takenBy K x inbox
       unfolding checkedIn
-      taken-depends e f = first-depends (x .seat .n) (x .seat .own) (x .root) 1 (bodies (x .seat .n) inbox) (rw e at f)
+      taken-depends e f = first-depends (x .seat .session) (x .seat .n) (x .seat .own) (x .root) 1 (bodies (x .seat .n) inbox) (rw e at f)
 
       pub relay-depends : Shares → relayOf H x inbox ≡ relayOf K x inbox
       unfolding relayOf
@@ -203,9 +203,9 @@ module _ (H K : List ℕ → List ℕ) where
               let g = checks-agree x (takeRelays inbox out) f in
               let h = recoding-agree x (takeRelays inbox out) f in
               rw (e, sym happy-depends ∙ e)
-              (ap rebuilt (under-depends wide (x .seat .n) (x .seat .t) (x .root) (messageIn x) c (recoveredBy H x inbox)
+              (ap rebuilt (under-depends wide (x .seat .session) (x .seat .n) (x .seat .t) (x .root) (messageIn x) c (recoveredBy H x inbox)
               (short-recovered (x .seat .n - x .seat .t) _) (rw (w, e) at h)
-              ∙ ap (λ (gs : List (List ℕ)). underRoot K (x .seat .n) (x .seat .t) (x .root) (recovered (x .seat .n - x .seat .t) (present 1 gs)))
+              ∙ ap (λ (gs : List (List ℕ)). underRoot K (x .seat .session) (x .seat .n) (x .seat .t) (x .root) (recovered (x .seat .n - x .seat .t) (present 1 gs)))
               (gathered-depends x 1 (bodies (x .seat .n) inbox) (rw (w, e) at g))))
 
       pub result-depends : Relays → resultOf H x inbox ≡ resultOf K x inbox
@@ -220,9 +220,9 @@ module _ (H K : List ℕ → List ℕ) where
     bit-depends : (z : List ℕ) → happy H (withRoot x z) ≡ happy K (withRoot x z)
     unfolding happy atBit
     bit-depends z =
-        ap (λ (m : List ℕ). same (messageRoot H (x .seat .n) (x .seat .t) m) z) (message-bit (x .seat) (messageIn x) z)
-        ∙ ap (λ (r : List ℕ). same r z) (root-depends wide (x .seat .n) (x .seat .t) (messageIn x) c tree)
-        ∙ sym (ap (λ (m : List ℕ). same (messageRoot K (x .seat .n) (x .seat .t) m) z) (message-bit (x .seat) (messageIn x) z))
+        ap (λ (m : List ℕ). same (messageRoot H (x .seat .session) (x .seat .n) (x .seat .t) m) z) (message-bit (x .seat) (messageIn x) z)
+        ∙ ap (λ (r : List ℕ). same r z) (root-depends wide (x .seat .session) (x .seat .n) (x .seat .t) (messageIn x) c tree)
+        ∙ sym (ap (λ (m : List ℕ). same (messageRoot K (x .seat .session) (x .seat .n) (x .seat .t) m) z) (message-bit (x .seat) (messageIn x) z))
 
     -- the whole reply
     pub made-depends : (call : Call) → Agree H K (hashedIn H x call) → made H x call ≡ made K x call

@@ -117,99 +117,99 @@ module _ (H : List ℕ → List ℕ) where
       absurd (true≢false (sym blank-broken ∙ unbroken H blankState (d .call) (subst (λ (v : Event). v .reply .cause ≡ 0) (h .0) (h .1))))
 
   -- a party that opened with a message and got these calls
-  module _ (n t i : ℕ) (m : List ℕ) (calls : List Call) where
-    unopened : opening H n t i m .cause ≢ 0 → (did H n t i m calls ≡ []) × (resultAfter H n t i m calls ≡ none)
+  module _ (session n t i : ℕ) (m : List ℕ) (calls : List Call) where
+    unopened : opening H session n t i m .cause ≢ 0 → (did H session n t i m calls ≡ []) × (resultAfter H session n t i m calls ≡ none)
     unfolding did blankState
     unopened d =
-        let c : openCause n t i (length m) ≢ 0 = λ q. d (ap (λ (o : Opened). o .cause) (open-given H n t i m q)) in
-        let e : opening H n t i m .state ≡ blankState = ap (λ (o : Opened). o .state) (open-refused H n t i m c) in
+        let c : openCause n t i (length m) ≢ 0 = λ q. d (ap (λ (o : Opened). o .cause) (open-given H session n t i m q)) in
+        let e : opening H session n t i m .state ≡ blankState = ap (λ (o : Opened). o .state) (open-refused H session n t i m c) in
         let b = blank-refuses (final H blankState calls) (accepted (events H blankState calls)) (chain H blankState calls) in (
           ap (λ (x : Party). accepted (events H x calls)) e ∙ b .0,
           ap (λ (x : Party). resultIn (final H x calls)) e ∙ ap resultIn (b .1),
         )
 
     -- so whoever has an accepted call, or a result, was opened
-    pub opened-did : (e : Event) → List·Memᴰ e (did H n t i m calls) → opening H n t i m .cause ≡ 0
-    opened-did e h = go (ℕ-discrete (opening H n t i m .cause) 0)
+    pub opened-did : (e : Event) → List·Memᴰ e (did H session n t i m calls) → opening H session n t i m .cause ≡ 0
+    opened-did e h = go (ℕ-discrete (opening H session n t i m .cause) 0)
       where
-        go : Dec (opening H n t i m .cause ≡ 0) → opening H n t i m .cause ≡ 0
+        go : Dec (opening H session n t i m .cause ≡ 0) → opening H session n t i m .cause ≡ 0
         go (yes c) = c
         go (no d) = absurd (List·Memᴰ·not-nil (subst (List·Memᴰ e) (unopened d .0) h))
 
-    opened-ended : (R : Result) → resultAfter H n t i m calls ≡ some R → opening H n t i m .cause ≡ 0
-    opened-ended R f = go (ℕ-discrete (opening H n t i m .cause) 0)
+    opened-ended : (R : Result) → resultAfter H session n t i m calls ≡ some R → opening H session n t i m .cause ≡ 0
+    opened-ended R f = go (ℕ-discrete (opening H session n t i m .cause) 0)
       where
-        go : Dec (opening H n t i m .cause ≡ 0) → opening H n t i m .cause ≡ 0
+        go : Dec (opening H session n t i m .cause ≡ 0) → opening H session n t i m .cause ≡ 0
         go (yes c) = c
         go (no d) = absurd (Option·none-ne-some R (sym (unopened d .1) ∙ f))
 
     -- the first accepted calls of a party that holds a result
     pub record Went (R : Result) : Type 0 where
-      pub opened : opening H n t i m .cause ≡ 0
+      pub opened : opening H session n t i m .cause ≡ 0
       pub z : List ℕ
       pub second : Event
-      pub is-2 : firstOf H n t i m calls 2 ≡ some second
+      pub is-2 : firstOf H session n t i m calls 2 ≡ some second
       pub root : second .call ≡ agreeRoot z
       pub third : Event
       pub bit : ℕ
       pub out : List ℕ
-      pub is-3 : firstOf H n t i m calls 3 ≡ some third
+      pub is-3 : firstOf H session n t i m calls 3 ≡ some third
       pub told : third .call ≡ agreeBit bit out
-      pub rest : ((bit ≡ 0) × (R ≡ nothing)) ⊎ ((bit ≡ 1) × Ran H n t i m calls z)
+      pub rest : ((bit ≡ 0) × (R ≡ nothing)) ⊎ ((bit ≡ 1) × Ran H session n t i m calls z)
 
-    module _ (R : Result) (f : resultAfter H n t i m calls ≡ some R) where
-      o : opening H n t i m .cause ≡ 0
+    module _ (R : Result) (f : resultAfter H session n t i m calls ≡ some R) where
+      o : opening H session n t i m .cause ≡ 0
       o = opened-ended R f
 
       abbrev all : List Event
-      all = did H n t i m calls
+      all = did H session n t i m calls
 
       abbrev end : Party
-      end = fin H n t i m calls o
+      end = fin H session n t i m calls o
 
       holds : resultIn end ≡ some R
-      holds = sym (ends-is H n t i m calls o) ∙ f
+      holds = sym (ends-is H session n t i m calls o) ∙ f
 
       -- from step 3 on
       module _ (z : List ℕ) (e2 : Event) (f2 : first 2 all ≡ some e2) (c2 : e2 .call ≡ agreeRoot z) where
         -- with the agreed bit 1
         module _ (e3 : Event) (out : List ℕ) (f3 : first 3 all ≡ some e3) (c3 : e3 .call ≡ agreeBit 1 out) where
-          on-one : Ran H n t i m calls z
+          on-one : Ran H session n t i m calls z
           unfolding first atFirst atSecond
           on-one =
-              let b = begun H n t i m calls z o e2 e3 1 out f2 c2 f3 c3 in
-              let X2 : Party = atFirst (seatOf n t i) m z in
+              let b = begun H session n t i m calls z o e2 e3 1 out f2 c2 f3 c3 in
+              let X2 : Party = atFirst (seatOf session n t i) m z in
               let g4 = goes-on 4 X2 end (b .0) R refl refl (b .3) holds in
               let c4 = is-fourth (g4 .0 .call) (turn-of H 4 X2 end (b .0) (g4 .0) refl (b .3) (g4 .1)) in
               let y4 = accepted-at H 4 X2 end (b .0) (g4 .0) (takeShares (c4 .0) (c4 .1)) refl (b .3) (g4 .1) (c4 .2) in
-              let a = advance H 4 X2 end (b .0) (g4 .0) (takeShares (c4 .0) (c4 .1)) (reply4 H n t i m z (c4 .0) (c4 .1)) refl (b .3) (g4 .1) (c4 .2)
-              (did4 H X2 (c4 .0) (c4 .1) y4 .1 ∙ is4 H n t i m z (c4 .0) (c4 .1)) in
-              let g5 = goes-on 5 (atSecond (seatOf n t i) m z (heldOf H X2 (c4 .0))) end (a .0) R refl refl (a .2) holds in
-              ran-through H n t i m calls z o e2 e3 (g4 .0) (g5 .0) out f2 c2 f3 c3 (ap (first 4) (b .1) ∙ g4 .1)
-              (ap (first 5) (b .1 ∙ ap (λ (l : List Event). ev2 H n t i m z ∷ ev3 H n t i m z 1 out ∷ l) (a .1)) ∙ g5 .1)
+              let a = advance H 4 X2 end (b .0) (g4 .0) (takeShares (c4 .0) (c4 .1)) (reply4 H session n t i m z (c4 .0) (c4 .1)) refl (b .3) (g4 .1) (c4 .2)
+              (did4 H X2 (c4 .0) (c4 .1) y4 .1 ∙ is4 H session n t i m z (c4 .0) (c4 .1)) in
+              let g5 = goes-on 5 (atSecond (seatOf session n t i) m z (heldOf H X2 (c4 .0))) end (a .0) R refl refl (a .2) holds in
+              ran-through H session n t i m calls z o e2 e3 (g4 .0) (g5 .0) out f2 c2 f3 c3 (ap (first 4) (b .1) ∙ g4 .1)
+              (ap (first 5) (b .1 ∙ ap (λ (l : List Event). ev2 H session n t i m z ∷ ev3 H session n t i m z 1 out ∷ l) (a .1)) ∙ g5 .1)
 
         on-either : (e3 : Event) (bit : ℕ) (out : List ℕ) → first 3 all ≡ some e3 → e3 .call ≡ agreeBit bit out
-            → ((bit ≡ 0) × (R ≡ nothing)) ⊎ ((bit ≡ 1) × Ran H n t i m calls z)
+            → ((bit ≡ 0) × (R ≡ nothing)) ⊎ ((bit ≡ 1) × Ran H session n t i m calls z)
         on-either e3 bit out f3 c3 = go (ℕ-discrete bit 0)
           where
-            go : Dec (bit ≡ 0) → ((bit ≡ 0) × (R ≡ nothing)) ⊎ ((bit ≡ 1) × Ran H n t i m calls z)
+            go : Dec (bit ≡ 0) → ((bit ≡ 0) × (R ≡ nothing)) ⊎ ((bit ≡ 1) × Ran H session n t i m calls z)
             go (yes q) =
-                inl (q, same-some (sym f ∙ ran-none H n t i m calls z o e2 e3 out f2 c2 f3 (c3 ∙ ap (λ (k : ℕ). agreeBit k out) q) .0))
+                inl (q, same-some (sym f ∙ ran-none H session n t i m calls z o e2 e3 out f2 c2 f3 (c3 ∙ ap (λ (k : ℕ). agreeBit k out) q) .0))
             go (no d) =
-                let q : bit ≡ 1 = omega (arith, begun H n t i m calls z o e2 e3 bit out f2 c2 f3 c3 .2) in
+                let q : bit ≡ 1 = omega (arith, begun H session n t i m calls z o e2 e3 bit out f2 c2 f3 c3 .2) in
                 inr (q, on-one e3 out f3 (c3 ∙ ap (λ (k : ℕ). agreeBit k out) q))
 
       pub went : Went R
       unfolding first atRoot atBit
       went =
-          let X0 : Party = atRoot (seatOf n t i) m in
-          let h = did-chain H n t i m calls o in
+          let X0 : Party = atRoot (seatOf session n t i) m in
+          let h = did-chain H session n t i m calls o in
           let g2 = goes-on 2 X0 end all R refl refl h holds in
           let c2 = is-second (g2 .0 .call) (turn-of H 2 X0 end all (g2 .0) refl h (g2 .1)) in
           let y2 = accepted-at H 2 X0 end all (g2 .0) (agreeRoot (c2 .0)) refl h (g2 .1) (c2 .1) in
-          let a = advance H 2 X0 end all (g2 .0) (agreeRoot (c2 .0)) (reply2 H n t i m (c2 .0)) refl h (g2 .1) (c2 .1)
-          (did2 H X0 (c2 .0) y2 .1 ∙ is2 H n t i m (c2 .0)) in
-          let X1 : Party = atBit (seatOf n t i) m (c2 .0) in
+          let a = advance H 2 X0 end all (g2 .0) (agreeRoot (c2 .0)) (reply2 H session n t i m (c2 .0)) refl h (g2 .1) (c2 .1)
+          (did2 H X0 (c2 .0) y2 .1 ∙ is2 H session n t i m (c2 .0)) in
+          let X1 : Party = atBit (seatOf session n t i) m (c2 .0) in
           let g3 = goes-on 3 X1 end (a .0) R refl refl (a .2) holds in
           let c3 = is-third (g3 .0 .call) (turn-of H 3 X1 end (a .0) (g3 .0) refl (a .2) (g3 .1)) in
           let f3 : first 3 all ≡ some (g3 .0) = ap (first 3) (a .1) ∙ g3 .1 in
@@ -228,36 +228,36 @@ module _ (H : List ℕ → List ℕ) where
           }
 
     -- the same of an accepted step 5 on a state that had not ended: the bit was 1, and it is the first
-    pub ended-by : (e : Event) → List·Memᴰ e (did H n t i m calls) → stepOf (e .call) ≡ 5 → hasEnded (e .before .stage) ≡ false
-        → (R : Result) × (w : Went R) × (w .bit ≡ 1) × Ran H n t i m calls (w .z) × (firstOf H n t i m calls 5 ≡ some e)
+    pub ended-by : (e : Event) → List·Memᴰ e (did H session n t i m calls) → stepOf (e .call) ≡ 5 → hasEnded (e .before .stage) ≡ false
+        → (R : Result) × (w : Went R) × (w .bit ≡ 1) × Ran H session n t i m calls (w .z) × (firstOf H session n t i m calls 5 ≡ some e)
     unfolding first
     ended-by e h five u = go (went R f) (went R f .rest)
       where
-        o : opening H n t i m .cause ≡ 0
+        o : opening H session n t i m .cause ≡ 0
         o = opened-did e h
 
-        all : Chain H (atRoot (seatOf n t i) m) (did H n t i m calls) (fin H n t i m calls o)
-        all = did-chain H n t i m calls o
+        all : Chain H (atRoot (seatOf session n t i) m) (did H session n t i m calls) (fin H session n t i m calls o)
+        all = did-chain H session n t i m calls o
 
         R : Result
-        R = gives-some (atRoot (seatOf n t i) m) (fin H n t i m calls o) (did H n t i m calls) all e h five .0
+        R = gives-some (atRoot (seatOf session n t i) m) (fin H session n t i m calls o) (did H session n t i m calls) all e h five .0
 
-        f : resultAfter H n t i m calls ≡ some R
-        f = ends-is H n t i m calls o ∙ held-after (atRoot (seatOf n t i) m) (fin H n t i m calls o) (did H n t i m calls) all e h five R
-            (gives-some (atRoot (seatOf n t i) m) (fin H n t i m calls o) (did H n t i m calls) all e h five .1)
+        f : resultAfter H session n t i m calls ≡ some R
+        f = ends-is H session n t i m calls o ∙ held-after (atRoot (seatOf session n t i) m) (fin H session n t i m calls o) (did H session n t i m calls) all e h five R
+            (gives-some (atRoot (seatOf session n t i) m) (fin H session n t i m calls o) (did H session n t i m calls) all e h five .1)
 
         waits : resultIn (e .before) ≡ none
         waits = waits-none (e .before) u
 
-        five-is : firstOf H n t i m calls 5 ≡ some e
-        five-is = first-five (atRoot (seatOf n t i) m) (fin H n t i m calls o) (did H n t i m calls) all e h five waits
+        five-is : firstOf H session n t i m calls 5 ≡ some e
+        five-is = first-five (atRoot (seatOf session n t i) m) (fin H session n t i m calls o) (did H session n t i m calls) all e h five waits
 
-        go : (w : Went R) → ((w .bit ≡ 0) × (R ≡ nothing)) ⊎ ((w .bit ≡ 1) × Ran H n t i m calls (w .z))
-            → (R : Result) × (w : Went R) × (w .bit ≡ 1) × Ran H n t i m calls (w .z) × (firstOf H n t i m calls 5 ≡ some e)
+        go : (w : Went R) → ((w .bit ≡ 0) × (R ≡ nothing)) ⊎ ((w .bit ≡ 1) × Ran H session n t i m calls (w .z))
+            → (R : Result) × (w : Went R) × (w .bit ≡ 1) × Ran H session n t i m calls (w .z) × (firstOf H session n t i m calls 5 ≡ some e)
         go w (inr r) = (R, w, r .0, r .1, five-is)
         go w (inl q) =
-            let b = begun H n t i m calls (w .z) o (w .second) (w .third) 0 (w .out) (w .is-2) (w .root) (w .is-3)
+            let b = begun H session n t i m calls (w .z) o (w .second) (w .third) 0 (w .out) (w .is-2) (w .root) (w .is-3)
             (w .told ∙ ap (λ (k : ℕ). agreeBit k (w .out)) (q .0)) in
             let k = first-in 5 (b .0) e (sym (ap (first 5) (b .1)) ∙ five-is) in
             absurd (Option·none-ne-some nothing (sym waits
-            ∙ later-holds (atEnd (seatOf n t i) nothing) (fin H n t i m calls o) (b .0) nothing (result-end (seatOf n t i) nothing) (b .3) e (k .0)))
+            ∙ later-holds (atEnd (seatOf session n t i) nothing) (fin H session n t i m calls o) (b .0) nothing (result-end (seatOf session n t i) nothing) (b .3) e (k .0)))

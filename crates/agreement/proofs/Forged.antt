@@ -14,6 +14,7 @@ use lib.ListN.{length, take, drop, replicate}
 use Rattle.limits.specs.Limits.{parties, numbered, groupCause}
 use Rattle.buffer.specs.Bounds.{Bytes}
 use Rattle.buffer.specs.Splice.{spliced, tabulate}
+use Rattle.buffer.specs.Numbers.{fourBytes}
 use Rattle.buffer.specs.Entries.{size, body, rest, fills, bodies}
 use Rattle.gf256.specs.Field.{timesX, productOf, product, power, inverse}
 use Rattle.polynomial.specs.Polynomial.{sum, pow, value, factor, unit, numerator, denominator, basis, through}
@@ -23,7 +24,7 @@ use Rattle.erasure.proofs.Instances.{two-bytes}
 use Rattle.merkle.specs.Tree.{splitFrom, split, shapeOf, shape, size as leaves, nodeString, sides, beside, root, path, folded}
 use Rattle.merkle.specs.Strings.{treeStrings, foldStrings, checkStrings}
 use Rattle.merkle.specs.Hashes.{topHash, pathHashes}
-use Rattle.merkle.specs.Shares.{leafString, leafStrings, sharesCause, same, leavesOf, rootOf, sidesOf, pathOf, passes, codingStrings, stringsOf}
+use Rattle.merkle.specs.Shares.{sessionBytes, leafString, frontLength, leafStrings, sharesCause, same, leavesOf, rootOf, sidesOf, pathOf, passes, codingStrings, stringsOf}
 use Rattle.packet.specs.Format.{chained, hashes, packetOf, entryOf, shareIn, readOf}
 use Rattle.packet.specs.Inbox.{inboxOf}
 use Rattle.packet.specs.Class.{classOf, classStrings}
@@ -48,7 +49,7 @@ abbrev crooked : List ℕ
 crooked = share 2 1 F ++ (share 2 2 F ++ (1 ∷ 77 ∷ []))
 
 abbrev tree : List (List ℕ)
-tree = leavesOf toy 3 crooked
+tree = leavesOf toy 0 3 crooked
 
 abbrev y : List ℕ
 y = rootOf toy 3 tree
@@ -71,10 +72,10 @@ one = C3 ∷ []
 
 -- n 4, t 1: parties 1 and 2 lie, 3 is happy, 4 is not, and hears from the liars nothing that passes
 abbrev z4 : List ℕ
-z4 = messageRoot toy 4 1 M
+z4 = messageRoot toy 0 4 1 M
 
 abbrev dk : ℕ → List ℕ
-dk j = packetFor toy (atBit (seatOf 4 1 3) M z4) j
+dk j = packetFor toy (atBit (seatOf 0 4 1 3) M z4) j
 
 abbrev D3 : Good
 D3 = record {
@@ -104,17 +105,17 @@ abbrev falseShare : List ℕ
 falseShare = share 2 1 (0x41 ∷ [])
 
 unfoldable pub bent : List ℕ → List ℕ
-bent s = cond (same s (leafString 1 falseShare)) (toy (leafString 1 (share 2 1 N))) (toy s)
+bent s = cond (same s (leafString 0 1 falseShare)) (toy (leafString 0 1 (share 2 1 N))) (toy s)
 
 abbrev w : List ℕ
-w = messageRoot bent 3 1 N
+w = messageRoot bent 0 3 1 N
 
 abbrev bk : ℕ → List ℕ
-bk j = packetFor bent (atBit (seatOf 3 1 3) N w) j
+bk j = packetFor bent (atBit (seatOf 0 3 1 3) N w) j
 
 -- the liar's share with the path of the message's own; it comes first, and with no buffer; then, with one, what good parties sent
 abbrev falseInbox : List ℕ
-falseInbox = inboxOf (packetOf 1 falseShare (take (length (sidesOf 3 1)) (pathOf bent 3 1 (leavesOf bent 3 (shares 3 2 N)))) ∷ [] ∷ [] ∷ [])
+falseInbox = inboxOf (packetOf 1 falseShare (take (length (sidesOf 3 1)) (pathOf bent 3 1 (leavesOf bent 0 3 (shares 3 2 N)))) ∷ [] ∷ [] ∷ [])
 
 abbrev E2 : List Call
 E2 = agreeRoot w ∷ agreeBit 1 room ∷ takeShares (inboxOf ([] ∷ [] ∷ bk 2 ∷ [])) room ∷ takeRelays falseInbox [] ∷ takeRelays (inboxOf ([] ∷ [] ∷ bk 3 ∷ [])) room ∷ []
@@ -125,33 +126,33 @@ told es = map (λ (e : Event). (e .reply .cause, e .reply .result)) es
 
 pub record Computed : Type 0 where
   -- two liars of three, where one may be
-  pub liars : absent 3 1 (owns toy 3 1 one) ≡ 2
+  pub liars : absent 3 1 (owns toy 0 3 1 one) ≡ 2
   -- their packets pass under the root given as agreed
-  pub passing : map (λ (j : ℕ). shareFrom (classOf toy 3 j y (ck j))) (1 ∷ 2 ∷ 3 ∷ []) ≡ share 2 1 F ∷ share 2 2 F ∷ (1 ∷ 77 ∷ []) ∷ []
+  pub passing : map (λ (j : ℕ). shareFrom (classOf toy 0 3 j y (ck j))) (1 ∷ 2 ∷ 3 ∷ []) ≡ share 2 1 F ∷ share 2 2 F ∷ (1 ∷ 77 ∷ []) ∷ []
   -- the one good party said 0, so by its rule the bit is not 1; and no two different strings that it hashed have one hash
-  pub vote : bitGiven (step toy 3 1 one 2 C3) ≡ some 0
-  pub no-collision : clean (allHashed toy 3 1 one) (allHashed toy 3 1 one) ≡ true
+  pub vote : bitGiven (step toy 0 3 1 one 2 C3) ≡ some 0
+  pub no-collision : clean (allHashed toy 0 3 1 one) (allHashed toy 0 3 1 one) ≡ true
   -- what it rebuilds has another root
-  pub other-root : same (messageRoot toy 3 1 F) y ≡ false
+  pub other-root : same (messageRoot toy 0 3 1 F) y ≡ false
   -- without the check it ends with that, with the check with nothing
-  pub invented : told (eventsUnchecked toy (opening toy 3 1 3 (0x43 ∷ []) .state) (C3 .calls)) ≡ (0, none) ∷ (0, none) ∷ (0, none) ∷ (0, some (settled F)) ∷ []
-  pub not-taken : told (events toy (opening toy 3 1 3 (0x43 ∷ []) .state) (C3 .calls)) ≡ (0, none) ∷ (0, none) ∷ (0, none) ∷ (0, some nothing) ∷ []
+  pub invented : told (eventsUnchecked toy (opening toy 0 3 1 3 (0x43 ∷ []) .state) (C3 .calls)) ≡ (0, none) ∷ (0, none) ∷ (0, none) ∷ (0, some (settled F)) ∷ []
+  pub not-taken : told (events toy (opening toy 0 3 1 3 (0x43 ∷ []) .state) (C3 .calls)) ≡ (0, none) ∷ (0, none) ∷ (0, none) ∷ (0, some nothing) ∷ []
   -- it hashed the five strings of its own message's tree, two for the share that it took, three for each relay, and the five of the message coded again, though
   -- that was not taken
-  pub hashes : length (hashed toy 3 1 3 (0x43 ∷ []) (C3 .calls)) ≡ 5 + 2 + 3 + 3 + 5
+  pub hashes : length (hashed toy 0 3 1 3 (0x43 ∷ []) (C3 .calls)) ≡ 5 + 2 + 3 + 3 + 5
   -- four parties, two liars where one may be, the rule kept
-  pub two-of-four : absent 4 1 (owns toy 4 1 few) ≡ 2
-  pub ruled : Told toy 4 1 few z4 1
-  pub party-3 : resultAfter toy 4 1 3 M (D3 .calls) ≡ some (settled M)
-  pub party-4 : resultAfter toy 4 1 4 (0x43 ∷ []) (D4 .calls) ≡ some nothing
+  pub two-of-four : absent 4 1 (owns toy 0 4 1 few) ≡ 2
+  pub ruled : Told toy 0 4 1 few z4 1
+  pub party-3 : resultAfter toy 0 4 1 3 M (D3 .calls) ≡ some (settled M)
+  pub party-4 : resultAfter toy 0 4 1 4 (0x43 ∷ []) (D4 .calls) ≡ some nothing
   -- a forged inbox with a short buffer, and then the true one: refused and then accepted without the check; with it accepted at once, with nothing
-  pub corner-before : told (eventsUnchecked bent (opening bent 3 1 2 (0x43 ∷ []) .state) E2)
+  pub corner-before : told (eventsUnchecked bent (opening bent 0 3 1 2 (0x43 ∷ []) .state) E2)
       ≡ (0, none) ∷ (0, none) ∷ (0, none) ∷ (9, none) ∷ (0, some (settled N)) ∷ []
-  pub corner-now : told (events bent (opening bent 3 1 2 (0x43 ∷ []) .state) E2)
+  pub corner-now : told (events bent (opening bent 0 3 1 2 (0x43 ∷ []) .state) E2)
       ≡ (0, none) ∷ (0, none) ∷ (0, none) ∷ (0, some nothing) ∷ (0, some nothing) ∷ []
 
 pub computed : Computed
-unfolding size body rest fills bodies spliced tabulate parties numbered groupCause timesX productOf product power inverse sum pow value factor unit numerator denominator basis through shareLength headed frame block shareByte shareOf share shares present point framed other unframed joined recovered splitFrom split shapeOf shape leaves nodeString sides beside root path folded treeStrings foldStrings checkStrings topHash pathHashes leafString leafStrings sharesCause same leavesOf rootOf pathOf passes codingStrings stringsOf chained hashes packetOf entryOf shareIn readOf inboxOf classOf classStrings atRoot atBit atFirst atSecond atEnd blankState broken messageRoot happy stateCause openCause openOf rootCause agreeRootOf packetFor bitCause outboxOf agreeBitOf inboxCause firstValid relayOf heldOf takeSharesOf gathered resultFound resultOf relaysCause takeRelaysOf accepted first entry lengths sentOver made events final shareStrings relayStrings checkedIn stringsOver recodedIn did openedAndChecked recoded sentBy among different absent sumOver joinOver there mix digest foundUnchecked takeRelaysUnchecked madeUnchecked eventsUnchecked clean cleanOf bent
+unfolding size body rest fills bodies spliced tabulate parties numbered groupCause timesX productOf product power inverse sum pow value factor unit numerator denominator basis through shareLength headed frame block shareByte shareOf share shares present point framed other unframed joined recovered splitFrom split shapeOf shape leaves nodeString sides beside root path folded treeStrings foldStrings checkStrings topHash pathHashes fourBytes sessionBytes leafString frontLength leafStrings sharesCause same leavesOf rootOf pathOf passes codingStrings stringsOf chained hashes packetOf entryOf shareIn readOf inboxOf classOf classStrings atRoot atBit atFirst atSecond atEnd blankState broken messageRoot happy stateCause openCause openOf rootCause agreeRootOf packetFor bitCause outboxOf agreeBitOf inboxCause firstValid relayOf heldOf takeSharesOf gathered resultFound resultOf relaysCause takeRelaysOf accepted first entry lengths sentOver made events final shareStrings relayStrings checkedIn stringsOver recodedIn did openedAndChecked recoded sentBy among different absent sumOver joinOver there mix digest foundUnchecked takeRelaysUnchecked madeUnchecked eventsUnchecked clean cleanOf bent
 computed = record {
   liars = refl;
   passing = refl;
@@ -164,11 +165,11 @@ computed = record {
   two-of-four = refl;
   ruled = record {
     bytes = each D3 D4 (λ A. Bytes (A .message)) (two-bytes 0x41 0x42 (lit< tt) (lit< tt)) (one-byte 0x43 (lit< tt));
-    root = each D3 D4 (λ A. (e : Event) × (step toy 4 1 few 2 A ≡ some e) × (e .call ≡ agreeRoot z4))
-        (let p = pick (step toy 4 1 few 2 D3) refl in (p .0, p .1, refl)) (let p = pick (step toy 4 1 few 2 D4) refl in (p .0, p .1, refl));
-    same-bit = each D3 D4 (λ A. (e : Event) → step toy 4 1 few 3 A ≡ some e → (out : List ℕ) × (e .call ≡ agreeBit 1 out))
-        (λ e f. let p = pick (step toy 4 1 few 3 D3) refl in (replicate 250 7, ap (λ (v : Event). v .call) (same-some (sym f ∙ p .1))))
-        (λ e f. let p = pick (step toy 4 1 few 3 D4) refl in (room, ap (λ (v : Event). v .call) (same-some (sym f ∙ p .1))));
+    root = each D3 D4 (λ A. (e : Event) × (step toy 0 4 1 few 2 A ≡ some e) × (e .call ≡ agreeRoot z4))
+        (let p = pick (step toy 0 4 1 few 2 D3) refl in (p .0, p .1, refl)) (let p = pick (step toy 0 4 1 few 2 D4) refl in (p .0, p .1, refl));
+    same-bit = each D3 D4 (λ A. (e : Event) → step toy 0 4 1 few 3 A ≡ some e → (out : List ℕ) × (e .call ≡ agreeBit 1 out))
+        (λ e f. let p = pick (step toy 0 4 1 few 3 D3) refl in (replicate 250 7, ap (λ (v : Event). v .call) (same-some (sym f ∙ p .1))))
+        (λ e f. let p = pick (step toy 0 4 1 few 3 D4) refl in (room, ap (λ (v : Event). v .call) (same-some (sym f ∙ p .1))));
     vote = λ v f. same-some (f D3 (List·Memᴰ·head refl));
   };
   party-3 = refl;
@@ -178,9 +179,9 @@ computed = record {
 }
 
 -- the bit 1 is against its rule in the first session
-pub rule-broken : Rule toy 3 1 one (λ A. bitGiven (step toy 3 1 one 2 A)) 1 → ⊥
-rule-broken rule = let e : _≡_ {A = ℕ} 1 0 = rule 0 (only C3 (λ A. bitGiven (step toy 3 1 one 2 A) ≡ some 0) (computed .vote)) in omega arith
+pub rule-broken : Rule toy 0 3 1 one (λ A. bitGiven (step toy 0 3 1 one 2 A)) 1 → ⊥
+rule-broken rule = let e : _≡_ {A = ℕ} 1 0 = rule 0 (only C3 (λ A. bitGiven (step toy 0 3 1 one 2 A) ≡ some 0) (computed .vote)) in omega arith
 
 -- and what is promised of the second holds: nothing, or a good party's message, or a collision
-pub promised : (A : Good) → List·Memᴰ A few → (R : Result) → EndsWith toy 4 1 A R → Somebodys toy 4 1 few A R
-promised = no-invented-message toy wide 4 1 few z4 1 (computed .ruled)
+pub promised : (A : Good) → List·Memᴰ A few → (R : Result) → EndsWith toy 0 4 1 A R → Somebodys toy 0 4 1 few A R
+promised = no-invented-message toy wide 0 4 1 few z4 1 (computed .ruled)

@@ -1,5 +1,5 @@
 -- Sessions that meet all premises of agreement, so that the theorem is not empty: with a liar that sends one party a good share and the next a
--- bad one, with unhappy good parties, with refused calls before, between and after the accepted ones; on bit 1 and on bit 0. And what
+-- bad one, and a packet of a session with another number, with unhappy good parties, with refused calls before, between and after the accepted ones; on bit 1 and on bit 0. And what
 -- the two worked plans of document 01 send and hash. Everything is computed, by the tree, the coder, the packets and the steps
 -- themselves, over a small hash of 32 bytes that the checker can work out. Assumes nothing.
 use mathlib.Core.Path.{_≡_, refl, sym, ap, _∙_, subst}
@@ -15,6 +15,7 @@ use lib.ListN.{length, take, drop, replicate}
 use Rattle.limits.specs.Limits.{maxMessage, maxShare, parties, numbered, groupCause}
 use Rattle.buffer.specs.Bounds.{Bytes}
 use Rattle.buffer.specs.Splice.{spliced, tabulate}
+use Rattle.buffer.specs.Numbers.{fourBytes}
 use Rattle.buffer.specs.Entries.{size, body, rest, fills, bodies}
 use Rattle.gf256.specs.Field.{timesX, productOf, product, power, inverse}
 use Rattle.polynomial.specs.Polynomial.{sum, pow, value, factor, unit, numerator, denominator, basis, through}
@@ -24,7 +25,7 @@ use Rattle.erasure.proofs.Instances.{two-bytes}
 use Rattle.merkle.specs.Tree.{splitFrom, split, shapeOf, shape, size as leaves, nodeString, sides, beside, root, path, folded}
 use Rattle.merkle.specs.Strings.{treeStrings, foldStrings, checkStrings}
 use Rattle.merkle.specs.Hashes.{topHash, pathHashes}
-use Rattle.merkle.specs.Shares.{leafString, leafStrings, sharesCause, same, leavesOf, rootOf, pathOf, passes, codingStrings, stringsOf}
+use Rattle.merkle.specs.Shares.{sessionBytes, leafString, frontLength, leafStrings, sharesCause, same, leavesOf, rootOf, pathOf, passes, codingStrings, stringsOf}
 use Rattle.merkle.proofs.Judged.{same-true, same-refl}
 use Rattle.packet.specs.Format.{chained, hashes, packetOf, entryOf, shareIn, readOf}
 use Rattle.packet.specs.Inbox.{inboxOf}
@@ -116,19 +117,25 @@ pub one-byte : (a : ℕ) → a < 256 → Bytes (a ∷ [])
 one-byte a h zero = h
 one-byte a h (suc i) = lit< tt
 
--- n 3, t 1: party 1 lies, 2 is unhappy, 3 is happy
+-- session number 7, n 3, t 1: party 1 lies, 2 is unhappy, 3 is happy
 abbrev pub M : List ℕ
 M = 0x41 ∷ 0x42 ∷ []
 
+abbrev pub rootUnder : ℕ → List ℕ
+rootUnder session = messageRoot toy session 3 1 M
+
 abbrev pub z : List ℕ
-z = messageRoot toy 3 1 M
+z = rootUnder 7
 
 abbrev pub room : List ℕ
 room = replicate 150 7
 
--- the packet with share j of M, and a share and paths that are none of M's
+-- the packet with share j of M, by the session's number; and a share and paths that are none of M's
+abbrev pub packetUnder : ℕ → ℕ → List ℕ
+packetUnder session j = packetFor toy (atBit (seatOf session 3 1 3) M (rootUnder session)) j
+
 abbrev pub pk : ℕ → List ℕ
-pk j = packetFor toy (atBit (seatOf 3 1 3) M z) j
+pk j = packetUnder 7 j
 
 abbrev pub forged : ℕ → List (List ℕ) → List ℕ
 forged j p = packetOf j (1 ∷ 77 ∷ []) p
@@ -136,7 +143,7 @@ forged j p = packetOf j (1 ∷ 77 ∷ []) p
 abbrev pub rubbish : List ℕ
 rubbish = 9 ∷ 9 ∷ []
 
--- the liar sends party 2 a good share and party 3 a forged one, and then party 2 a forged relay; own entries hold what they like
+-- the liar sends party 2 a good share and party 3 a forged one, and then party 2 the relay of a session with number 0; own entries hold what they like
 abbrev pub first2 : List ℕ
 first2 = inboxOf (pk 2 ∷ rubbish ∷ pk 2 ∷ [])
 
@@ -144,7 +151,7 @@ abbrev pub first3 : List ℕ
 first3 = inboxOf (forged 3 (replicate 32 5 ∷ []) ∷ [] ∷ pk 3 ∷ [])
 
 abbrev pub second2 : List ℕ
-second2 = inboxOf (forged 1 (replicate 32 5 ∷ replicate 32 6 ∷ []) ∷ pk 2 ∷ pk 3 ∷ [])
+second2 = inboxOf (packetUnder 0 1 ∷ pk 2 ∷ pk 3 ∷ [])
 
 abbrev pub second3 : List ℕ
 second3 = inboxOf (rubbish ∷ pk 2 ∷ rubbish ∷ [])
@@ -197,36 +204,37 @@ each A B P a b D h = go (List·Memᴰ·cases-cons h)
     go (inr k) = last (List·Memᴰ·cases-cons k)
 
 abbrev Second : List Good → Good → Type 0
-Second l A = (e : Event) × (step toy 3 1 l 2 A ≡ some e) × (e .call ≡ agreeRoot z)
+Second l A = (e : Event) × (step toy 7 3 1 l 2 A ≡ some e) × (e .call ≡ agreeRoot z)
 
 abbrev Third : List Good → ℕ → Good → Type 0
-Third l bit A = (e : Event) × (out : List ℕ) × (step toy 3 1 l 3 A ≡ some e) × (e .call ≡ agreeBit bit out)
+Third l bit A = (e : Event) × (out : List ℕ) × (step toy 7 3 1 l 3 A ≡ some e) × (e .call ≡ agreeBit bit out)
 
 abbrev Step : ℕ → Good → Type 0
-Step k A = (e : Event) × (step toy 3 1 good k A ≡ some e)
+Step k A = (e : Event) × (step toy 7 3 1 good k A ≡ some e)
 
 abbrev First : Good → Good → Type 0
-First A B = A .own ≢ B .own → heard 3 (B .own) (step toy 3 1 good 4 A) ≡ packetTo 3 (A .own) (step toy 3 1 good 3 B)
+First A B = A .own ≢ B .own → heard 3 (B .own) (step toy 7 3 1 good 4 A) ≡ packetTo 3 (A .own) (step toy 7 3 1 good 3 B)
 
 abbrev Relay : Good → Good → Type 0
-Relay A B = A .own ≢ B .own → heard 3 (B .own) (step toy 3 1 good 5 A) ≡ wrote (step toy 3 1 good 4 B)
+Relay A B = A .own ≢ B .own → heard 3 (B .own) (step toy 7 3 1 good 5 A) ≡ wrote (step toy 7 3 1 good 4 B)
 
--- the worked plans of document 01: n 3, t 1, party 3 silent, and parties 1 and 2 with the calls that their host makes
+-- the worked plans of document 01, under number 0: n 3, t 1, party 3 silent, and parties 1 and 2 with the calls that their host makes
 abbrev pub calls : List ℕ → List ℕ → List ℕ → List Call
 calls root first second = agreeRoot root ∷ agreeBit 1 room ∷ takeShares first room ∷ takeRelays second room ∷ []
 
 -- both open with 0x41 0x42
 abbrev pub same-books : List Good
 same-books =
-    record { own = 1; message = M; calls = calls z (inboxOf ([] ∷ pk 1 ∷ [] ∷ [])) (inboxOf ([] ∷ pk 2 ∷ [] ∷ [])) }
-    ∷ record { own = 2; message = M; calls = calls z (inboxOf (pk 2 ∷ [] ∷ [] ∷ [])) (inboxOf (pk 1 ∷ [] ∷ [] ∷ [])) } ∷ []
+    let k : ℕ → List ℕ = packetUnder 0 in
+    record { own = 1; message = M; calls = calls (rootUnder 0) (inboxOf ([] ∷ k 1 ∷ [] ∷ [])) (inboxOf ([] ∷ k 2 ∷ [] ∷ [])) }
+    ∷ record { own = 2; message = M; calls = calls (rootUnder 0) (inboxOf (k 2 ∷ [] ∷ [] ∷ [])) (inboxOf (k 1 ∷ [] ∷ [] ∷ [])) } ∷ []
 
 -- they open with 0x41 and 0x42, and the root of the first is agreed
 abbrev pub y : List ℕ
-y = messageRoot toy 3 1 (0x41 ∷ [])
+y = messageRoot toy 0 3 1 (0x41 ∷ [])
 
 abbrev pub qk : ℕ → List ℕ
-qk j = packetFor toy (atBit (seatOf 3 1 1) (0x41 ∷ []) y) j
+qk j = packetFor toy (atBit (seatOf 0 3 1 1) (0x41 ∷ []) y) j
 
 abbrev pub calls1 : List Call
 calls1 = calls y (inboxOf ([] ∷ [] ∷ [] ∷ [])) (inboxOf ([] ∷ qk 2 ∷ [] ∷ []))
@@ -240,7 +248,7 @@ two-books = record { own = 1; message = 0x41 ∷ []; calls = calls1 } ∷ record
 -- party 2 ended, with what a foreign host may have left beside the result
 abbrev pub dirty : Party
 dirty = record {
-  seat = seatOf 3 1 2;
+  seat = seatOf 7 3 1 2;
   stage = Ended (Message 2);
   message = padded maxMessage (0x41 ∷ 0x42 ∷ 0x58 ∷ []);
   len = 3;
@@ -252,61 +260,63 @@ dirty = record {
 -- what is computed
 pub record Computed : Type 0 where
   -- all premises, on bit 1 and on bit 0
-  pub premises : Premises toy 3 1 good z 1
-  pub idle-premises : Premises toy 3 1 idle z 0
-  -- of what the liar sends, the share for party 2 passes, and the one for party 3 and the relay do not
-  pub good-share : classOf toy 3 2 z (entry 3 1 first2)
-      ≡ valid (share 2 2 M) (take 2 (pathOf toy 3 2 (leavesOf toy 3 (shares 3 2 M))))
-  pub bad-share : classOf toy 3 3 z (entry 3 1 first3) ≡ faulty
-  pub bad-relay : classOf toy 3 1 z (entry 3 1 second2) ≡ faulty
+  pub premises : Premises toy 7 3 1 good z 1
+  pub idle-premises : Premises toy 7 3 1 idle z 0
+  -- of what the liar sends, the share for party 2 passes, and the one for party 3 and the relay of another session do not; in that one the relay passes
+  pub good-share : classOf toy 7 3 2 z (entry 3 1 first2)
+      ≡ valid (share 2 2 M) (take 2 (pathOf toy 3 2 (leavesOf toy 7 3 (shares 3 2 M))))
+  pub bad-share : classOf toy 7 3 3 z (entry 3 1 first3) ≡ faulty
+  pub bad-relay : classOf toy 7 3 1 z (entry 3 1 second2) ≡ faulty
+  pub other-session : classOf toy 0 3 1 (rootUnder 0) (entry 3 1 second2)
+      ≡ valid (share 2 1 M) (take 2 (pathOf toy 3 1 (leavesOf toy 0 3 (shares 3 2 M))))
   -- the causes for which party 2's calls were refused, 0 where they were accepted
-  pub causes : map (λ (e : Event). e .reply .cause) (events toy (opening toy 3 1 2 (0x43 ∷ []) .state) (P2 .calls))
+  pub causes : map (λ (e : Event). e .reply .cause) (events toy (opening toy 7 3 1 2 (0x43 ∷ []) .state) (P2 .calls))
       ≡ 6 ∷ 7 ∷ 0 ∷ 7 ∷ 9 ∷ 0 ∷ 8 ∷ 9 ∷ 0 ∷ 6 ∷ 9 ∷ 0 ∷ 9 ∷ 0 ∷ 6 ∷ 6 ∷ []
   -- its two accepted readings gave M, into the start of the buffer; the one with a short buffer was told M's length and changed nothing
-  pub readings : map (λ (e : Event). e .reply .result) (drop 3 (did toy 3 1 2 (0x43 ∷ []) (P2 .calls))) ≡ some (settled M) ∷ some (settled M) ∷ []
-  pub read-buffers : map (λ (e : Event). e .reply .buffer) (drop 3 (did toy 3 1 2 (0x43 ∷ []) (P2 .calls)))
+  pub readings : map (λ (e : Event). e .reply .result) (drop 3 (did toy 7 3 1 2 (0x43 ∷ []) (P2 .calls))) ≡ some (settled M) ∷ some (settled M) ∷ []
+  pub read-buffers : map (λ (e : Event). e .reply .buffer) (drop 3 (did toy 7 3 1 2 (0x43 ∷ []) (P2 .calls)))
       ≡ spliced room 0 M ∷ spliced room 0 M ∷ []
-  pub short-reading : made toy (atEnd (seatOf 3 1 2) (settled M)) (takeRelays rubbish []) ≡ gives (atEnd (seatOf 3 1 2) (settled M)) (answer.Short 2) []
+  pub short-reading : made toy (atEnd (seatOf 7 3 1 2) (settled M)) (takeRelays rubbish []) ≡ gives (atEnd (seatOf 7 3 1 2) (settled M)) (answer.Short 2) []
   -- a dirty ended state, with a stale message, root and share and with bytes past its result, comes back clean
-  pub dirty-reading : made toy dirty (takeRelays rubbish room) .state ≡ atEnd (seatOf 3 1 2) (settled M)
+  pub dirty-reading : made toy dirty (takeRelays rubbish room) .state ≡ atEnd (seatOf 7 3 1 2) (settled M)
   -- on bit 1 party 2 ends with M, though it opened with another message, and 356 bytes were sent
-  pub party-2 : resultAfter toy 3 1 2 (0x43 ∷ []) (P2 .calls) ≡ some (settled M)
-  pub sent-there : sent toy 3 1 good ≡ 356
+  pub party-2 : resultAfter toy 7 3 1 2 (0x43 ∷ []) (P2 .calls) ≡ some (settled M)
+  pub sent-there : sent toy 7 3 1 good ≡ 356
   -- on bit 0 it ends with nothing, its reading gives nothing, and nothing is sent
-  pub idle-reading : map (λ (e : Event). e .reply .result) (drop 2 (did toy 3 1 2 (0x43 ∷ []) (Q2 .calls))) ≡ some nothing ∷ []
-  pub idle-2 : resultAfter toy 3 1 2 (0x43 ∷ []) (Q2 .calls) ≡ some nothing
-  pub idle-sent : sent toy 3 1 idle ≡ 0
+  pub idle-reading : map (λ (e : Event). e .reply .result) (drop 2 (did toy 7 3 1 2 (0x43 ∷ []) (Q2 .calls))) ≡ some nothing ∷ []
+  pub idle-2 : resultAfter toy 7 3 1 2 (0x43 ∷ []) (Q2 .calls) ≡ some nothing
+  pub idle-sent : sent toy 7 3 1 idle ≡ 0
   -- the bytes sent in the two plans
-  pub same-books-sent : sent toy 3 1 same-books ≡ 496
-  pub two-books-sent : sent toy 3 1 two-books ≡ 388
+  pub same-books-sent : sent toy 0 3 1 same-books ≡ 496
+  pub two-books-sent : sent toy 0 3 1 two-books ≡ 388
   -- in the second, party 1, which is happy, hashes the five strings of its message's tree and no others; party 2 those of its own, three in each exchange, and
   -- the five of the message that it rebuilt and coded again
-  pub first-hashes : length (hashed toy 3 1 1 (0x41 ∷ []) calls1) ≡ 5
-  pub second-hashes : length (hashed toy 3 1 2 (0x42 ∷ []) calls2) ≡ 5 + 3 + 3 + 5
+  pub first-hashes : length (hashed toy 0 3 1 1 (0x41 ∷ []) calls1) ≡ 5
+  pub second-hashes : length (hashed toy 0 3 1 2 (0x42 ∷ []) calls2) ≡ 5 + 3 + 3 + 5
   -- refused calls hash nothing: of the first session party 2 hashes the five strings of its own message's tree, three of the share that it took, three of the
-  -- forged relay and two of party 3's, and the five of the message that it coded again once, though it was handed its inboxes again and again and its result was
+  -- other session's relay and two of party 3's, and the five of the message that it coded again once, though it was handed its inboxes again and again and its result was
   -- read again
-  pub refused-unhashed : length (hashed toy 3 1 2 (0x43 ∷ []) (P2 .calls)) ≡ 5 + 3 + 3 + 2 + 5
-  pub idle-unhashed : length (hashed toy 3 1 2 (0x43 ∷ []) (Q2 .calls)) ≡ 5
-  pub second-ends : resultAfter toy 3 1 2 (0x42 ∷ []) calls2 ≡ some (settled (0x41 ∷ []))
+  pub refused-unhashed : length (hashed toy 7 3 1 2 (0x43 ∷ []) (P2 .calls)) ≡ 5 + 3 + 3 + 2 + 5
+  pub idle-unhashed : length (hashed toy 7 3 1 2 (0x43 ∷ []) (Q2 .calls)) ≡ 5
+  pub second-ends : resultAfter toy 0 3 1 2 (0x42 ∷ []) calls2 ≡ some (settled (0x41 ∷ []))
 
 pub computed : Computed
-unfolding size body rest fills bodies spliced tabulate parties numbered groupCause timesX productOf product power inverse sum pow value factor unit numerator denominator basis through shareLength headed frame block shareByte shareOf share shares present point framed other unframed joined recovered splitFrom split shapeOf shape leaves nodeString sides beside root path folded treeStrings foldStrings checkStrings topHash pathHashes leafString leafStrings sharesCause same leavesOf rootOf pathOf passes codingStrings stringsOf chained hashes packetOf entryOf shareIn readOf inboxOf classOf classStrings atRoot atBit atFirst atSecond atEnd blankState broken messageRoot happy stateCause openCause openOf rootCause agreeRootOf packetFor bitCause outboxOf agreeBitOf inboxCause firstValid relayOf heldOf takeSharesOf gathered resultFound resultOf relaysCause takeRelaysOf accepted first entry lengths sentOver made events final shareStrings relayStrings checkedIn stringsOver recodedIn did openedAndChecked recoded sentBy among different absent sumOver joinOver clean cleanOf there mix digest
+unfolding size body rest fills bodies spliced tabulate parties numbered groupCause timesX productOf product power inverse sum pow value factor unit numerator denominator basis through shareLength headed frame block shareByte shareOf share shares present point framed other unframed joined recovered splitFrom split shapeOf shape leaves nodeString sides beside root path folded treeStrings foldStrings checkStrings topHash pathHashes fourBytes sessionBytes leafString frontLength leafStrings sharesCause same leavesOf rootOf pathOf passes codingStrings stringsOf chained hashes packetOf entryOf shareIn readOf inboxOf classOf classStrings atRoot atBit atFirst atSecond atEnd blankState broken messageRoot happy stateCause openCause openOf rootCause agreeRootOf packetFor bitCause outboxOf agreeBitOf inboxCause firstValid relayOf heldOf takeSharesOf gathered resultFound resultOf relaysCause takeRelaysOf accepted first entry lengths sentOver made events final shareStrings relayStrings checkedIn stringsOver recodedIn did openedAndChecked recoded sentBy among different absent sumOver joinOver clean cleanOf there mix digest
 computed = record {
   premises = record {
     opened = record {
       bytes = each P2 P3 (λ A. Bytes (A .message)) (one-byte 0x43 (lit< tt)) (two-bytes 0x41 0x42 (lit< tt) (lit< tt));
-      accepted = each P2 P3 (λ A. opening toy 3 1 (A .own) (A .message) .cause ≡ 0) refl refl;
+      accepted = each P2 P3 (λ A. opening toy 7 3 1 (A .own) (A .message) .cause ≡ 0) refl refl;
       apart = refl;
       bad = le-refl 1;
     };
     called = record {
-      step2 = each P2 P3 (Second good) (let p = pick (step toy 3 1 good 2 P2) refl in (p .0, p .1, refl))
-          (let p = pick (step toy 3 1 good 2 P3) refl in (p .0, p .1, refl));
-      step3 = each P2 P3 (Third good 1) (let p = pick (step toy 3 1 good 3 P2) refl in (p .0, room, p .1, refl))
-          (let p = pick (step toy 3 1 good 3 P3) refl in (p .0, room, p .1, refl));
-      step4 = λ e. each P2 P3 (Step 4) (pick (step toy 3 1 good 4 P2) refl) (pick (step toy 3 1 good 4 P3) refl);
-      step5 = λ e. each P2 P3 (Step 5) (pick (step toy 3 1 good 5 P2) refl) (pick (step toy 3 1 good 5 P3) refl);
+      step2 = each P2 P3 (Second good) (let p = pick (step toy 7 3 1 good 2 P2) refl in (p .0, p .1, refl))
+          (let p = pick (step toy 7 3 1 good 2 P3) refl in (p .0, p .1, refl));
+      step3 = each P2 P3 (Third good 1) (let p = pick (step toy 7 3 1 good 3 P2) refl in (p .0, room, p .1, refl))
+          (let p = pick (step toy 7 3 1 good 3 P3) refl in (p .0, room, p .1, refl));
+      step4 = λ e. each P2 P3 (Step 4) (pick (step toy 7 3 1 good 4 P2) refl) (pick (step toy 7 3 1 good 4 P3) refl);
+      step5 = λ e. each P2 P3 (Step 5) (pick (step toy 7 3 1 good 5 P2) refl) (pick (step toy 7 3 1 good 5 P3) refl);
     };
     ruled = record {
       root = λ v f. same-some (f P3 (List·Memᴰ·tail (List·Memᴰ·head refl)));
@@ -318,20 +328,20 @@ computed = record {
       secondInbox = each P2 P3 (λ A. (B : Good) → List·Memᴰ B good → Relay A B)
           (each P2 P3 (Relay P2) (λ d. absurd (d refl)) (λ d. refl)) (each P2 P3 (Relay P3) (λ d. refl) (λ d. absurd (d refl)));
     };
-    clean = λ x y h k e. clean-sound x y (allOpenedAndChecked toy 3 1 good) (allOpenedAndChecked toy 3 1 good) refl h k e;
+    clean = λ x y h k e. clean-sound x y (allOpenedAndChecked toy 7 3 1 good) (allOpenedAndChecked toy 7 3 1 good) refl h k e;
   };
   idle-premises = record {
     opened = record {
       bytes = each Q2 Q3 (λ A. Bytes (A .message)) (one-byte 0x43 (lit< tt)) (two-bytes 0x41 0x42 (lit< tt) (lit< tt));
-      accepted = each Q2 Q3 (λ A. opening toy 3 1 (A .own) (A .message) .cause ≡ 0) refl refl;
+      accepted = each Q2 Q3 (λ A. opening toy 7 3 1 (A .own) (A .message) .cause ≡ 0) refl refl;
       apart = refl;
       bad = le-refl 1;
     };
     called = record {
-      step2 = each Q2 Q3 (Second idle) (let p = pick (step toy 3 1 idle 2 Q2) refl in (p .0, p .1, refl))
-          (let p = pick (step toy 3 1 idle 2 Q3) refl in (p .0, p .1, refl));
-      step3 = each Q2 Q3 (Third idle 0) (let p = pick (step toy 3 1 idle 3 Q2) refl in (p .0, room, p .1, refl))
-          (let p = pick (step toy 3 1 idle 3 Q3) refl in (p .0, room, p .1, refl));
+      step2 = each Q2 Q3 (Second idle) (let p = pick (step toy 7 3 1 idle 2 Q2) refl in (p .0, p .1, refl))
+          (let p = pick (step toy 7 3 1 idle 2 Q3) refl in (p .0, p .1, refl));
+      step3 = each Q2 Q3 (Third idle 0) (let p = pick (step toy 7 3 1 idle 3 Q2) refl in (p .0, room, p .1, refl))
+          (let p = pick (step toy 7 3 1 idle 3 Q3) refl in (p .0, room, p .1, refl));
       step4 = λ e. absurd (zero-one e);
       step5 = λ e. absurd (zero-one e);
     };
@@ -340,11 +350,12 @@ computed = record {
       vote = λ v f. same-some (f Q2 (List·Memᴰ·head refl));
     };
     delivered = λ e. absurd (zero-one e);
-    clean = λ x y h k e. clean-sound x y (allOpenedAndChecked toy 3 1 idle) (allOpenedAndChecked toy 3 1 idle) refl h k e;
+    clean = λ x y h k e. clean-sound x y (allOpenedAndChecked toy 7 3 1 idle) (allOpenedAndChecked toy 7 3 1 idle) refl h k e;
   };
   good-share = refl;
   bad-share = refl;
   bad-relay = refl;
+  other-session = refl;
   causes = refl;
   readings = refl;
   read-buffers = refl;
@@ -365,8 +376,8 @@ computed = record {
 }
 
 -- so all that is promised holds of both sessions
-pub agreed : (R : Result) × Conclusions toy 3 1 good 1 R
-agreed = agreement toy wide 3 1 good z 1 (computed .premises)
+pub agreed : (R : Result) × Conclusions toy 7 3 1 good 1 R
+agreed = agreement toy wide 7 3 1 good z 1 (computed .premises)
 
-pub idle-agreed : (R : Result) × Conclusions toy 3 1 idle 0 R
-idle-agreed = agreement toy wide 3 1 idle z 0 (computed .idle-premises)
+pub idle-agreed : (R : Result) × Conclusions toy 7 3 1 idle 0 R
+idle-agreed = agreement toy wide 7 3 1 idle z 0 (computed .idle-premises)

@@ -51,24 +51,24 @@ module _ (H : List ℕ → List ℕ) where
   events-both x (c ∷ cs) ds = ap (λ (l : List Event). event H x c ∷ l) (events-both (made H x c .state) cs ds)
 
   -- the accepted calls of a list that goes on
-  pub did-both : (n t i : ℕ) (m : List ℕ) (calls more : List Call) → did H n t i m (calls ++ more)
-      ≡ did H n t i m calls ++ accepted (events H (final H (opening H n t i m .state) calls) more)
+  pub did-both : (session n t i : ℕ) (m : List ℕ) (calls more : List Call) → did H session n t i m (calls ++ more)
+      ≡ did H session n t i m calls ++ accepted (events H (final H (opening H session n t i m .state) calls) more)
   unfolding did
-  did-both n t i m calls more =
-      let x = opening H n t i m .state in
+  did-both session n t i m calls more =
+      let x = opening H session n t i m .state in
       ap accepted (events-both x calls more) ∙ accepted-both (events H x calls) (events H (final H x calls) more)
 
-  module _ (n t i : ℕ) (m : List ℕ) (calls : List Call) (r : Result) (h : resultAfter H n t i m calls ≡ some r) where
-    pub gave : (e : Event) → List·Memᴰ e (did H n t i m calls) → stepOf (e .call) ≡ 5 → e .reply .result ≡ some r
+  module _ (session n t i : ℕ) (m : List ℕ) (calls : List Call) (r : Result) (h : resultAfter H session n t i m calls ≡ some r) where
+    pub gave : (e : Event) → List·Memᴰ e (did H session n t i m calls) → stepOf (e .call) ≡ 5 → e .reply .result ≡ some r
     unfolding did
     gave =
-        let x = opening H n t i m .state in
+        let x = opening H session n t i m .state in
         gave-held H x (final H x calls) (accepted (events H x calls)) r (chain H x calls) h
 
     -- further calls
     module _ (more : List Call) where
       abbrev ended : Party
-      ended = final H (opening H n t i m .state) calls
+      ended = final H (opening H session n t i m .state) calls
 
       abbrev rest : List Event
       rest = accepted (events H ended more)
@@ -76,25 +76,25 @@ module _ (H : List ℕ → List ℕ) where
       stays : Still H n r rest (final H ended more)
       stays = still H n ended (final H ended more) rest r h (chain H ended more)
 
-      pub later-result : resultAfter H n t i m (calls ++ more) ≡ some r
-      later-result = ap resultIn (final-both (opening H n t i m .state) calls more) ∙ stays .0
+      pub later-result : resultAfter H session n t i m (calls ++ more) ≡ some r
+      later-result = ap resultIn (final-both (opening H session n t i m .state) calls more) ∙ stays .0
 
-      pub later-sent : sentBy H n t i m (calls ++ more) ≡ sentBy H n t i m calls
+      pub later-sent : sentBy H session n t i m (calls ++ more) ≡ sentBy H session n t i m calls
       unfolding sentBy
       later-sent =
-          ap (sentOver n) (did-both n t i m calls more) ∙ sent-both n (did H n t i m calls) rest ∙ omega (arith, stays .1)
+          ap (sentOver n) (did-both session n t i m calls more) ∙ sent-both n (did H session n t i m calls) rest ∙ omega (arith, stays .1)
 
-      pub later-checked : openedAndChecked H n t i m (calls ++ more) ≡ openedAndChecked H n t i m calls
+      pub later-checked : openedAndChecked H session n t i m (calls ++ more) ≡ openedAndChecked H session n t i m calls
       unfolding openedAndChecked
       later-checked =
-          ap (λ (l : List (List ℕ)). codingStrings H n (shares n (n - t) m) ++ l)
-          (ap (checkedOver H) (did-both n t i m calls more) ∙ strings-both (checkedIn H) (did H n t i m calls) rest
-          ∙ ap (λ (l : List (List ℕ)). checkedOver H (did H n t i m calls) ++ l) (stays .2)
-          ∙ append-nil (checkedOver H (did H n t i m calls)))
+          ap (λ (l : List (List ℕ)). codingStrings H session n (shares n (n - t) m) ++ l)
+          (ap (checkedOver H) (did-both session n t i m calls more) ∙ strings-both (checkedIn H) (did H session n t i m calls) rest
+          ∙ ap (λ (l : List (List ℕ)). checkedOver H (did H session n t i m calls) ++ l) (stays .2)
+          ∙ append-nil (checkedOver H (did H session n t i m calls)))
 
-      pub later-recoded : recoded H n t i m (calls ++ more) ≡ recoded H n t i m calls
+      pub later-recoded : recoded H session n t i m (calls ++ more) ≡ recoded H session n t i m calls
       unfolding recoded
       later-recoded =
-          ap (recodedOver H) (did-both n t i m calls more) ∙ strings-both (recodedIn H) (did H n t i m calls) rest
-          ∙ ap (λ (l : List (List ℕ)). recodedOver H (did H n t i m calls) ++ l) (stays .3)
-          ∙ append-nil (recodedOver H (did H n t i m calls))
+          ap (recodedOver H) (did-both session n t i m calls more) ∙ strings-both (recodedIn H) (did H session n t i m calls) rest
+          ∙ ap (λ (l : List (List ℕ)). recodedOver H (did H session n t i m calls) ++ l) (stays .3)
+          ∙ append-nil (recodedOver H (did H session n t i m calls))

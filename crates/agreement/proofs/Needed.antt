@@ -13,22 +13,22 @@ use Rattle.agreement.specs.Calls.{Call, heard, wrote, firstOf}
 use Rattle.agreement.specs.Agreement.{Good}
 
 -- a party that opened with the message m is happy with the agreed root z
-abbrev pub glad : (List ℕ → List ℕ) → ℕ → ℕ → List ℕ → List ℕ → Bool
-glad H n t m z = same (messageRoot H n t m) z
+abbrev pub glad : (List ℕ → List ℕ) → ℕ → ℕ → ℕ → List ℕ → List ℕ → Bool
+glad H session n t m z = same (messageRoot H session n t m) z
 
-abbrev pub isGlad : (List ℕ → List ℕ) → ℕ → ℕ → List ℕ → Good → Bool
-isGlad H n t z A = glad H n t (A .message) z
+abbrev pub isGlad : (List ℕ → List ℕ) → ℕ → ℕ → ℕ → List ℕ → Good → Bool
+isGlad H session n t z A = glad H session n t (A .message) z
 
-module _ (H : List ℕ → List ℕ) (n t i : ℕ) (m : List ℕ) (calls : List Call) where
+module _ (H : List ℕ → List ℕ) (session n t i : ℕ) (m : List ℕ) (calls : List Call) where
   -- party j's relay, as party i has it: its own as it wrote it, another's as it heard it
   abbrev pub relayFrom : ℕ → List ℕ
-  relayFrom j = cond (eqb j i) (wrote (firstOf H n t i m calls 4)) (heard n j (firstOf H n t i m calls 5))
+  relayFrom j = cond (eqb j i) (wrote (firstOf H session n t i m calls 4)) (heard n j (firstOf H session n t i m calls 5))
 
   pub data Needs (z s : List ℕ) : Type 0 where
-    coding : glad H n t m z ≡ true → List·Memᴰ s (codingStrings H n (shares n (n - t) m)) → Needs z s
-    check : glad H n t m z ≡ false → (j : ℕ) (x : List ℕ) (p : List (List ℕ)) → classOf H n j z (relayFrom j) ≡ valid x p
-        → List·Memᴰ s (classStrings H n j (relayFrom j)) → Needs z s
+    coding : glad H session n t m z ≡ true → List·Memᴰ s (codingStrings H session n (shares n (n - t) m)) → Needs z s
+    check : glad H session n t m z ≡ false → (j : ℕ) (x : List ℕ) (p : List (List ℕ)) → classOf H session n j z (relayFrom j) ≡ valid x p
+        → List·Memᴰ s (classStrings H session n j (relayFrom j)) → Needs z s
 
 -- of some good party
-abbrev pub Needed : (List ℕ → List ℕ) → ℕ → ℕ → List Good → List ℕ → List ℕ → Type 0
-Needed H n t good z s = (A : Good) × List·Memᴰ A good × Needs H n t (A .own) (A .message) (A .calls) z s
+abbrev pub Needed : (List ℕ → List ℕ) → ℕ → ℕ → ℕ → List Good → List ℕ → List ℕ → Type 0
+Needed H session n t good z s = (A : Good) × List·Memᴰ A good × Needs H session n t (A .own) (A .message) (A .calls) z s

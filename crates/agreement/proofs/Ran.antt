@@ -32,18 +32,18 @@ use Rattle.agreement.proofs.Lists.{same-some}
 use Rattle.agreement.proofs.Run.{made2, made3, made4, endedWith, did2, did3, did4, did5, in-turn, event, Chain, chain, next, Still, still}
 
 -- an accepted opening
-pub opened-is : (H : List ℕ → List ℕ) (n t i : ℕ) (m : List ℕ) → opening H n t i m .cause ≡ 0
+pub opened-is : (H : List ℕ → List ℕ) (session n t i : ℕ) (m : List ℕ) → opening H session n t i m .cause ≡ 0
     → (openCause n t i (length m) ≡ 0)
-    × (opening H n t i m ≡ record { state = atRoot (seatOf n t i) m; cause = 0; root = messageRoot H n t m })
-opened-is H n t i m e = go (way (eqb (openCause n t i (length m)) 0))
+    × (opening H session n t i m ≡ record { state = atRoot (seatOf session n t i) m; cause = 0; root = messageRoot H session n t m })
+opened-is H session n t i m e = go (way (eqb (openCause n t i (length m)) 0))
   where
     go : Way (eqb (openCause n t i (length m)) 0)
         → (openCause n t i (length m) ≡ 0)
-        × (opening H n t i m ≡ record { state = atRoot (seatOf n t i) m; cause = 0; root = messageRoot H n t m })
-    go (on q) = let c = eqb-true (openCause n t i (length m)) 0 q in (c, open-given H n t i m c)
+        × (opening H session n t i m ≡ record { state = atRoot (seatOf session n t i) m; cause = 0; root = messageRoot H session n t m })
+    go (on q) = let c = eqb-true (openCause n t i (length m)) 0 q in (c, open-given H session n t i m c)
     go (off q) =
         let c = eqb-false (openCause n t i (length m)) 0 q in
-        absurd (c (sym (ap (λ (r : Opened). r .cause) (open-refused H n t i m c)) ∙ e))
+        absurd (c (sym (ap (λ (r : Opened). r .cause) (open-refused H session n t i m c)) ∙ e))
 
 abbrev ev : Party → Call → Stepped → Event
 ev x c r = record { before = x; call = c; reply = r }
@@ -95,15 +95,15 @@ module _ (H : List ℕ → List ℕ) where
       let r = next H k x fin es e a h q in
       sym (in-turn H x (e .call) (subst (λ (v : Event). v .reply .cause ≡ 0) (r .2) (r .3))) ∙ a
 
-  module _ (n t i : ℕ) (m z : List ℕ) where
+  module _ (session n t i : ℕ) (m z : List ℕ) where
     abbrev pub X1 : Party
-    X1 = atBit (seatOf n t i) m z
+    X1 = atBit (seatOf session n t i) m z
 
     abbrev pub X2 : Party
-    X2 = atFirst (seatOf n t i) m z
+    X2 = atFirst (seatOf session n t i) m z
 
     abbrev pub X3 : List ℕ → Party
-    X3 inbox = atSecond (seatOf n t i) m z (heldOf H X2 inbox)
+    X3 inbox = atSecond (seatOf session n t i) m z (heldOf H X2 inbox)
 
     -- the replies, by the states that the accepted calls got
     abbrev pub reply2 : Stepped
@@ -111,31 +111,31 @@ module _ (H : List ℕ → List ℕ) where
 
     abbrev pub reply3 : ℕ → List ℕ → Stepped
     reply3 bit out =
-        gives (cond (eqb bit 0) (atEnd (seatOf n t i) nothing) X2) (answer.Sent (length (outboxOf H X1 bit)))
+        gives (cond (eqb bit 0) (atEnd (seatOf session n t i) nothing) X2) (answer.Sent (length (outboxOf H X1 bit)))
         (spliced out 0 (outboxOf H X1 bit))
 
     abbrev pub reply4 : List ℕ → List ℕ → Stepped
     reply4 inbox out = gives (X3 inbox) (answer.Sent (length (relayOf H X2 inbox))) (spliced out 0 (relayOf H X2 inbox))
 
     abbrev reply5 : List ℕ → List ℕ → List ℕ → Stepped
-    reply5 in4 in5 out = endedWith (seatOf n t i) (resultOf H (X3 in4) in5) out
+    reply5 in4 in5 out = endedWith (seatOf session n t i) (resultOf H (X3 in4) in5) out
 
-    pub is2 : made2 H (atRoot (seatOf n t i) m) z ≡ reply2
+    pub is2 : made2 H (atRoot (seatOf session n t i) m) z ≡ reply2
     unfolding atRoot
     is2 =
-        ap (λ (b : List ℕ). gives (atBit (seatOf n t i) b z) (answer.Happy (happy H (atBit (seatOf n t i) b z))) [])
+        ap (λ (b : List ℕ). gives (atBit (seatOf session n t i) b z) (answer.Happy (happy H (atBit (seatOf session n t i) b z))) [])
         (take-padded maxMessage m)
 
     is3 : (bit : ℕ) (out : List ℕ) → made3 H X1 bit out ≡ reply3 bit out
     unfolding atBit
     is3 bit out =
-        ap (λ (b : List ℕ). gives (cond (eqb bit 0) (atEnd (seatOf n t i) nothing) (atFirst (seatOf n t i) b z))
+        ap (λ (b : List ℕ). gives (cond (eqb bit 0) (atEnd (seatOf session n t i) nothing) (atFirst (seatOf session n t i) b z))
         (answer.Sent (length (outboxOf H X1 bit))) (spliced out 0 (outboxOf H X1 bit))) (take-padded maxMessage m)
 
     pub is4 : (inbox out : List ℕ) → made4 H X2 inbox out ≡ reply4 inbox out
     unfolding atFirst
     is4 inbox out =
-        ap (λ (b : List ℕ). gives (atSecond (seatOf n t i) b z (heldOf H X2 inbox)) (answer.Sent (length (relayOf H X2 inbox)))
+        ap (λ (b : List ℕ). gives (atSecond (seatOf session n t i) b z (heldOf H X2 inbox)) (answer.Sent (length (relayOf H X2 inbox)))
         (spliced out 0 (relayOf H X2 inbox))) (take-padded maxMessage m)
 
     is5 : (in4 in5 out : List ℕ) → endedWith (X3 in4 .seat) (resultOf H (X3 in4) in5) out ≡ reply5 in4 in5 out
@@ -143,7 +143,7 @@ module _ (H : List ℕ → List ℕ) where
     is5 in4 in5 out = refl
 
     abbrev pub ev2 : Event
-    ev2 = ev (atRoot (seatOf n t i) m) (agreeRoot z) reply2
+    ev2 = ev (atRoot (seatOf session n t i) m) (agreeRoot z) reply2
 
     abbrev pub ev3 : ℕ → List ℕ → Event
     ev3 bit out = ev X1 (agreeBit bit out) (reply3 bit out)
@@ -155,13 +155,13 @@ module _ (H : List ℕ → List ℕ) where
     ev5 in4 in5 out = ev (X3 in4) (takeRelays in5 out) (reply5 in4 in5 out)
 
     -- the accepted calls up to step 3
-    two : (fin : Party) (es : List Event) (e2 e3 : Event) (bit : ℕ) (out : List ℕ) → Chain H (atRoot (seatOf n t i) m) es fin
+    two : (fin : Party) (es : List Event) (e2 e3 : Event) (bit : ℕ) (out : List ℕ) → Chain H (atRoot (seatOf session n t i) m) es fin
         → first 2 es ≡ some e2 → e2 .call ≡ agreeRoot z → first 3 es ≡ some e3 → e3 .call ≡ agreeBit bit out
         → (rest : List Event) × (es ≡ ev2 ∷ ev3 bit out ∷ rest) × (bit ≤ 1)
-        × Chain H (cond (eqb bit 0) (atEnd (seatOf n t i) nothing) X2) rest fin
+        × Chain H (cond (eqb bit 0) (atEnd (seatOf session n t i) nothing) X2) rest fin
     unfolding first atRoot atBit
     two fin es e2 e3 bit out h f2 c2 f3 c3 =
-        let x0 : Party = atRoot (seatOf n t i) m in
+        let x0 : Party = atRoot (seatOf session n t i) m in
         let y2 = accepted-at 2 x0 fin es e2 (agreeRoot z) refl h f2 c2 in
         let a = advance 2 x0 fin es e2 (agreeRoot z) reply2 refl h f2 c2 (did2 H x0 z y2 .1 ∙ is2) in
         let g3 : first 3 (a .0) ≡ some e3 = rw (a .1) at f3 in
@@ -204,116 +204,116 @@ module _ (H : List ℕ → List ℕ) where
           rest = b .0;
           all = a .1 ∙ ap (λ (r : List Event). ev4 i4 o4 ∷ r) (b .1);
           last = let r = resultOf H (X3 i4) i5 in
-              still H n (atEnd (seatOf n t i) r) fin (b .0) r (result-end (seatOf n t i) r) (b .2);
+              still H n (atEnd (seatOf session n t i) r) fin (b .0) r (result-end (seatOf session n t i) r) (b .2);
         }
 
 -- a party that opened with a message, was handed these calls, and was accepted in steps 2 to 5, on bit 1
-pub record Ran (H : List ℕ → List ℕ) (n t i : ℕ) (m : List ℕ) (calls : List Call) (z : List ℕ) : Type 0 where
+pub record Ran (H : List ℕ → List ℕ) (session n t i : ℕ) (m : List ℕ) (calls : List Call) (z : List ℕ) : Type 0 where
   pub in4 : List ℕ
   pub in5 : List ℕ
-  pub heard4 : (j : ℕ) → heard n j (firstOf H n t i m calls 4) ≡ entry n j in4
-  pub heard5 : (j : ℕ) → heard n j (firstOf H n t i m calls 5) ≡ entry n j in5
-  pub packets : wrote (firstOf H n t i m calls 3) ≡ outboxOf H (atBit (seatOf n t i) m z) 1
-  pub relayed : wrote (firstOf H n t i m calls 4) ≡ relayOf H (atFirst (seatOf n t i) m z) in4
-  pub ends : resultAfter H n t i m calls ≡ some (resultOf H (atSecond (seatOf n t i) m z (heldOf H (atFirst (seatOf n t i) m z) in4)) in5)
-  pub in-tree : (s : List ℕ) → List·Memᴰ s (codingStrings H n (shares n (n - t) m)) → List·Memᴰ s (openedAndChecked H n t i m calls)
-  pub in-first : (s : List ℕ) → List·Memᴰ s (checkedIn H (atFirst (seatOf n t i) m z) (takeShares in4 []))
-      → List·Memᴰ s (openedAndChecked H n t i m calls)
+  pub heard4 : (j : ℕ) → heard n j (firstOf H session n t i m calls 4) ≡ entry n j in4
+  pub heard5 : (j : ℕ) → heard n j (firstOf H session n t i m calls 5) ≡ entry n j in5
+  pub packets : wrote (firstOf H session n t i m calls 3) ≡ outboxOf H (atBit (seatOf session n t i) m z) 1
+  pub relayed : wrote (firstOf H session n t i m calls 4) ≡ relayOf H (atFirst (seatOf session n t i) m z) in4
+  pub ends : resultAfter H session n t i m calls ≡ some (resultOf H (atSecond (seatOf session n t i) m z (heldOf H (atFirst (seatOf session n t i) m z) in4)) in5)
+  pub in-tree : (s : List ℕ) → List·Memᴰ s (codingStrings H session n (shares n (n - t) m)) → List·Memᴰ s (openedAndChecked H session n t i m calls)
+  pub in-first : (s : List ℕ) → List·Memᴰ s (checkedIn H (atFirst (seatOf session n t i) m z) (takeShares in4 []))
+      → List·Memᴰ s (openedAndChecked H session n t i m calls)
   pub in-second : (s : List ℕ)
-      → List·Memᴰ s (checkedIn H (atSecond (seatOf n t i) m z (heldOf H (atFirst (seatOf n t i) m z) in4)) (takeRelays in5 []))
-      → List·Memᴰ s (openedAndChecked H n t i m calls)
+      → List·Memᴰ s (checkedIn H (atSecond (seatOf session n t i) m z (heldOf H (atFirst (seatOf session n t i) m z) in4)) (takeRelays in5 []))
+      → List·Memᴰ s (openedAndChecked H session n t i m calls)
   pub in-again : (s : List ℕ)
-      → List·Memᴰ s (recodedIn H (atSecond (seatOf n t i) m z (heldOf H (atFirst (seatOf n t i) m z) in4)) (takeRelays in5 []))
-      → List·Memᴰ s (recoded H n t i m calls)
+      → List·Memᴰ s (recodedIn H (atSecond (seatOf session n t i) m z (heldOf H (atFirst (seatOf session n t i) m z) in4)) (takeRelays in5 []))
+      → List·Memᴰ s (recoded H session n t i m calls)
   -- the state and the inbox of the call that ended it
-  pub last-call : (e : Event) → firstOf H n t i m calls 5 ≡ some e
-      → (e .before ≡ atSecond (seatOf n t i) m z (heldOf H (atFirst (seatOf n t i) m z) in4)) × (inboxIn (e .call) ≡ in5)
-  pub sends : sentBy H n t i m calls
-      ≡ lengths (bodies n (outboxOf H (atBit (seatOf n t i) m z) 1)) + (n - 1) * length (relayOf H (atFirst (seatOf n t i) m z) in4)
+  pub last-call : (e : Event) → firstOf H session n t i m calls 5 ≡ some e
+      → (e .before ≡ atSecond (seatOf session n t i) m z (heldOf H (atFirst (seatOf session n t i) m z) in4)) × (inboxIn (e .call) ≡ in5)
+  pub sends : sentBy H session n t i m calls
+      ≡ lengths (bodies n (outboxOf H (atBit (seatOf session n t i) m z) 1)) + (n - 1) * length (relayOf H (atFirst (seatOf session n t i) m z) in4)
 
-module _ (H : List ℕ → List ℕ) (n t i : ℕ) (m : List ℕ) (calls : List Call) (o : opening H n t i m .cause ≡ 0) where
-  x0-is : opening H n t i m .state ≡ atRoot (seatOf n t i) m
-  x0-is = ap (λ (r : Opened). r .state) (opened-is H n t i m o .1)
+module _ (H : List ℕ → List ℕ) (session n t i : ℕ) (m : List ℕ) (calls : List Call) (o : opening H session n t i m .cause ≡ 0) where
+  x0-is : opening H session n t i m .state ≡ atRoot (seatOf session n t i) m
+  x0-is = ap (λ (r : Opened). r .state) (opened-is H session n t i m o .1)
 
   abbrev pub fin : Party
-  fin = final H (atRoot (seatOf n t i) m) calls
+  fin = final H (atRoot (seatOf session n t i) m) calls
 
-  did-is : did H n t i m calls ≡ accepted (events H (atRoot (seatOf n t i) m) calls)
+  did-is : did H session n t i m calls ≡ accepted (events H (atRoot (seatOf session n t i) m) calls)
   unfolding did
   did-is = ap (λ (x : Party). accepted (events H x calls)) x0-is
 
-  pub ends-is : resultAfter H n t i m calls ≡ resultIn fin
+  pub ends-is : resultAfter H session n t i m calls ≡ resultIn fin
   ends-is = ap (λ (x : Party). resultIn (final H x calls)) x0-is
 
-  pub did-chain : Chain H (atRoot (seatOf n t i) m) (did H n t i m calls) fin
-  did-chain = subst (λ (l : List Event). Chain H (atRoot (seatOf n t i) m) l (final H (atRoot (seatOf n t i) m) calls)) (sym did-is) (chain H (atRoot (seatOf n t i) m) calls)
+  pub did-chain : Chain H (atRoot (seatOf session n t i) m) (did H session n t i m calls) fin
+  did-chain = subst (λ (l : List Event). Chain H (atRoot (seatOf session n t i) m) l (final H (atRoot (seatOf session n t i) m) calls)) (sym did-is) (chain H (atRoot (seatOf session n t i) m) calls)
 
-module _ (H : List ℕ → List ℕ) (n t i : ℕ) (m : List ℕ) (calls : List Call) (z : List ℕ) (o : opening H n t i m .cause ≡ 0) where
+module _ (H : List ℕ → List ℕ) (session n t i : ℕ) (m : List ℕ) (calls : List Call) (z : List ℕ) (o : opening H session n t i m .cause ≡ 0) where
   -- the bit that step 2 gave
-  pub bit-given : (e2 : Event) → firstOf H n t i m calls 2 ≡ some e2 → e2 .call ≡ agreeRoot z
-      → bitGiven (firstOf H n t i m calls 2) ≡ some (cond (happy H (atBit (seatOf n t i) m z)) 1 0)
+  pub bit-given : (e2 : Event) → firstOf H session n t i m calls 2 ≡ some e2 → e2 .call ≡ agreeRoot z
+      → bitGiven (firstOf H session n t i m calls 2) ≡ some (cond (happy H (atBit (seatOf session n t i) m z)) 1 0)
   unfolding first atRoot
   bit-given e2 f2 c2 =
-      let x0 : Party = atRoot (seatOf n t i) m in
-      let h = did-chain H n t i m calls o in
-      let y2 = accepted-at H 2 x0 (fin H n t i m calls o) (did H n t i m calls) e2 (agreeRoot z) refl h f2 c2 in
-      let a = advance H 2 x0 (fin H n t i m calls o) (did H n t i m calls) e2 (agreeRoot z) (reply2 H n t i m z) refl h f2 c2
-      (did2 H x0 z y2 .1 ∙ is2 H n t i m z) in
+      let x0 : Party = atRoot (seatOf session n t i) m in
+      let h = did-chain H session n t i m calls o in
+      let y2 = accepted-at H 2 x0 (fin H session n t i m calls o) (did H session n t i m calls) e2 (agreeRoot z) refl h f2 c2 in
+      let a = advance H 2 x0 (fin H session n t i m calls o) (did H session n t i m calls) e2 (agreeRoot z) (reply2 H session n t i m z) refl h f2 c2
+      (did2 H x0 z y2 .1 ∙ is2 H session n t i m z) in
       ap (λ (l : List Event). bitGiven (first 2 l)) (a .1)
 
-  module _ (e2 e3 : Event) (bit : ℕ) (out : List ℕ) (f2 : firstOf H n t i m calls 2 ≡ some e2) (c2 : e2 .call ≡ agreeRoot z)
-      (f3 : firstOf H n t i m calls 3 ≡ some e3) (c3 : e3 .call ≡ agreeBit bit out) where
-    pub begun : (rest : List Event) × (did H n t i m calls ≡ ev2 H n t i m z ∷ ev3 H n t i m z bit out ∷ rest) × (bit ≤ 1)
-        × Chain H (cond (eqb bit 0) (atEnd (seatOf n t i) nothing) (atFirst (seatOf n t i) m z)) rest (fin H n t i m calls o)
-    begun = two H n t i m z (fin H n t i m calls o) (did H n t i m calls) e2 e3 bit out (did-chain H n t i m calls o) f2 c2 f3 c3
+  module _ (e2 e3 : Event) (bit : ℕ) (out : List ℕ) (f2 : firstOf H session n t i m calls 2 ≡ some e2) (c2 : e2 .call ≡ agreeRoot z)
+      (f3 : firstOf H session n t i m calls 3 ≡ some e3) (c3 : e3 .call ≡ agreeBit bit out) where
+    pub begun : (rest : List Event) × (did H session n t i m calls ≡ ev2 H session n t i m z ∷ ev3 H session n t i m z bit out ∷ rest) × (bit ≤ 1)
+        × Chain H (cond (eqb bit 0) (atEnd (seatOf session n t i) nothing) (atFirst (seatOf session n t i) m z)) rest (fin H session n t i m calls o)
+    begun = two H session n t i m z (fin H session n t i m calls o) (did H session n t i m calls) e2 e3 bit out (did-chain H session n t i m calls o) f2 c2 f3 c3
 
     pub bit-small : bit ≤ 1
     bit-small = begun .2
 
   -- on bit 0
-  pub ran-none : (e2 e3 : Event) (out : List ℕ) → firstOf H n t i m calls 2 ≡ some e2 → e2 .call ≡ agreeRoot z
-      → firstOf H n t i m calls 3 ≡ some e3 → e3 .call ≡ agreeBit 0 out
-      → (resultAfter H n t i m calls ≡ some nothing)
-      × (sentBy H n t i m calls ≡ lengths (bodies n (outboxOf H (atBit (seatOf n t i) m z) 0)))
+  pub ran-none : (e2 e3 : Event) (out : List ℕ) → firstOf H session n t i m calls 2 ≡ some e2 → e2 .call ≡ agreeRoot z
+      → firstOf H session n t i m calls 3 ≡ some e3 → e3 .call ≡ agreeBit 0 out
+      → (resultAfter H session n t i m calls ≡ some nothing)
+      × (sentBy H session n t i m calls ≡ lengths (bodies n (outboxOf H (atBit (seatOf session n t i) m z) 0)))
   unfolding sentBy sentOver
   ran-none e2 e3 out f2 c2 f3 c3 =
       let b = begun e2 e3 0 out f2 c2 f3 c3 in
-      let l = still H n (atEnd (seatOf n t i) nothing) (fin H n t i m calls o) (b .0) nothing (result-end (seatOf n t i) nothing) (b .3) in (
-        ends-is H n t i m calls o ∙ l .0,
-        rw (b .1, l .1, take-spliced out (outboxOf H (atBit (seatOf n t i) m z) 0)) (omega arith),
+      let l = still H n (atEnd (seatOf session n t i) nothing) (fin H session n t i m calls o) (b .0) nothing (result-end (seatOf session n t i) nothing) (b .3) in (
+        ends-is H session n t i m calls o ∙ l .0,
+        rw (b .1, l .1, take-spliced out (outboxOf H (atBit (seatOf session n t i) m z) 0)) (omega arith),
       )
 
   -- on bit 1
-  module _ (out : List ℕ) (es : List Event) (d : did H n t i m calls ≡ ev2 H n t i m z ∷ ev3 H n t i m z 1 out ∷ es)
-      (q : Four H n t i m z (fin H n t i m calls o) es) where
+  module _ (out : List ℕ) (es : List Event) (d : did H session n t i m calls ≡ ev2 H session n t i m z ∷ ev3 H session n t i m z 1 out ∷ es)
+      (q : Four H session n t i m z (fin H session n t i m calls o) es) where
     abbrev fourth : Event
-    fourth = ev4 H n t i m z (q .in4) (q .out4)
+    fourth = ev4 H session n t i m z (q .in4) (q .out4)
 
     abbrev fifth : Event
-    fifth = ev5 H n t i m z (q .in4) (q .in5) (q .out5)
+    fifth = ev5 H session n t i m z (q .in4) (q .in5) (q .out5)
 
-    all-did : did H n t i m calls ≡ ev2 H n t i m z ∷ ev3 H n t i m z 1 out ∷ fourth ∷ fifth ∷ q .rest
-    all-did = d ∙ ap (λ (r : List Event). ev2 H n t i m z ∷ ev3 H n t i m z 1 out ∷ r) (q .all)
+    all-did : did H session n t i m calls ≡ ev2 H session n t i m z ∷ ev3 H session n t i m z 1 out ∷ fourth ∷ fifth ∷ q .rest
+    all-did = d ∙ ap (λ (r : List Event). ev2 H session n t i m z ∷ ev3 H session n t i m z 1 out ∷ r) (q .all)
 
-    is-3 : firstOf H n t i m calls 3 ≡ some (ev3 H n t i m z 1 out)
+    is-3 : firstOf H session n t i m calls 3 ≡ some (ev3 H session n t i m z 1 out)
     unfolding first
     is-3 = rw all-did
 
-    is-4 : firstOf H n t i m calls 4 ≡ some fourth
+    is-4 : firstOf H session n t i m calls 4 ≡ some fourth
     unfolding first
     is-4 = rw all-did
 
-    is-5 : firstOf H n t i m calls 5 ≡ some fifth
+    is-5 : firstOf H session n t i m calls 5 ≡ some fifth
     unfolding first
     is-5 = rw all-did
 
-    checked-in : (s : List ℕ) → List·Memᴰ s (checkedOver H (fourth ∷ fifth ∷ q .rest)) → List·Memᴰ s (openedAndChecked H n t i m calls)
+    checked-in : (s : List ℕ) → List·Memᴰ s (checkedOver H (fourth ∷ fifth ∷ q .rest)) → List·Memᴰ s (openedAndChecked H session n t i m calls)
     unfolding openedAndChecked stringsOver checkedIn
     checked-in s h =
-        Memᴰ·append-right (codingStrings H n (shares n (n - t) m))
+        Memᴰ·append-right (codingStrings H session n (shares n (n - t) m))
         (subst (λ (l : List Event). List·Memᴰ s (checkedOver H l)) (sym all-did) h)
 
-    ran : Ran H n t i m calls z
+    ran : Ran H session n t i m calls z
     unfolding openedAndChecked stringsOver checkedIn recoded recodedIn sentBy sentOver
     ran =
         record {
@@ -321,12 +321,12 @@ module _ (H : List ℕ → List ℕ) (n t i : ℕ) (m : List ℕ) (calls : List 
           in5 = q .in5;
           heard4 = λ j. ap (heard n j) is-4;
           heard5 = λ j. ap (heard n j) is-5;
-          packets = ap wrote is-3 ∙ take-spliced out (outboxOf H (atBit (seatOf n t i) m z) 1);
-          relayed = ap wrote is-4 ∙ take-spliced (q .out4) (relayOf H (atFirst (seatOf n t i) m z) (q .in4));
-          ends = ends-is H n t i m calls o ∙ q .last .0;
-          in-tree = λ s h. Memᴰ·append-left (checkedOver H (did H n t i m calls)) h;
+          packets = ap wrote is-3 ∙ take-spliced out (outboxOf H (atBit (seatOf session n t i) m z) 1);
+          relayed = ap wrote is-4 ∙ take-spliced (q .out4) (relayOf H (atFirst (seatOf session n t i) m z) (q .in4));
+          ends = ends-is H session n t i m calls o ∙ q .last .0;
+          in-tree = λ s h. Memᴰ·append-left (checkedOver H (did H session n t i m calls)) h;
           in-first = λ s h. checked-in s (Memᴰ·append-left (checkedOver H (fifth ∷ q .rest)) h);
-          in-second = λ s h. checked-in s (Memᴰ·append-right (checkedIn H (atFirst (seatOf n t i) m z) (takeShares (q .in4) []))
+          in-second = λ s h. checked-in s (Memᴰ·append-right (checkedIn H (atFirst (seatOf session n t i) m z) (takeShares (q .in4) []))
               (Memᴰ·append-left (checkedOver H (q .rest)) h));
           in-again = λ s h. subst (λ (l : List Event). List·Memᴰ s (recodedOver H l)) (sym all-did) (Memᴰ·append-left (recodedOver H (q .rest)) h);
           last-call = λ e f. let k : fifth ≡ e = same-some (sym is-5 ∙ f) in
@@ -334,17 +334,17 @@ module _ (H : List ℕ → List ℕ) (n t i : ℕ) (m : List ℕ) (calls : List 
           sends = rw (
             all-did,
             q .last .1,
-            take-spliced out (outboxOf H (atBit (seatOf n t i) m z) 1),
-            take-spliced (q .out4) (relayOf H (atFirst (seatOf n t i) m z) (q .in4)),
+            take-spliced out (outboxOf H (atBit (seatOf session n t i) m z) 1),
+            take-spliced (q .out4) (relayOf H (atFirst (seatOf session n t i) m z) (q .in4)),
           ) (omega arith);
         }
 
-  pub ran-through : (e2 e3 e4 e5 : Event) (out : List ℕ) → firstOf H n t i m calls 2 ≡ some e2 → e2 .call ≡ agreeRoot z
-      → firstOf H n t i m calls 3 ≡ some e3 → e3 .call ≡ agreeBit 1 out
-      → firstOf H n t i m calls 4 ≡ some e4 → firstOf H n t i m calls 5 ≡ some e5 → Ran H n t i m calls z
+  pub ran-through : (e2 e3 e4 e5 : Event) (out : List ℕ) → firstOf H session n t i m calls 2 ≡ some e2 → e2 .call ≡ agreeRoot z
+      → firstOf H session n t i m calls 3 ≡ some e3 → e3 .call ≡ agreeBit 1 out
+      → firstOf H session n t i m calls 4 ≡ some e4 → firstOf H session n t i m calls 5 ≡ some e5 → Ran H session n t i m calls z
   unfolding first
   ran-through e2 e3 e4 e5 out f2 c2 f3 c3 f4 f5 =
       let b = begun e2 e3 1 out f2 c2 f3 c3 in
       let g4 : first 4 (b .0) ≡ some e4 = rw (b .1) at f4 in
       let g5 : first 5 (b .0) ≡ some e5 = rw (b .1) at f5 in
-      ran out (b .0) (b .1) (four H n t i m z (fin H n t i m calls o) (b .0) e4 e5 (b .3) g4 g5)
+      ran out (b .0) (b .1) (four H session n t i m z (fin H session n t i m calls o) (b .0) e4 e5 (b .3) g4 g5)

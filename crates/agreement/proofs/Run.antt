@@ -17,7 +17,7 @@ use Rattle.party.specs.State.{Result, nothing, settled, resultBytes, messageIn,
 use Rattle.party.specs.Steps.{turnOf, stateCause, rootCause, withRoot, Stepped, gives, refused, writes, bitCause, outboxOf}
 use Rattle.party.specs.Steps.{agreeBitOf, inboxCause, relaysCause, relayOf, heldOf, takeSharesOf, resultOf, ending, takeRelaysOf}
 use Rattle.party.specs.declared.Party.{Party}
-use Rattle.party.specs.declared.Seat.{Seat}
+use Rattle.commitment.specs.declared.Seat.{Seat}
 use Rattle.party.specs.declared.Answer.{Answer}
 use Rattle.party.specs.declared.Answer.the-variants as answer
 use Rattle.party.proofs.Ways.{Way, on, off, way}

@@ -44,50 +44,50 @@ module _ (H : List ℕ → List ℕ) where
       record { before = x; call = c; reply = madeUnchecked x c } ∷ eventsUnchecked (madeUnchecked x c .state) cs
 
   -- a party ends with a result: its state holds it after all calls, or an accepted step 5 gave it
-  abbrev pub EndsWith : ℕ → ℕ → Good → Result → Type 0
-  EndsWith n t A R =
-      (resultAfter H n t (A .own) (A .message) (A .calls) ≡ some R)
-      ⊎ ((e : Event) × List·Memᴰ e (did H n t (A .own) (A .message) (A .calls)) × (stepOf (e .call) ≡ 5) × (e .reply .result ≡ some R))
+  abbrev pub EndsWith : ℕ → ℕ → ℕ → Good → Result → Type 0
+  EndsWith session n t A R =
+      (resultAfter H session n t (A .own) (A .message) (A .calls) ≡ some R)
+      ⊎ ((e : Event) × List·Memᴰ e (did H session n t (A .own) (A .message) (A .calls)) × (stepOf (e .call) ≡ 5) × (e .reply .result ≡ some R))
 
   -- one party
   pub record EndsUnderItsRoot : Type 0 where
     -- step 5 on any state that has not ended, with any inbox and buffer
     pub any-state : (x : Party) (inbox out m : List ℕ) → hasEnded (x .stage) ≡ false → made H x (takeRelays inbox out) .result ≡ some (settled m)
-        → messageRoot H (x .seat .n) (x .seat .t) m ≡ x .root
+        → messageRoot H (x .seat .session) (x .seat .n) (x .seat .t) m ≡ x .root
     -- any list of calls: whoever ends with a message had a first accepted step 2, and its root is the message's
-    pub any-list : (n t : ℕ) (A : Good) (m : List ℕ) → EndsWith n t A (settled m) → (e : Event) × (z : List ℕ)
-        × (firstOf H n t (A .own) (A .message) (A .calls) 2 ≡ some e) × (e .call ≡ agreeRoot z) × (messageRoot H n t m ≡ z)
+    pub any-list : (session n t : ℕ) (A : Good) (m : List ℕ) → EndsWith session n t A (settled m) → (e : Event) × (z : List ℕ)
+        × (firstOf H session n t (A .own) (A .message) (A .calls) 2 ≡ some e) × (e .call ≡ agreeRoot z) × (messageRoot H session n t m ≡ z)
 
   -- what is supposed of all good parties: they opened with messages of bytes; each got the agreed root z in its first accepted step 2, and the agreed bit in
   -- its first accepted step 3, if it had one; and the rule of the bit. Nothing is said of how many are bad, of inboxes, or of the root's rule
-  pub record Told (n t : ℕ) (good : List Good) (z : List ℕ) (bit : ℕ) : Type 0 where
-    pub bytes : Each H n t good (λ A. Bytes (A .message))
-    pub root : Each H n t good (λ A. (e : Event) × (step H n t good 2 A ≡ some e) × (e .call ≡ agreeRoot z))
-    pub same-bit : Each H n t good (λ A. (e : Event) → step H n t good 3 A ≡ some e → (out : List ℕ) × (e .call ≡ agreeBit bit out))
-    pub vote : Rule H n t good (λ A. bitGiven (step H n t good 2 A)) bit
+  pub record Told (session n t : ℕ) (good : List Good) (z : List ℕ) (bit : ℕ) : Type 0 where
+    pub bytes : Each H session n t good (λ A. Bytes (A .message))
+    pub root : Each H session n t good (λ A. (e : Event) × (step H session n t good 2 A ≡ some e) × (e .call ≡ agreeRoot z))
+    pub same-bit : Each H session n t good (λ A. (e : Event) → step H session n t good 3 A ≡ some e → (out : List ℕ) × (e .call ≡ agreeBit bit out))
+    pub vote : Rule H session n t good (λ A. bitGiven (step H session n t good 2 A)) bit
 
   -- a result of A is nothing or a message that a good party opened with; or a string of A's second coding and one of a good party's opening, two different
   -- ones, have one hash
-  abbrev pub Somebodys : ℕ → ℕ → List Good → Good → Result → Type 0
-  Somebodys n t good A R =
+  abbrev pub Somebodys : ℕ → ℕ → ℕ → List Good → Good → Result → Type 0
+  Somebodys session n t good A R =
       (R ≡ nothing) ⊎ ((B : Good) × List·Memᴰ B good
-      × ((R ≡ settled (B .message)) ⊎ Collision H (recoded H n t (A .own) (A .message) (A .calls)) (codingStrings H n (shares n (n - t) (B .message)))))
+      × ((R ≡ settled (B .message)) ⊎ Collision H (recoded H session n t (A .own) (A .message) (A .calls)) (codingStrings H session n (shares n (n - t) (B .message)))))
 
   abbrev pub NoInventedMessage : Type 0
   NoInventedMessage =
-      (n t : ℕ) (good : List Good) (z : List ℕ) (bit : ℕ) → Told n t good z bit
-      → Each H n t good (λ A. (R : Result) → EndsWith n t A R → Somebodys n t good A R)
+      (session n t : ℕ) (good : List Good) (z : List ℕ) (bit : ℕ) → Told session n t good z bit
+      → Each H session n t good (λ A. (R : Result) → EndsWith session n t A R → Somebodys session n t good A R)
 
   -- every string that a good party hashed is one of an opening or a path check. So to suppose that no two different ones of these have one hash is to suppose it
   -- of all
   abbrev pub NoStringMore : Type 0
   NoStringMore =
-      (n t : ℕ) (good : List Good) (z : List ℕ) (bit : ℕ) → Told n t good z bit → Clean H n t good
-      → (s : List ℕ) → List·Memᴰ s (allHashed H n t good) → List·Memᴰ s (allOpenedAndChecked H n t good)
+      (session n t : ℕ) (good : List Good) (z : List ℕ) (bit : ℕ) → Told session n t good z bit → Clean H session n t good
+      → (s : List ℕ) → List·Memᴰ s (allHashed H session n t good) → List·Memᴰ s (allOpenedAndChecked H session n t good)
 
   -- every call of every good party gives what it gives without the check: state, answer, result and buffer. What is supposed is read over the calls as they are
   -- with the check: without it a forged inbox with a short buffer is cause 9, and its strings are in no list
   abbrev pub NoOtherEnding : Type 0
   NoOtherEnding =
-      (n t : ℕ) (good : List Good) (z : List ℕ) (bit : ℕ) → Told n t good z bit → Clean H n t good
-      → Each H n t good (λ A. let x = opening H n t (A .own) (A .message) .state in eventsUnchecked x (A .calls) ≡ events H x (A .calls))
+      (session n t : ℕ) (good : List Good) (z : List ℕ) (bit : ℕ) → Told session n t good z bit → Clean H session n t good
+      → Each H session n t good (λ A. let x = opening H session n t (A .own) (A .message) .state in eventsUnchecked x (A .calls) ≡ events H x (A .calls))

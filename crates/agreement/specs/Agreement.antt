@@ -44,7 +44,7 @@ unfoldable pub joinOver : {A : Type 0} → (A → List (List ℕ)) → List A �
 joinOver f [] = []
 joinOver f (a ∷ l) = f a ++ joinOver f l
 
-module _ (H : List ℕ → List ℕ) (n t : ℕ) (good : List Good) where
+module _ (H : List ℕ → List ℕ) (session n t : ℕ) (good : List Good) where
   -- it holds of every good party
   abbrev pub Each : (Good → Type 0) → Type 0
   Each P = (A : Good) → List·Memᴰ A good → P A
@@ -54,13 +54,13 @@ module _ (H : List ℕ → List ℕ) (n t : ℕ) (good : List Good) where
 
   -- a party's first accepted call of step k
   abbrev pub step : ℕ → Good → Option Event
-  step k A = firstOf H n t (A .own) (A .message) (A .calls) k
+  step k A = firstOf H session n t (A .own) (A .message) (A .calls) k
 
-  -- all opened with messages of bytes, with one n and t, under different numbers; bad are the numbers up to n that no good party bears,
+  -- all opened with messages of bytes, with one session number, n and t, under different numbers; bad are the numbers up to n that no good party bears,
   -- at most t. Nothing is supposed of other arguments' bytes
   pub record OpenedAll : Type 0 where
     pub bytes : Each (λ A. Bytes (A .message))
-    pub accepted : Each (λ A. opening H n t (A .own) (A .message) .cause ≡ 0)
+    pub accepted : Each (λ A. opening H session n t (A .own) (A .message) .cause ≡ 0)
     pub apart : different owns ≡ true
     pub bad : absent n 1 owns ≤ t
 
@@ -77,7 +77,7 @@ module _ (H : List ℕ → List ℕ) (n t : ℕ) (good : List Good) where
 
   -- for the root it was given the openings' roots, for the bit the bits of those steps 2
   pub record Ruled (z : List ℕ) (bit : ℕ) : Type 0 where
-    pub root : Rule (λ A. some (opening H n t (A .own) (A .message) .root)) z
+    pub root : Rule (λ A. some (opening H session n t (A .own) (A .message) .root)) z
     pub vote : Rule (λ A. bitGiven (step 2 A)) bit
 
   -- what a good party B sent to A, and nothing else, stands under B's number in A's inbox. Of bad numbers, and of A's own, nothing is said
@@ -92,10 +92,10 @@ module _ (H : List ℕ → List ℕ) (n t : ℕ) (good : List Good) where
   -- the strings of the openings and path checks of good parties, all taken together; and all strings that they hashed, which are the same ones and no others
   -- under these premises (`AgreedRoot.NoStringMore`)
   abbrev pub allOpenedAndChecked : List (List ℕ)
-  allOpenedAndChecked = joinOver (λ (A : Good). openedAndChecked H n t (A .own) (A .message) (A .calls)) good
+  allOpenedAndChecked = joinOver (λ (A : Good). openedAndChecked H session n t (A .own) (A .message) (A .calls)) good
 
   abbrev pub allHashed : List (List ℕ)
-  allHashed = joinOver (λ (A : Good). hashed H n t (A .own) (A .message) (A .calls)) good
+  allHashed = joinOver (λ (A : Good). hashed H session n t (A .own) (A .message) (A .calls)) good
 
   -- no two different ones of the former have one hash
   abbrev pub Clean : Type 0
@@ -111,14 +111,14 @@ module _ (H : List ℕ → List ℕ) (n t : ℕ) (good : List Good) where
 
   -- the bytes that good parties sent
   abbrev pub sent : ℕ
-  sent = sumOver (λ (A : Good). sentBy H n t (A .own) (A .message) (A .calls)) good
+  sent = sumOver (λ (A : Good). sentBy H session n t (A .own) (A .message) (A .calls)) good
 
   -- what then holds of one result R: every good party's state holds it after the list, and every accepted step 5 gave it, the first and all that read
   -- it again; on bit 0 it is nothing; it is nothing or a message that some good party opened with, and the common one where all opened with one; the
   -- bytes sent are within the bound, and none if the result is nothing
   pub record Conclusions (bit : ℕ) (R : Result) : Type 0 where
-    pub holds : Each (λ A. resultAfter H n t (A .own) (A .message) (A .calls) ≡ some R)
-    pub gives : Each (λ A. (e : Event) → List·Memᴰ e (did H n t (A .own) (A .message) (A .calls)) → stepOf (e .call) ≡ 5
+    pub holds : Each (λ A. resultAfter H session n t (A .own) (A .message) (A .calls) ≡ some R)
+    pub gives : Each (λ A. (e : Event) → List·Memᴰ e (did H session n t (A .own) (A .message) (A .calls)) → stepOf (e .call) ≡ 5
         → e .reply .result ≡ some R)
     pub void : bit ≡ 0 → R ≡ nothing
     pub somebodys : (R ≡ nothing) ⊎ ((A : Good) × List·Memᴰ A good × (R ≡ settled (A .message)))
@@ -127,7 +127,7 @@ module _ (H : List ℕ → List ℕ) (n t : ℕ) (good : List Good) where
         → sent ≤ 2 * length good * (n - 1) * (4 + shareLength (n - t) (length m) + 32 * height n)
     pub free : R ≡ nothing → sent ≡ 0
 
--- demand 3, for all n and t, all good parties, all agreed values
+-- demand 3, for all session numbers, n and t, all good parties, all agreed values
 abbrev pub Agreement : (List ℕ → List ℕ) → Type 0
 Agreement H =
-    (n t : ℕ) (good : List Good) (z : List ℕ) (bit : ℕ) → Premises H n t good z bit → (R : Result) × Conclusions H n t good bit R
+    (session n t : ℕ) (good : List Good) (z : List ℕ) (bit : ℕ) → Premises H session n t good z bit → (R : Result) × Conclusions H session n t good bit R

@@ -28,7 +28,7 @@ pub record Opener : Type 0 where
 abbrev pub partyOf : Opener → Good
 partyOf A = record { own = A .own; message = messageBy (A .own) (A .sender) (A .bytes); calls = A .calls }
 
-module _ (H : List ℕ → List ℕ) (n t : ℕ) (good : List Opener) where
+module _ (H : List ℕ → List ℕ) (session n t : ℕ) (good : List Opener) where
   abbrev pub Every : (Opener → Type 0) → Type 0
   Every P = (A : Opener) → List·Memᴰ A good → P A
 
@@ -37,12 +37,12 @@ module _ (H : List ℕ → List ℕ) (n t : ℕ) (good : List Opener) where
 
   -- what a party's opening gave back, and the packet that it wrote
   abbrev pub begun : Opener → Begun
-  begun A = openBySenderOf H n t (A .own) (A .sender) (A .bytes) (A .out)
+  begun A = openBySenderOf H session n t (A .own) (A .sender) (A .bytes) (A .out)
 
   abbrev pub gave : Opener → List ℕ
   gave A = take (begun A .value) (begun A .buffer)
 
-  -- all opened with n and t, under different numbers, and named the sender q; what they opened with is bytes, as it is where what they were handed is; where the
+  -- all opened with one session number, n and t, under different numbers, and named the sender q; what they opened with is bytes, as it is where what they were handed is; where the
   -- sender is good, each other one was handed what it wrote; of the numbers up to n at most t are borne by none of them
   pub record OpenedAll (q : ℕ) : Type 0 where
     pub accepted : Every (λ A. begun A .opened .cause ≡ 0)
@@ -55,29 +55,29 @@ module _ (H : List ℕ → List ℕ) (n t : ℕ) (good : List Opener) where
   -- what is supposed: of the calls, the short agreement, the packets and the hash, as agreement does
   pub record Premises (q : ℕ) (z : List ℕ) (bit : ℕ) : Type 0 where
     pub opened : OpenedAll q
-    pub called : CalledAll H n t parties z bit
-    pub ruled : Ruled H n t parties z bit
-    pub delivered : bit ≡ 1 → DeliveredAll H n t parties
-    pub clean : Clean H n t parties
+    pub called : CalledAll H session n t parties z bit
+    pub ruled : Ruled H session n t parties z bit
+    pub delivered : bit ≡ 1 → DeliveredAll H session n t parties
+    pub clean : Clean H session n t parties
 
   -- the bytes that good parties sent: in the sender's exchange its packet to the n - 1 others, and then as in agreement
   abbrev pub sentInAll : ℕ
-  sentInAll = sumOver (λ (A : Opener). (n - 1) * length (gave A)) good + sent H n t parties
+  sentInAll = sumOver (λ (A : Opener). (n - 1) * length (gave A)) good + sent H session n t parties
 
   -- what then holds of one result R: each opening gave the state and root of the ordinary one, so that what is supposed and said of calls is of calls on that
   -- state; all that agreement says; a good sender's message is the result; and the bytes are within agreement's bound and, if the sender is good, its packet
   -- to each other party, and none if the result is nothing
   pub record Settled (q bit : ℕ) (R : Result) : Type 0 where
-    pub opens : Every (λ A. begun A .opened ≡ opening H n t (A .own) (partyOf A .message))
-    pub agreed : Conclusions H n t parties bit R
+    pub opens : Every (λ A. begun A .opened ≡ opening H session n t (A .own) (partyOf A .message))
+    pub agreed : Conclusions H session n t parties bit R
     pub senders : Every (λ S. S .own ≡ q → R ≡ settled (S .bytes))
     pub bound : (m : List ℕ) → R ≡ settled m
         → sentInAll ≤ 2 * length good * (n - 1) * (4 + shareLength (n - t) (length m) + 32 * height n) + (n - 1) * (3 + length m)
-    pub bound-bad : Every (λ A. A .own ≢ q) → sentInAll ≡ sent H n t parties
+    pub bound-bad : Every (λ A. A .own ≢ q) → sentInAll ≡ sent H session n t parties
     pub free : R ≡ nothing → sentInAll ≡ 0
 
--- for all n and t, all good parties and senders, all agreed values
+-- for all session numbers, n and t, all good parties and senders, all agreed values
 abbrev pub Broadcast : (List ℕ → List ℕ) → Type 0
 Broadcast H =
-    (n t : ℕ) (good : List Opener) (q : ℕ) (z : List ℕ) (bit : ℕ) → Premises H n t good q z bit
-    → (R : Result) × Settled H n t good q bit R
+    (session n t : ℕ) (good : List Opener) (q : ℕ) (z : List ℕ) (bit : ℕ) → Premises H session n t good q z bit
+    → (R : Result) × Settled H session n t good q bit R

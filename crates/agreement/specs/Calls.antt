@@ -121,9 +121,9 @@ module _ (H : List ℕ → List ℕ) where
   checkedIn x (agreeRoot z) = []
   checkedIn x (agreeBit bit out) = []
   checkedIn x (takeShares inbox out) =
-      cond (happy H x) [] (shareStrings H (x .seat .n) (x .seat .own) (x .root) 1 (bodies (x .seat .n) inbox))
+      cond (happy H x) [] (shareStrings H (x .seat .session) (x .seat .n) (x .seat .own) (x .root) 1 (bodies (x .seat .n) inbox))
   checkedIn x (takeRelays inbox out) =
-      cond (hasEnded (x .stage) || happy H x) [] (relayStrings H (x .seat .n) (x .seat .own) 1 (bodies (x .seat .n) inbox))
+      cond (hasEnded (x .stage) || happy H x) [] (relayStrings H (x .seat .session) (x .seat .n) (x .seat .own) 1 (bodies (x .seat .n) inbox))
 
   -- the strings of the message that an accepted call rebuilds and codes again: step 5 of an unhappy party that had not ended (document 02, No. 4)
   unfoldable pub recodedIn : Party → Call → List (List ℕ)
@@ -131,7 +131,7 @@ module _ (H : List ℕ → List ℕ) where
   recodedIn x (agreeBit bit out) = []
   recodedIn x (takeShares inbox out) = []
   recodedIn x (takeRelays inbox out) =
-      cond (hasEnded (x .stage) || happy H x) [] (recodedStrings H (x .seat .n) (x .seat .t) (recoveredBy H x inbox))
+      cond (hasEnded (x .stage) || happy H x) [] (recodedStrings H (x .seat .session) (x .seat .n) (x .seat .t) (recoveredBy H x inbox))
 
   -- beside those of the message that the state holds, these are all that an accepted call hashes
   abbrev pub hashedIn : Party → Call → List (List ℕ)
@@ -143,10 +143,10 @@ module _ (H : List ℕ → List ℕ) where
   abbrev pub recodedOver : List Event → List (List ℕ)
   recodedOver es = stringsOver recodedIn es
 
-  -- a party that opened with n, t, its number and a message
-  module _ (n t own : ℕ) (m : List ℕ) where
+  -- a party that opened with a session's number, n, t, its number and a message
+  module _ (session n t own : ℕ) (m : List ℕ) where
     abbrev pub opening : Opened
-    opening = openOf H n t own m
+    opening = openOf H session n t own m
 
     -- and then got these calls
     module _ (calls : List Call) where
@@ -164,7 +164,7 @@ module _ (H : List ℕ → List ℕ) where
       -- the strings of its opening and of its path checks: the leaf and node strings of the message that it opened with, and those of the path checks it
       -- made. Agreement supposes something of these alone
       unfoldable pub openedAndChecked : List (List ℕ)
-      openedAndChecked = codingStrings H n (shares n (n - t) m) ++ checkedOver did
+      openedAndChecked = codingStrings H session n (shares n (n - t) m) ++ checkedOver did
 
       -- those of the message that it rebuilt and coded again
       unfoldable pub recoded : List (List ℕ)

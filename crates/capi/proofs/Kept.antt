@@ -13,7 +13,7 @@ use Rattle.limits.proofs.Group.{group-of}
 use Rattle.commitment.proofs.Opening.{open-bounds}
 use Rattle.party.specs.State.{seatOf, Result, nothing, settled, messageIn, atFirst, atEnd}
 use Rattle.party.specs.Steps.{openOf, Stepped, heldOf, resultOf}
-use Rattle.party.specs.declared.Seat.{Seat}
+use Rattle.commitment.specs.declared.Seat.{Seat}
 use Rattle.party.specs.declared.Party.{Party}
 use Rattle.party.specs.declared.Opened.{Opened}
 use Rattle.party.proofs.Causes.{fit-of}

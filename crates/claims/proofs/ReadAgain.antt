@@ -19,7 +19,7 @@ use Rattle.sha256.specs.Sha256.{sha256}
 use Rattle.party.specs.State.{Result, nothing, settled, resultBytes, resultIn, messageIn, atBit, atFirst, atSecond, atEnd, broken}
 use Rattle.party.specs.Steps.{turnOf, stateCause, openOf, resultFound, resultOf, Stepped, refused}
 use Rattle.party.specs.declared.Stage.the-variants.{Second}
-use Rattle.party.specs.declared.Seat.{Seat}
+use Rattle.commitment.specs.declared.Seat.{Seat}
 use Rattle.party.specs.declared.Party.{Party}
 use Rattle.party.proofs.Causes.{fit-of, whole-stage}
 use Rattle.party.proofs.Outcomes.{holds-ended}

@@ -25,51 +25,51 @@ use Rattle.commitment.specs.Private.{Coded}
 use Rattle.commitment.proofs.Messages.{fine, cut}
 
 -- what passes under a message's root
-module _ (H : List ℕ → List ℕ) (wide : (s : List ℕ) → length (H s) ≡ 32) (n t : ℕ) (m : List ℕ) (c : Coded n t m) (z : List ℕ)
-    (e : messageRoot H n t m ≡ z) where
-  pub valid-share : (j : ℕ) (w x : List ℕ) (p : List (List ℕ)) → classOf H n j z w ≡ valid x p
-      → (x ≡ share (n - t) j m) ⊎ Collision H (classStrings H n j w) (codingStrings H n (shares n (n - t) m))
+module _ (H : List ℕ → List ℕ) (wide : (s : List ℕ) → length (H s) ≡ 32) (session n t : ℕ) (m : List ℕ) (c : Coded n t m) (z : List ℕ)
+    (e : messageRoot H session n t m ≡ z) where
+  pub valid-share : (j : ℕ) (w x : List ℕ) (p : List (List ℕ)) → classOf H session n j z w ≡ valid x p
+      → (x ≡ share (n - t) j m) ⊎ Collision H (classStrings H session n j w) (codingStrings H session n (shares n (n - t) m))
   unfolding messageRoot
   valid-share j w x p v =
-      let q = passing H n j z w x p v in
+      let q = passing H session n j z w x p v in
       let f = fields-of n w j x p (q .reads) in
       go (f .low) (f .high) (q .strings)
-      (passes-sound H wide n all (fine n t m c) j (f .low) (f .high) x p (length p) (read-wide n w j x p (q .reads)) (rw e (q .leads)))
+      (passes-sound H wide session n all (fine n t m c session) j (f .low) (f .high) x p (length p) (read-wide n w j x p (q .reads)) (rw e (q .leads)))
     where
       all : List ℕ
       all = shares n (n - t) m
 
-      go : 1 ≤ j → j ≤ n → classStrings H n j w ≡ stringsOf H n j x p (length p)
+      go : 1 ≤ j → j ≤ n → classStrings H session n j w ≡ stringsOf H session n j x p (length p)
           → (x ≡ take (length all / n) (drop ((j - 1) * (length all / n)) all))
-          ⊎ Collision H (stringsOf H n j x p (length p)) (codingStrings H n all)
-          → (x ≡ share (n - t) j m) ⊎ Collision H (classStrings H n j w) (codingStrings H n all)
+          ⊎ Collision H (stringsOf H session n j x p (length p)) (codingStrings H session n all)
+          → (x ≡ share (n - t) j m) ⊎ Collision H (classStrings H session n j w) (codingStrings H session n all)
       go first last s (inl q) = inl (q ∙ cut n t m c j first last)
-      go first last s (inr k) = inr (subst (λ (l : List (List ℕ)). Collision H l (codingStrings H n all)) (sym s) k)
+      go first last s (inr k) = inr (subst (λ (l : List (List ℕ)). Collision H l (codingStrings H session n all)) (sym s) k)
 
 -- two messages with one root
-module _ (H : List ℕ → List ℕ) (wide : (s : List ℕ) → length (H s) ≡ 32) (n t : ℕ) (m o : List ℕ) (c : Coded n t m) (d : Coded n t o)
+module _ (H : List ℕ → List ℕ) (wide : (s : List ℕ) → length (H s) ≡ 32) (session n t : ℕ) (m o : List ℕ) (c : Coded n t m) (d : Coded n t o)
     (mb : Bytes m) (ob : Bytes o) where
-  same-leaves : leafStrings n (shares n (n - t) m) ≡ leafStrings n (shares n (n - t) o) → (j : ℕ) → 1 ≤ j → j ≤ n
+  same-leaves : leafStrings session n (shares n (n - t) m) ≡ leafStrings session n (shares n (n - t) o) → (j : ℕ) → 1 ≤ j → j ≤ n
       → share (n - t) j m ≡ share (n - t) j o
   same-leaves e j first last =
       sym (cut n t m c j first last)
-      ∙ leafString-injective (sym (getD-leafStrings n (shares n (n - t) m) (j - 1) (omega arith))
-      ∙ ap (λ (l : List (List ℕ)). getD l (j - 1) []) e ∙ getD-leafStrings n (shares n (n - t) o) (j - 1) (omega arith)) .1
+      ∙ leafString-injective session (sym (getD-leafStrings session n (shares n (n - t) m) (j - 1) (omega arith))
+      ∙ ap (λ (l : List (List ℕ)). getD l (j - 1) []) e ∙ getD-leafStrings session n (shares n (n - t) o) (j - 1) (omega arith)) .1
       ∙ cut n t o d j first last
 
-  pub one-root : messageRoot H n t m ≡ messageRoot H n t o
-      → (m ≡ o) ⊎ Collision H (codingStrings H n (shares n (n - t) m)) (codingStrings H n (shares n (n - t) o))
+  pub one-root : messageRoot H session n t m ≡ messageRoot H session n t o
+      → (m ≡ o) ⊎ Collision H (codingStrings H session n (shares n (n - t) m)) (codingStrings H session n (shares n (n - t) o))
   unfolding messageRoot codingStrings
   one-root e =
-      go (same-roots H 32 wide (shape n) (leafStrings n (shares n (n - t) m)) (leafStrings n (shares n (n - t) o))
-      (length-leafStrings n (shares n (n - t) m) ∙ sym (size-shape n (c .low)))
-      (length-leafStrings n (shares n (n - t) o) ∙ sym (size-shape n (c .low)))
-      (sym (tree-root H n (shares n (n - t) m) (fine n t m c) (c .low) (c .high)) ∙ e
-      ∙ tree-root H n (shares n (n - t) o) (fine n t o d) (c .low) (c .high)))
+      go (same-roots H 32 wide (shape n) (leafStrings session n (shares n (n - t) m)) (leafStrings session n (shares n (n - t) o))
+      (length-leafStrings session n (shares n (n - t) m) ∙ sym (size-shape n (c .low)))
+      (length-leafStrings session n (shares n (n - t) o) ∙ sym (size-shape n (c .low)))
+      (sym (tree-root H session n (shares n (n - t) m) (fine n t m c session) (c .low) (c .high)) ∙ e
+      ∙ tree-root H session n (shares n (n - t) o) (fine n t o d session) (c .low) (c .high)))
     where
-      go : (leafStrings n (shares n (n - t) m) ≡ leafStrings n (shares n (n - t) o))
-          ⊎ Collision H (codingStrings H n (shares n (n - t) m)) (codingStrings H n (shares n (n - t) o))
-          → (m ≡ o) ⊎ Collision H (codingStrings H n (shares n (n - t) m)) (codingStrings H n (shares n (n - t) o))
+      go : (leafStrings session n (shares n (n - t) m) ≡ leafStrings session n (shares n (n - t) o))
+          ⊎ Collision H (codingStrings H session n (shares n (n - t) m)) (codingStrings H session n (shares n (n - t) o))
+          → (m ≡ o) ⊎ Collision H (codingStrings H session n (shares n (n - t) m)) (codingStrings H session n (shares n (n - t) o))
       go (inl q) =
           inl (injective (n - t) n m o (omega (arith, c)) (omega arith) (omega (arith, c)) mb ob (c .short) (d .short) (same-leaves q))
       go (inr k) = inr k

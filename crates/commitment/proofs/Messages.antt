@@ -37,8 +37,8 @@ module _ (n t : ℕ) (m : List ℕ) (c : Coded n t m) where
   each-length : length (shares n (n - t) m) / n ≡ shareLength (n - t) (length m)
   each-length = one-of n (shareLength (n - t) (length m)) (length (shares n (n - t) m)) (c .low) all-length
 
-  pub fine : sharesCause n (length (shares n (n - t) m)) ≡ 0
-  fine = shares-fine n (shareLength (n - t) (length m)) (shares n (n - t) m) (c .low) (c .high) share-fits all-length
+  pub fine : (session : ℕ) → sharesCause session n (length (shares n (n - t) m)) ≡ 0
+  fine session = shares-fine session n (shareLength (n - t) (length m)) (shares n (n - t) m) (c .low) (c .high) share-fits all-length
 
   -- share j, cut from all
   pub cut : (j : ℕ) → 1 ≤ j → j ≤ n
@@ -68,14 +68,14 @@ module _ (n t : ℕ) (m : List ℕ) (c : Coded n t m) where
     rebuilds small =
         complete (n - t) m es (omega (arith, c .low, c .faults)) (omega (arith, all, c .high)) small (c .short) enough used
 
-module _ (H : List ℕ → List ℕ) (wide : (s : List ℕ) → length (H s) ≡ 32) (n t : ℕ) (m : List ℕ) (c : Coded n t m) (j : ℕ) (first : 1 ≤ j)
+module _ (H : List ℕ → List ℕ) (wide : (s : List ℕ) → length (H s) ≡ 32) (session n t : ℕ) (m : List ℕ) (c : Coded n t m) (j : ℕ) (first : 1 ≤ j)
     (last : j ≤ n) where
   -- the path of share j, without blanks
   abbrev pub pathTo : List (List ℕ)
-  pathTo = take (length (sidesOf n j)) (pathOf H n j (leavesOf H n (shares n (n - t) m)))
+  pathTo = take (length (sidesOf n j)) (pathOf H n j (leavesOf H session n (shares n (n - t) m)))
 
   pub path-count : length pathTo ≡ length (sidesOf n j)
-  path-count = path-counted H wide n (shares n (n - t) m) (fine n t m c) j first last
+  path-count = path-counted H wide session n (shares n (n - t) m) (fine n t m c session) j first last
 
   pub path-each : Wide 32 pathTo
-  path-each = path-hashes-wide H wide n (shares n (n - t) m) (fine n t m c) j first last
+  path-each = path-hashes-wide H wide session n (shares n (n - t) m) (fine n t m c session) j first last

@@ -16,40 +16,40 @@ use Rattle.commitment.specs.Private.{relayFor}
 use Rattle.merkle.specs.declared.Rooted.{Rooted}
 
 module _ (H : List ℕ → List ℕ) where
-  module _ (n t own : ℕ) (m : List ℕ) where
+  module _ (session n t own : ℕ) (m : List ℕ) where
     pub rooted-refused : (openCause n t own (length m) ≡ 0 → ⊥)
-        → rootedOf H n t own m ≡ record { cause = openCause n t own (length m); root = blank }
+        → rootedOf H session n t own m ≡ record { cause = openCause n t own (length m); root = blank }
     unfolding rootedOf
     rooted-refused h = rw (ne-eqb (openCause n t own (length m)) 0 h)
 
-    pub rooted-given : openCause n t own (length m) ≡ 0 → rootedOf H n t own m ≡ record { cause = 0; root = messageRoot H n t m }
+    pub rooted-given : openCause n t own (length m) ≡ 0 → rootedOf H session n t own m ≡ record { cause = 0; root = messageRoot H session n t m }
     unfolding rootedOf
     rooted-given h = rw (eq-eqb (openCause n t own (length m)) 0 h)
 
-    pub rooted-cause : rootedOf H n t own m .cause ≡ openCause n t own (length m)
+    pub rooted-cause : rootedOf H session n t own m .cause ≡ openCause n t own (length m)
     unfolding rootedOf
     rooted-cause = go (eqb (openCause n t own (length m)) 0) refl
       where
         go : (b : Bool) → eqb (openCause n t own (length m)) 0 ≡ b
             → cond {A = Rooted} (not b) (record { cause = openCause n t own (length m); root = blank })
-            (record { cause = 0; root = messageRoot H n t m }) .cause
+            (record { cause = 0; root = messageRoot H session n t m }) .cause
             ≡ openCause n t own (length m)
         go true e = sym (eqb-true (openCause n t own (length m)) 0 e)
         go false e = refl
 
     module _ (relays : Bool) (z out : List ℕ) where
       pub send-refused : (openCause n t own (length m) ≡ 0 → ⊥)
-          → sendOf H relays n t own m z out ≡ sending false (gave (Refused (openCause n t own (length m))) out)
+          → sendOf H session relays n t own m z out ≡ sending false (gave (Refused (openCause n t own (length m))) out)
       unfolding sendOf
       send-refused h = rw (ne-eqb (openCause n t own (length m)) 0 h)
 
       module _ (fine : openCause n t own (length m) ≡ 0) where
-        pub send-other : same (messageRoot H n t m) z ≡ false → sendOf H relays n t own m z out ≡ sending false (gave (Done 0) out)
+        pub send-other : same (messageRoot H session n t m) z ≡ false → sendOf H session relays n t own m z out ≡ sending false (gave (Done 0) out)
         unfolding sendOf
         send-other h = rw (eq-eqb (openCause n t own (length m)) 0 fine, h)
 
-        pub send-own : same (messageRoot H n t m) z ≡ true
-            → sendOf H relays n t own m z out ≡ sending true (written (mailWith H relays n t own m) out)
+        pub send-own : same (messageRoot H session n t m) z ≡ true
+            → sendOf H session relays n t own m z out ≡ sending true (written (mailWith H session relays n t own m) out)
         unfolding sendOf
         send-own h = rw (eq-eqb (openCause n t own (length m)) 0 fine, h)
 

@@ -49,9 +49,9 @@ short-recovered b ps =
         let h = is-unframed b s f m q in
         omega (arith, h .within, length-take (size f) (drop 2 f), ap length (h .found))
 
-pub short-under : (H : List ℕ → List ℕ) (n t : ℕ) (z : List ℕ) (a : Recovered) → Short a → Short (underRoot H n t z a)
-short-under H n t z (cause k) s = tt
-short-under H n t z (message m) s = go (same (messageRoot H n t m) z)
+pub short-under : (H : List ℕ → List ℕ) (session n t : ℕ) (z : List ℕ) (a : Recovered) → Short a → Short (underRoot H session n t z a)
+short-under H session n t z (cause k) s = tt
+short-under H session n t z (message m) s = go (same (messageRoot H session n t m) z)
   where
     go : (b : Bool) → Short (cond b (message m) (cause 15))
     go true = s
@@ -99,21 +99,21 @@ module _ (n t : ℕ) (es out : List ℕ) where
       go true = refl
       go false = refl
 
-  module _ (H : List ℕ → List ℕ) (z : List ℕ) where
-    pub with-root-refused : (groupCause n t ≡ 0 → ⊥) → rebuildWithRootOf H n t z es out ≡ gave (given.Refused (groupCause n t)) out
+  module _ (H : List ℕ → List ℕ) (session : ℕ) (z : List ℕ) where
+    pub with-root-refused : (groupCause n t ≡ 0 → ⊥) → rebuildWithRootOf H session n t z es out ≡ gave (given.Refused (groupCause n t)) out
     unfolding rebuildWithRootOf
     with-root-refused bad = rw (ne-eqb (groupCause n t) 0 bad)
 
-    pub with-root-wide : groupCause n t ≡ 0 → (length z ≡ 32 → ⊥) → rebuildWithRootOf H n t z es out ≡ gave (given.Refused 7) out
+    pub with-root-wide : groupCause n t ≡ 0 → (length z ≡ 32 → ⊥) → rebuildWithRootOf H session n t z es out ≡ gave (given.Refused 7) out
     unfolding rebuildWithRootOf
     with-root-wide fine bad = rw (eq-eqb (groupCause n t) 0 fine, ne-eqb (length z) 32 bad)
 
     pub with-root-entries : groupCause n t ≡ 0 → length z ≡ 32
-        → rebuildWithRootOf H n t z es out ≡ answered (underRoot H n t z (entriesFound n t es)) out
+        → rebuildWithRootOf H session n t z es out ≡ answered (underRoot H session n t z (entriesFound n t es)) out
     unfolding rebuildWithRootOf
     with-root-entries fine wide = rw (eq-eqb (groupCause n t) 0 fine, eq-eqb (length z) 32 wide) (go (fills n es))
       where
-        go : (b : Bool) → cond (not b) (gave (given.Refused 8) out) (answered (underRoot H n t z (recovered (n - t) (present 1 (bodies n es)))) out)
-            ≡ answered (underRoot H n t z (cond b (recovered (n - t) (present 1 (bodies n es))) (cause 8))) out
+        go : (b : Bool) → cond (not b) (gave (given.Refused 8) out) (answered (underRoot H session n t z (recovered (n - t) (present 1 (bodies n es)))) out)
+            ≡ answered (underRoot H session n t z (cond b (recovered (n - t) (present 1 (bodies n es))) (cause 8))) out
         go true = refl
         go false = refl

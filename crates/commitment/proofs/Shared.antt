@@ -23,6 +23,7 @@ use Rattle.erasure.proofs.Frame.{share-high, length-share}
 use Rattle.erasure.proofs.Outcomes.{encode-written}
 use Rattle.merkle.specs.Shares.{sharesCause, same}
 use Rattle.merkle.proofs.Judged.{cause-fine, same-true, same-refl}
+use Rattle.merkle.proofs.Written.{front-short}
 use Rattle.commitment.specs.Rooms.{maxShares}
 
 -- share j of n lies within the shares
@@ -34,10 +35,10 @@ pub one-of : (n s size : ℕ) → 1 ≤ n → size ≡ n * s → size / n ≡ s
 one-of n s size low e = div-eq-of-eq-mul-right (omega arith) e
 
 -- n shares of s bytes each are hashed
-pub shares-fine : (n s : ℕ) (all : List ℕ) → 1 ≤ n → n ≤ maxParties → s ≤ maxShare → length all ≡ n * s → sharesCause n (length all) ≡ 0
-shares-fine n s all low high short long =
+pub shares-fine : (session n s : ℕ) (all : List ℕ) → 1 ≤ n → n ≤ maxParties → s ≤ maxShare → length all ≡ n * s → sharesCause session n (length all) ≡ 0
+shares-fine session n s all low high short long =
     let each = one-of n s (length all) low long in
-    cause-fine n (length all) low high (omega arith) (ap (λ (k : ℕ). k % n) long ∙ mul-mod-right n s)
+    cause-fine session n (length all) low high (omega (arith, front-short session)) (ap (λ (k : ℕ). k % n) long ∙ mul-mod-right n s)
 
 -- n is less than 2·b, and b·s less than the message with its length and b
 pub shares-bound : (n t l : ℕ) → 2 * t < n → n ≤ maxParties → l ≤ maxMessage

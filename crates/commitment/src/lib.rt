@@ -1,5 +1,5 @@
-// What n, t and a message give without a state: the root of the message's shares, and the packets that carry them; and the message again, if it has
-// the root given. The message is coded, and each hash of its tree made, once a call.
+// What a session's number, n, t and a message give without a state: the root of the message's shares, and the packets that carry them; and the message again,
+// if it has the root given. The message is coded, and each hash of its tree made, once a call.
 ghost use mathlib.Core.Path.{_≡_};
 ghost use Prim.Native.Nat.{_-_, _*_, _≤_};
 ghost use lib.ListN.{length, take};
@@ -31,6 +31,14 @@ pub const MAX_PACKET: usize = 4 + MAX_SHARE + 32 * MAX_PATH;
 
 pub const MAX_OUTBOX: usize = MAX_SHARES + MAX_PARTIES * (6 + 32 * MAX_PATH);
 
+// Where a party sits: the session's number (document 02, No. 6: the sitting's), how many parties there are, how many of them may be bad, and its own number.
+pub struct Seat {
+    pub session: u32,
+    pub n: usize,
+    pub t: usize,
+    pub own: usize,
+}
+
 // What a party sends once a root is agreed: whether its message has that root, and how many bytes were written.
 pub struct Sent {
     pub happy: bool,
@@ -43,10 +51,16 @@ struct Lengths {
     len: usize,
 }
 
-// The root that a party with this number and message puts into the short agreement, or the cause for which there is none.
-pub fn root(n: usize, t: usize, own: usize, message: &[u8]) -> Rooted
-    ensures { λ r. ⌜ r ≡ rootedOf sha256 n t own (now (message .entry)) ⌝ }
+// The root that a party in this seat puts into the short agreement for its message, or the cause for which there is none.
+pub fn root(seat: Seat, message: &[u8]) -> Rooted
+    ensures { λ r. ⌜ r ≡ rootedOf sha256 (seat .session) (seat .n) (seat .t) (seat .own) (now (message .entry)) ⌝ }
 {
+    let Seat {
+        session,
+        n,
+        t,
+        own,
+    } = seat;
     let cause = open_cause(n, t, own, message.len());
     if cause != 0 {
         return Rooted {
@@ -56,7 +70,7 @@ pub fn root(n: usize, t: usize, own: usize, message: &[u8]) -> Rooted
     }
     let mut bytes = blank();
     let Lengths { size, .. } = code(n, t, message, &mut bytes);
-    let leaves = merkle::leaves(n, &bytes[..size]);
+    let leaves = merkle::leaves(session, n, &bytes[..size]);
     merkle::root(n, &leaves)
 }
 
@@ -64,16 +78,20 @@ pub fn root(n: usize, t: usize, own: usize, message: &[u8]) -> Rooted
 // step 3 on bit 1, its outbox, for each other party a packet with its share.
 pub fn send(
     relays: bool,
-    n: usize,
-    t: usize,
-    own: usize,
+    seat: Seat,
     message: &[u8],
     root: &Hash,
     out: &mut [u8],
 ) -> Sent
     ensures { λ r. ⌜ sent r (now (out .exit))
-        ≡ sendOf sha256 relays n t own (now (message .entry)) (now (root .entry)) (now (out .entry)) ⌝ }
+        ≡ sendOf sha256 (seat .session) relays (seat .n) (seat .t) (seat .own) (now (message .entry)) (now (root .entry)) (now (out .entry)) ⌝ }
 {
+    let Seat {
+        session,
+        n,
+        t,
+        own,
+    } = seat;
     let cause = open_cause(n, t, own, message.len());
     if cause != 0 {
         return Sent {
@@ -83,7 +101,7 @@ pub fn send(
     }
     let mut bytes = blank();
     let Lengths { size, len } = code(n, t, message, &mut bytes);
-    let leaves = merkle::leaves(n, &bytes[..size]);
+    let leaves = merkle::leaves(session, n, &bytes[..size]);
     let nodes = merkle::nodes(n, &leaves);
     let top = merkle::root_in(n, &leaves, &nodes).root;
     if !check::same(&top, root) {
@@ -95,17 +113,18 @@ pub fn send(
     if relays {
         return Sent {
             happy: true,
-            answer: put_relay(n, own, len, &bytes[..size], &leaves, &nodes, out),
+            answer: put_relay(seat, len, &bytes[..size], &leaves, &nodes, out),
         };
     }
     Sent {
         happy: true,
-        answer: put_outbox(n, own, len, &bytes[..size], &leaves, &nodes, out),
+        answer: put_outbox(seat, len, &bytes[..size], &leaves, &nodes, out),
     }
 }
 
 // Writes the message that n entries give, if its root is the one given: it is coded again before a byte is written.
 pub fn rebuild_with_root(
+    session: u32,
     n: usize,
     t: usize,
     given: &[u8],
@@ -113,7 +132,7 @@ pub fn rebuild_with_root(
     out: &mut [u8],
 ) -> Written
     ensures { λ r. ⌜ gave r (now (out .exit))
-        ≡ rebuildWithRootOf sha256 n t (now (given .entry)) (now (entries .entry)) (now (out .entry)) ⌝ }
+        ≡ rebuildWithRootOf sha256 session n t (now (given .entry)) (now (entries .entry)) (now (out .entry)) ⌝ }
 {
     let cause = limits::group_cause(n, t);
     if cause != 0 {
@@ -127,7 +146,13 @@ pub fn rebuild_with_root(
     let Written::Done(len) = answer else {
         return answer;
     };
-    let coded = root(n, t, 1, &message[..len]).root;
+    let seat = Seat {
+        session,
+        n,
+        t,
+        own: 1,
+    };
+    let coded = root(seat, &message[..len]).root;
     if check::same(&coded, given) {
         return buffer::give(&message[..len], out);
     }
@@ -182,18 +207,18 @@ fn code(n: usize, t: usize, message: &[u8], out: &mut [u8]) -> Lengths
 
 // The packet with the own share, if there are others.
 fn put_relay(
-    n: usize,
-    own: usize,
+    seat: Seat,
     len: usize,
     shares: &[u8],
     leaves: &[Hash; MAX_PARTIES],
     nodes: &[Hash; MAX_PARTIES],
     out: &mut [u8],
 ) -> Written
-    requires { ⌜ (1 ≤ n) × (n ≤ maxParties) × (1 ≤ own) × (own ≤ n) × (1 ≤ len) × (len ≤ maxShare) × (n * len ≤ length (now shares))
-        × (now nodes ≡ nodesOf sha256 n (now leaves)) ⌝ }
-    ensures { λ r. ⌜ gave r (now (out .exit)) ≡ written (relayFor sha256 n own len (now (shares .entry)) (now (leaves .entry))) (now (out .entry)) ⌝ }
+    requires { ⌜ (1 ≤ seat .n) × (seat .n ≤ maxParties) × (1 ≤ seat .own) × (seat .own ≤ seat .n) × (1 ≤ len) × (len ≤ maxShare) × (seat .n * len ≤ length (now shares))
+        × (now nodes ≡ nodesOf sha256 (seat .n) (now leaves)) ⌝ }
+    ensures { λ r. ⌜ gave r (now (out .exit)) ≡ written (relayFor sha256 (seat .n) (seat .own) len (now (shares .entry)) (now (leaves .entry))) (now (out .entry)) ⌝ }
 {
+    let Seat { n, own, .. } = seat;
     if n == 1 {
         return Written::Done(0);
     }
@@ -208,19 +233,19 @@ fn put_relay(
 
 // The outbox with packets for all parties but one, each with its share of `len` bytes and the path of that share.
 fn put_outbox(
-    n: usize,
-    own: usize,
+    seat: Seat,
     len: usize,
     shares: &[u8],
     leaves: &[Hash; MAX_PARTIES],
     nodes: &[Hash; MAX_PARTIES],
     out: &mut [u8],
 ) -> Written
-    requires { ⌜ (1 ≤ n) × (n ≤ maxParties) × (1 ≤ len) × (len ≤ maxShare) × (length (now shares) ≡ n * len)
-        × (now leaves ≡ leavesOf sha256 n (now shares)) × (now nodes ≡ nodesOf sha256 n (now leaves)) ⌝ }
+    requires { ⌜ (1 ≤ seat .n) × (seat .n ≤ maxParties) × (1 ≤ len) × (len ≤ maxShare) × (length (now shares) ≡ seat .n * len)
+        × (now leaves ≡ leavesOf sha256 (seat .session) (seat .n) (now shares)) × (now nodes ≡ nodesOf sha256 (seat .n) (now leaves)) ⌝ }
     ensures { λ r. ⌜ gave r (now (out .exit))
-        ≡ written (outboxUpTo sha256 n n own len (now (shares .entry)) (now (leaves .entry))) (now (out .entry)) ⌝ }
+        ≡ written (outboxUpTo sha256 (seat .n) (seat .n) (seat .own) len (now (shares .entry)) (now (leaves .entry))) (now (out .entry)) ⌝ }
 {
+    let Seat { n, own, .. } = seat;
     let need = outbox_len(n, own, len);
     if out.len() < need {
         return Written::Short(need);

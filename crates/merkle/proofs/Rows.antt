@@ -18,26 +18,26 @@ abbrev pub shareAt : ℕ → List ℕ → ℕ → List ℕ
 shareAt s shares i = take s (drop (i * s) shares)
 
 -- the hashes of the first j leaf strings
-unfoldable pub leafHashes : ℕ → List ℕ → ℕ → List (List ℕ)
-leafHashes s shares j = tabulate j (λ i. sha256 (leafString (i + 1) (shareAt s shares i)))
+unfoldable pub leafHashes : ℕ → ℕ → List ℕ → ℕ → List (List ℕ)
+leafHashes session s shares j = tabulate j (λ i. sha256 (leafString session (i + 1) (shareAt s shares i)))
 
-module _ (s : ℕ) (shares : List ℕ) where
-  pub hashes-none : leafHashes s shares 0 ≡ []
+module _ (session s : ℕ) (shares : List ℕ) where
+  pub hashes-none : leafHashes session s shares 0 ≡ []
   unfolding leafHashes tabulate
   hashes-none = refl
 
-  pub hashes-all : (n : ℕ) → s ≡ length shares / n → leafHashes s shares n ≡ map sha256 (leafStrings n shares)
+  pub hashes-all : (n : ℕ) → s ≡ length shares / n → leafHashes session s shares n ≡ map sha256 (leafStrings session n shares)
   unfolding leafHashes leafStrings
   hashes-all n e =
-      ap (λ (k : ℕ). tabulate n (λ i. sha256 (leafString (i + 1) (shareAt k shares i)))) e
-      ∙ sym (map-tabulate sha256 n (λ i. leafString (i + 1) (shareAt (length shares / n) shares i)))
+      ap (λ (k : ℕ). tabulate n (λ i. sha256 (leafString session (i + 1) (shareAt k shares i)))) e
+      ∙ sym (map-tabulate sha256 n (λ i. leafString session (i + 1) (shareAt (length shares / n) shares i)))
 
-  pub hashes-more : (j : ℕ) (h : List ℕ) → j < maxParties → h ≡ sha256 (leafString (j + 1) (shareAt s shares j))
-      → set (leafHashes s shares j ++ replicate (maxParties - j) blank) j h
-      ≡ leafHashes s shares (j + 1) ++ replicate (maxParties - (j + 1)) blank
+  pub hashes-more : (j : ℕ) (h : List ℕ) → j < maxParties → h ≡ sha256 (leafString session (j + 1) (shareAt s shares j))
+      → set (leafHashes session s shares j ++ replicate (maxParties - j) blank) j h
+      ≡ leafHashes session s shares (j + 1) ++ replicate (maxParties - (j + 1)) blank
   unfolding leafHashes tabulate
   hashes-more j h l e =
-      let f : ℕ → List ℕ = λ i. sha256 (leafString (i + 1) (shareAt s shares i)) in
+      let f : ℕ → List ℕ = λ i. sha256 (leafString session (i + 1) (shareAt s shares i)) in
       let m : ℕ = maxParties - (j + 1) in
       let more : maxParties - j ≡ suc m = omega arith in
       ap (λ (k : ℕ). set (tabulate j f ++ replicate k blank) j h) more

@@ -1,29 +1,55 @@
 -- The leaf string as its front with the share behind it, the node string as it is put together in a buffer, and the hash of a string that is not
 -- too long. By the laws of writing into a buffer. Assumes nothing.
 use mathlib.Core.Path.{_≡_, refl, ap, _∙_}
-use mathlib.Core.List.{List, [], _∷_, _++_, append-nil}
+use mathlib.Core.List.{List, [], _∷_, _++_, append-nil, append-assoc}
 use Prim.Native.Nat.{ℕ, _+_, _≤_}
+use native.Mathlib.Decide.{ℕ-discrete}
 use native.Mathlib.Omega.{arith}
+use borrow.Author.Tests.{eq-eqb, ne-eqb}
 use lib.ListN.{length, replicate, length-append, drop-of-length-le}
 use Rattle.limits.specs.Limits.{maxHashed}
 use Rattle.buffer.specs.Splice.{spliced, putOf}
+use Rattle.buffer.specs.Numbers.{fourBytes}
 use Rattle.buffer.proofs.Splice.{put-fits, spliced-more, length-spliced}
 use Rattle.sha256.specs.Sha256.{sha256, hashOf}
 use Rattle.sha256.specs.declared.Hashed.{Hashed}
 use Rattle.sha256.proofs.Laws.{hash-fine}
 use Rattle.merkle.specs.Tree.{nodeString}
-use Rattle.merkle.specs.Shares.{leafString}
+use Rattle.merkle.specs.Shares.{sessionBytes, leafString, frontLength}
 
 pub digest-of : (m : List ℕ) → length m ≤ maxHashed → hashOf m .digest ≡ sha256 m
 digest-of m h = ap (λ (r : Hashed). r .digest) (hash-fine m h)
 
-pub length-leafString : (j : ℕ) (s : List ℕ) → length (leafString j s) ≡ 2 + length s
-unfolding leafString
-length-leafString j s = omega arith
+pub length-leafString : (session j : ℕ) (s : List ℕ) → length (leafString session j s) ≡ frontLength session + length s
+unfolding leafString frontLength
+length-leafString session j s = omega (arith, length-append (sessionBytes session) (j ∷ s))
 
-pub leaf-behind : (j : ℕ) (s : List ℕ) → leafString j [] ++ s ≡ leafString j s
+-- what stands before a share, by the session's number
+pub front-none : (session : ℕ) → session ≡ 0 → frontLength session ≡ 2
+unfolding frontLength sessionBytes
+front-none session e = rw (eq-eqb session 0 e)
+
+pub front-some : (session : ℕ) → (session ≡ 0 → ⊥) → frontLength session ≡ 6
+unfolding frontLength sessionBytes fourBytes
+front-some session e = rw (ne-eqb session 0 e)
+
+pub front-short : (session : ℕ) → frontLength session ≤ 6
+front-short session = elim (ℕ-discrete session 0) [
+  | yes e ↦ omega (arith, front-none session e)
+  | no e ↦ omega (arith, front-some session e)
+]
+
+pub front-plain : (session j : ℕ) → session ≡ 0 → leafString session j [] ≡ 0x00 ∷ j ∷ []
+unfolding leafString sessionBytes
+front-plain session j e = rw (eq-eqb session 0 e)
+
+pub front-numbered : (session j : ℕ) → (session ≡ 0 → ⊥) → leafString session j [] ≡ 0x00 ∷ (fourBytes session ++ (j ∷ []))
+unfolding leafString sessionBytes
+front-numbered session j e = rw (ne-eqb session 0 e)
+
+pub leaf-behind : (session j : ℕ) (s : List ℕ) → leafString session j [] ++ s ≡ leafString session j s
 unfolding leafString
-leaf-behind j s = refl
+leaf-behind session j s = ap (λ (l : List ℕ). 0x00 ∷ l) (append-assoc (sessionBytes session) (j ∷ []) s)
 
 pub node-written : (a b : List ℕ) → length a ≡ 32 → length b ≡ 32
     → putOf (putOf (1 ∷ replicate 64 0) 1 a) 33 b ≡ nodeString a b

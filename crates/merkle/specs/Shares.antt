@@ -1,5 +1,6 @@
--- The tree over the shares of a message (document 01, "Field, shares, tree"): leaf strings, root, audit path and path check. The hash is a
--- parameter; document 01's is SHA-256, at which the contracts cite these. Assumes nothing.
+-- The tree over the shares of a message (document 01, "Field, shares, tree"): leaf strings, root, audit path and path check. What is said of leaves is said
+-- under a session's number, which stands in every leaf string (document 02, No. 6: a sitting's number). The hash is a parameter; document 01's is SHA-256, at
+-- which the contracts cite these. Assumes nothing.
 use mathlib.Core.Bool.{Bool, true, false, cond, not, _&&_}
 use mathlib.Core.List.{List, [], _∷_, _++_, map}
 use Prim.Native.Nat.{ℕ, _+_, _-_, _*_, _/_, _%_}
@@ -7,19 +8,28 @@ use lib.Dec.{ltb, eqb}
 use lib.ListN.{length, take, drop, replicate}
 use Rattle.limits.specs.Limits.{maxParties, maxPath, maxHashed, parties, numbered}
 use Rattle.buffer.specs.Splice.{tabulate}
+use Rattle.buffer.specs.Numbers.{fourBytes}
 use Rattle.merkle.specs.Tree.{Side, shape, sides, folded}
 use Rattle.merkle.specs.Strings.{treeStrings, checkStrings}
 use Rattle.merkle.specs.Hashes.{topHash, pathHashes, nodeHashes, topAt, pathAt}
 use Rattle.merkle.specs.Answer.{Count, notCounted, countOf, Check, notChecked, answerOf}
 use Rattle.merkle.specs.declared.Rooted.{Rooted}
 
--- leaf string: 0x00, the share's number in one byte, the share
-unfoldable pub leafString : ℕ → List ℕ → List ℕ
-leafString j share = 0x00 ∷ j ∷ share
+-- a session's number in a leaf string: four bytes, the highest first; under number 0 none
+unfoldable pub sessionBytes : ℕ → List ℕ
+sessionBytes session = cond (eqb session 0) [] (fourBytes session)
+
+-- leaf string: 0x00, the session's number, the share's number in one byte, the share
+unfoldable pub leafString : ℕ → ℕ → List ℕ → List ℕ
+leafString session j share = 0x00 ∷ (sessionBytes session ++ (j ∷ share))
+
+-- how many bytes stand before the share
+unfoldable pub frontLength : ℕ → ℕ
+frontLength session = 2 + length (sessionBytes session)
 
 -- the leaf strings of n shares of equal length that lie one behind the other
-unfoldable pub leafStrings : ℕ → List ℕ → List (List ℕ)
-leafStrings n shares = tabulate n (λ i. leafString (i + 1) (take (length shares / n) (drop (i * (length shares / n)) shares)))
+unfoldable pub leafStrings : ℕ → ℕ → List ℕ → List (List ℕ)
+leafStrings session n shares = tabulate n (λ i. leafString session (i + 1) (take (length shares / n) (drop (i * (length shares / n)) shares)))
 
 -- 32 zeros
 abbrev pub blank : List ℕ
@@ -27,10 +37,10 @@ blank = replicate 32 0
 
 -- why n shares of len bytes together are not hashed: n out of its range (1), a leaf string too long to hash (4; a share's length is
 -- len / n, rounded down), not n equal shares (8, here by our own choice); 0: they are
-unfoldable pub sharesCause : ℕ → ℕ → ℕ
-sharesCause n len =
+unfoldable pub sharesCause : ℕ → ℕ → ℕ → ℕ
+sharesCause session n len =
     cond (not (parties n)) 1
-    (cond (ltb maxHashed (2 + len / n)) 4
+    (cond (ltb maxHashed (frontLength session + len / n)) 4
     (cond (not (eqb (len % n) 0)) 8
     0))
 
@@ -67,9 +77,9 @@ same (a ∷ as') (b ∷ bs) = eqb a b && same as' bs
 
 module _ (H : List ℕ → List ℕ) where
   -- the leaf hashes, and blanks up to the greatest number of parties; all blank where a cause applies
-  unfoldable pub leavesOf : ℕ → List ℕ → List (List ℕ)
-  leavesOf n shares =
-      cond (eqb (sharesCause n (length shares)) 0) (map H (leafStrings n shares) ++ replicate (maxParties - n) blank)
+  unfoldable pub leavesOf : ℕ → ℕ → List ℕ → List (List ℕ)
+  leavesOf session n shares =
+      cond (eqb (sharesCause session n (length shares)) 0) (map H (leafStrings session n shares) ++ replicate (maxParties - n) blank)
       (replicate maxParties blank)
 
   -- the root over the first n leaf hashes, and the same as an answer
@@ -93,24 +103,24 @@ module _ (H : List ℕ → List ℕ) where
       cond (parties n) (blank ∷ (nodeHashes H (shape n) 0 leaves ++ replicate (maxParties - n) blank)) (replicate maxParties blank)
 
   -- the path check: of a path of at least `count` hashes the first `count` are as many as n and j give, and fold to the root
-  unfoldable pub passes : ℕ → ℕ → List ℕ → List (List ℕ) → ℕ → List ℕ → Bool
-  passes n j share path count root =
-      eqb count (length (sidesOf n j)) && same (folded H (sidesOf n j) (take count path) (H (leafString j share))) root
+  unfoldable pub passes : ℕ → ℕ → ℕ → List ℕ → List (List ℕ) → ℕ → List ℕ → Bool
+  passes session n j share path count root =
+      eqb count (length (sidesOf n j)) && same (folded H (sidesOf n j) (take count path) (H (leafString session j share))) root
 
   -- the strings hashed in coding n shares: their leaf strings and the node strings
-  unfoldable pub codingStrings : ℕ → List ℕ → List (List ℕ)
-  codingStrings n shares = treeStrings H (shape n) (leafStrings n shares)
+  unfoldable pub codingStrings : ℕ → ℕ → List ℕ → List (List ℕ)
+  codingStrings session n shares = treeStrings H (shape n) (leafStrings session n shares)
 
   -- the strings hashed in a check that is not refused: none where the path's length is wrong
-  unfoldable pub stringsOf : ℕ → ℕ → List ℕ → List (List ℕ) → ℕ → List (List ℕ)
-  stringsOf n j share path count =
-      cond (eqb count (length (sidesOf n j))) (checkStrings H (sidesOf n j) (take count path) (leafString j share)) []
+  unfoldable pub stringsOf : ℕ → ℕ → ℕ → List ℕ → List (List ℕ) → ℕ → List (List ℕ)
+  stringsOf session n j share path count =
+      cond (eqb count (length (sidesOf n j))) (checkStrings H (sidesOf n j) (take count path) (leafString session j share)) []
 
   -- the public check: causes 1, 3, 4 and 7, else yes or no
-  unfoldable pub checkOf : ℕ → ℕ → List ℕ → List (List ℕ) → ℕ → List ℕ → Check
-  checkOf n j share path count root =
+  unfoldable pub checkOf : ℕ → ℕ → ℕ → List ℕ → List (List ℕ) → ℕ → List ℕ → Check
+  checkOf session n j share path count root =
       cond (not (parties n)) (notChecked 1)
       (cond (not (numbered n j)) (notChecked 3)
-      (cond (ltb maxHashed (2 + length share)) (notChecked 4)
+      (cond (ltb maxHashed (frontLength session + length share)) (notChecked 4)
       (cond (not (eqb (length root) 32)) (notChecked 7)
-      (answerOf (passes n j share path count root)))))
+      (answerOf (passes session n j share path count root)))))

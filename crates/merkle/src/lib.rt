@@ -1,4 +1,5 @@
-// The Merkle tree of RFC 6962 over the shares of a message: hashes of leaves and nodes, root, audit path, and the check of a path.
+// The Merkle tree of RFC 6962 over the shares of a message: hashes of leaves and nodes, root, audit path, and the check of a path. A session's number stands
+// in every leaf string (document 02, No. 6: a sitting's number).
 ghost use mathlib.Core.Path.{_≡_};
 ghost use mathlib.Core.Bool.{true, false};
 ghost use mathlib.Core.List.{[], _++_};
@@ -9,7 +10,7 @@ ghost use Rattle.sha256.specs.Sha256.{sha256};
 ghost use Rattle.merkle.specs.Tree.{split, shape, sides, nodeString, folded};
 ghost use Rattle.merkle.specs.Hashes.{nodeHashes, topAt, pathAt};
 ghost use Rattle.merkle.specs.Answer.{counted, checked};
-ghost use Rattle.merkle.specs.Shares.{leafString, blank, sharesCause, leavesOf, nodesOf, rootedIn, rootedOf};
+ghost use Rattle.merkle.specs.Shares.{leafString, frontLength, blank, sharesCause, leavesOf, nodesOf, rootedIn, rootedOf};
 ghost use Rattle.merkle.specs.Shares.{pathLengthOf, pathIn, pathOf, same, checkOf};
 ghost use Rattle.merkle.specs.Turns.{upward};
 use limits::MAX_HASHED;
@@ -43,13 +44,13 @@ pub enum Checked {
 }
 
 // Why n equal shares of `len` bytes together are not hashed: cause 1, 4 or 8, or 0.
-pub fn shares_cause(n: usize, len: usize) -> u8
-    ensures { λ r. ⌜ r ≡ sharesCause n len ⌝ }
+pub fn shares_cause(session: u32, n: usize, len: usize) -> u8
+    ensures { λ r. ⌜ r ≡ sharesCause session n len ⌝ }
 {
     if !limits::parties(n) {
         return 1;
     }
-    if MAX_HASHED - 2 < len / n {
+    if MAX_HASHED - front_length(session) < len / n {
         return 4;
     }
     if len % n != 0 {
@@ -60,11 +61,11 @@ pub fn shares_cause(n: usize, len: usize) -> u8
 
 // The leaf hashes of n shares that lie one behind the other. Blanks stand past them, and everywhere if there is a cause. Its number is that of
 // `shares_cause`: a struct that holds an array of arrays would have every function over it proved by hand.
-pub fn leaves(n: usize, shares: &[u8]) -> [Hash; MAX_PARTIES]
-    ensures { λ r. ⌜ r ≡ leavesOf sha256 n (now (shares .entry)) ⌝ }
+pub fn leaves(session: u32, n: usize, shares: &[u8]) -> [Hash; MAX_PARTIES]
+    ensures { λ r. ⌜ r ≡ leavesOf sha256 session n (now (shares .entry)) ⌝ }
 {
     let mut hashes = [[0u8; 32]; MAX_PARTIES];
-    if shares_cause(n, shares.len()) != 0 {
+    if shares_cause(session, n, shares.len()) != 0 {
         return hashes;
     }
     let s = shares.len() / n;
@@ -72,7 +73,7 @@ pub fn leaves(n: usize, shares: &[u8]) -> [Hash; MAX_PARTIES]
     let mut j: usize = 0;
     while j < n {
         let next = at + s;
-        let hash = leaf_hash(j + 1, &shares[at..next]);
+        let hash = leaf_hash(session, j + 1, &shares[at..next]);
         hashes[j] = hash;
         at = next;
         j += 1;
@@ -161,6 +162,7 @@ pub fn path(n: usize, j: usize, leaves: &[Hash; MAX_PARTIES]) -> [Hash; MAX_PATH
 
 // Whether the first `count` hashes of a path lead from share j of n to the root.
 pub fn check(
+    session: u32,
     n: usize,
     j: usize,
     share: &[u8],
@@ -168,7 +170,7 @@ pub fn check(
     count: usize,
     root: &[u8],
 ) -> Checked
-    ensures { λ r. ⌜ checked r ≡ checkOf sha256 n j (now (share .entry)) path count (now (root .entry)) ⌝ }
+    ensures { λ r. ⌜ checked r ≡ checkOf sha256 session n j (now (share .entry)) path count (now (root .entry)) ⌝ }
 {
     if !limits::parties(n) {
         return Checked::Refused(1);
@@ -176,7 +178,7 @@ pub fn check(
     if !limits::numbered(n, j) {
         return Checked::Refused(3);
     }
-    if MAX_HASHED - 2 < share.len() {
+    if MAX_HASHED - front_length(session) < share.len() {
         return Checked::Refused(4);
     }
     if root.len() != 32 {
@@ -186,7 +188,7 @@ pub fn check(
     if count != way.count {
         return Checked::No;
     }
-    let leaf = leaf_hash(j, share);
+    let leaf = leaf_hash(session, j, share);
     let top = fold_path(way, path, leaf);
     if equal(&top, root) {
         return Checked::Yes;
@@ -195,20 +197,40 @@ pub fn check(
 }
 
 // The hash of the leaf string of share j. The share is read where it lies.
-fn leaf_hash(j: usize, share: &[u8]) -> Hash
-    requires { ⌜ (j < 256) × (2 + length (now share) ≤ maxHashed) ⌝ }
-    ensures { λ r. ⌜ r ≡ sha256 (leafString j (now (share .entry))) ⌝ }
+fn leaf_hash(session: u32, j: usize, share: &[u8]) -> Hash
+    requires { ⌜ (j < 256) × (frontLength session + length (now share) ≤ maxHashed) ⌝ }
+    ensures { λ r. ⌜ r ≡ sha256 (leafString session j (now (share .entry))) ⌝ }
 {
-    sha256::hash_with_front(leaf_front(j), 2, share).digest
+    sha256::hash_with_front(leaf_front(session, j), front_length(session), share).digest
 }
 
-// What stands before share j in its leaf string: two bytes, and zeros up to the length of a front.
-fn leaf_front(j: usize) -> [u8; 64]
-    requires { ⌜ j < 256 ⌝ }
-    ensures { λ r. ⌜ take 2 r ≡ leafString j [] ⌝ }
+// How many bytes stand before a share in its leaf string.
+fn front_length(session: u32) -> usize
+    ensures { λ r. ⌜ (r ≡ frontLength session) × (r ≤ 6) ⌝ }
 {
+    if session == 0 {
+        return 2;
+    }
+    6
+}
+
+// These bytes, and zeros up to the length of a front.
+fn leaf_front(session: u32, j: usize) -> [u8; 64]
+    requires { ⌜ j < 256 ⌝ }
+    ensures { λ r. ⌜ take (frontLength session) r ≡ leafString session j [] ⌝ }
+{
+    let number = (j % 256) as u8;
     let mut front = [0u8; 64];
-    front[1] = (j % 256) as u8;
+    if session == 0 {
+        front[1] = number;
+        return front;
+    }
+    let bytes = buffer::four_bytes(session);
+    front[1] = bytes[0];
+    front[2] = bytes[1];
+    front[3] = bytes[2];
+    front[4] = bytes[3];
+    front[5] = number;
     front
 }
 

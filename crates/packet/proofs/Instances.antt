@@ -1,5 +1,5 @@
--- The laws of packets and inboxes at work on one packet: number 1 of one party, the share 0xAA and its empty path. So their premises can
--- be met, and none is dropped unseen. Assumes nothing.
+-- The laws of packets and inboxes at work on one packet: number 1 of one party, the share 0xAA and its empty path, judged under session number 7. So their
+-- premises can be met, and none is dropped unseen. Assumes nothing.
 use mathlib.Core.Path.{_≡_, refl, sym, ap, _∙_}
 use mathlib.Core.Bool.{true}
 use mathlib.Core.List.{List, [], _∷_}
@@ -64,17 +64,17 @@ first-read = ap (λ (p : List ℕ). placed 2 (readOf 1 p)) first-body ∙ ap (pl
 abbrev H : List ℕ → List ℕ
 H x = blank
 
-first-leads : leads H 1 1 blank inbox 6 1 0 ≡ true
+first-leads : leads H 7 1 1 blank inbox 6 1 0 ≡ true
 unfolding passes shape shapeOf sides folded same hashes
 first-leads = refl
 
-first-valid : judgeOf H 1 1 blank inbox (Share 1 6 1 0) ≡ Valid
+first-valid : judgeOf H 7 1 1 blank inbox (Share 1 6 1 0) ≡ Valid
 unfolding inboxOf entryOf packetOf chained
 first-valid =
-    judge-on H 1 1 blank inbox (Share 1 6 1 0) (lit≤ tt) (lit≤ tt) (lit≤ tt) (lit≤ tt) refl
-    ∙ on-valid H 1 1 blank inbox 6 1 0 (lit≤ tt) (lit≤ tt) first-leads
+    judge-on H 7 1 1 blank inbox (Share 1 6 1 0) (lit≤ tt) (lit≤ tt) (lit≤ tt) (lit≤ tt) refl
+    ∙ on-valid H 7 1 1 blank inbox 6 1 0 (lit≤ tt) (lit≤ tt) first-leads
 
-pub first-taken : TakenAt inbox 6 1 0 (classOf H 1 1 blank (bodyAt 0 inbox))
+pub first-taken : TakenAt inbox 6 1 0 (classOf H 7 1 1 blank (bodyAt 0 inbox))
 first-taken =
-    class-taken H 1 1 blank inbox 2 (size inbox) (first-stands .inside) (Share 1 6 1 0) (sym first-read)
+    class-taken H 7 1 1 blank inbox 2 (size inbox) (first-stands .inside) (Share 1 6 1 0) (sym first-read)
     (lit≤ tt) (lit≤ tt) (lit≤ tt) (lit≤ tt) refl Valid (sym first-valid) 1 6 1 0 refl refl

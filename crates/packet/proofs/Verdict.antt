@@ -40,10 +40,10 @@ pub verdict-one : {a b : Judged} → verdict a ≡ verdict b → a ≡ b
 verdict-one e = ap (λ (v : Verdict). v .answer) e
 
 -- what stands behind the hashes that are counted does not matter
-pub passes-take : (n j : ℕ) (x : List ℕ) (p r : List (List ℕ)) (c : ℕ) (z : List ℕ) → length p ≡ c
-    → passes sha256 n j x (p ++ r) c z ≡ passes sha256 n j x p c z
+pub passes-take : (session n j : ℕ) (x : List ℕ) (p r : List (List ℕ)) (c : ℕ) (z : List ℕ) → length p ≡ c
+    → passes sha256 session n j x (p ++ r) c z ≡ passes sha256 session n j x p c z
 unfolding passes
-passes-take n j x p r c z e =
+passes-take session n j x p r c z e =
     let h : length p ≤ c = omega (arith, e) in
     rw (take-at p r c e, take-all c p h)
 
@@ -76,43 +76,43 @@ over silent h = tt
 over faulty h = tt
 over (valid share path) h = absurd (miss (0 ∷ 1 ∷ 2 ∷ []) 3 tt h)
 
-module _ (H : List ℕ → List ℕ) (n j : ℕ) (root s : List ℕ) where
+module _ (H : List ℕ → List ℕ) (session n j : ℕ) (root s : List ℕ) where
   module _ (x : Packet) where
-    pub judge-parties : parties n ≡ false → judgeOf H n j root s x ≡ Refused 1
+    pub judge-parties : parties n ≡ false → judgeOf H session n j root s x ≡ Refused 1
     unfolding judgeOf
     judge-parties h = rw h
 
     module _ (low : 1 ≤ n) (high : n ≤ maxParties) where
-      pub judge-number : numbered n j ≡ false → judgeOf H n j root s x ≡ Refused 3
+      pub judge-number : numbered n j ≡ false → judgeOf H session n j root s x ≡ Refused 3
       unfolding judgeOf
       judge-number h = rw (parties-some n low high, h)
 
       module _ (first : 1 ≤ j) (last : j ≤ n) where
-        pub judge-root : (length root ≡ 32 → ⊥) → judgeOf H n j root s x ≡ Refused 7
+        pub judge-root : (length root ≡ 32 → ⊥) → judgeOf H session n j root s x ≡ Refused 7
         unfolding judgeOf
         judge-root h = rw (parties-some n low high, numbered-within n j first last, ne-eqb (length root) 32 h)
 
-        pub judge-on : length root ≡ 32 → judgeOf H n j root s x ≡ verdictOn H n j root s x
+        pub judge-on : length root ≡ 32 → judgeOf H session n j root s x ≡ verdictOn H session n j root s x
         unfolding judgeOf
         judge-on h = rw (parties-some n low high, numbered-within n j first last, eq-eqb (length root) 32 h)
 
   -- neither silence nor a share
   pub on-refused : (x : Packet) → OneOf (0 ∷ 2 ∷ []) (tagOf packet-type x) → OneOf (0 ∷ 1 ∷ []) (tagOf packet-type x)
-      → verdictOn H n j root s x ≡ Faulty
+      → verdictOn H session n j root s x ≡ Faulty
   on-refused (packet.Refused k) a b = refl
   on-refused packet.Silence a b = absurd (miss (0 ∷ 2 ∷ []) 1 tt a)
   on-refused (packet.Share number from len count) a b = absurd (miss (0 ∷ 1 ∷ []) 2 tt b)
 
   module _ (from len count : ℕ) where
-    pub on-other : (number : ℕ) → (number ≡ j → ⊥) → verdictOn H n j root s (packet.Share number from len count) ≡ Faulty
+    pub on-other : (number : ℕ) → (number ≡ j → ⊥) → verdictOn H session n j root s (packet.Share number from len count) ≡ Faulty
     on-other number d = rw (ne-eqb number j d)
 
     -- a share of the number demanded, and whether its path leads to the root
     abbrev Ours : Judged
-    Ours = verdictOn H n j root s (packet.Share j from len count)
+    Ours = verdictOn H session n j root s (packet.Share j from len count)
 
     abbrev pub leads : Bool
-    leads = passes H n j (take len (drop from s)) (hashes count (drop (from + len) s)) count root
+    leads = passes H session n j (take len (drop from s)) (hashes count (drop (from + len) s)) count root
 
     pub on-long : maxShare < len → Ours ≡ Faulty
     on-long h = rw (eq-eqb j j refl, lt-leb len maxShare h)
@@ -122,7 +122,7 @@ module _ (H : List ℕ → List ℕ) (n j : ℕ) (root s : List ℕ) where
 
     pub on-many : n ≤ maxParties → 1 ≤ j → j ≤ n → maxPath < count → Ours ≡ Faulty
     on-many high first last h =
-        on-failed (passes-miscount H n j (take len (drop from s)) (hashes count (drop (from + len) s)) count root
+        on-failed (passes-miscount H session n j (take len (drop from s)) (hashes count (drop (from + len) s)) count root
         (λ e. absurd (omega (arith, e, sides-fit n (j - 1) high (omega arith)))))
 
     module _ (short : len ≤ maxShare) where
@@ -134,7 +134,7 @@ module _ (H : List ℕ → List ℕ) (n j : ℕ) (root s : List ℕ) where
           rw (eq-eqb j j refl, le-leb len maxShare short, le-leb (from + len + 32 * count) (length s) inside, h)
 
 -- a packet of k bytes that was read at a place of s
-module _ (H : List ℕ → List ℕ) (n j : ℕ) (root s : List ℕ) (at k : ℕ) (room : at + k ≤ length s) where
+module _ (H : List ℕ → List ℕ) (session n j : ℕ) (root s : List ℕ) (at k : ℕ) (room : at + k ≤ length s) where
   abbrev P : List ℕ
   P = take k (drop at s)
 
@@ -156,20 +156,20 @@ module _ (H : List ℕ → List ℕ) (n j : ℕ) (root s : List ℕ) (at k : ℕ
         ∙ hashes-part (4 + length share) (length path) k at s (omega (arith, fields .whole, length-part s at k room))
         ∙ ap (λ (i : ℕ). hashes (length path) (drop i s)) e
 
-  on-reading : (r : Reading) → readOf n P ≡ r → verdictOn H n j root s (placed at r) ≡ verdictFor (judged H n j root r)
+  on-reading : (r : Reading) → readOf n P ≡ r → verdictOn H session n j root s (placed at r) ≡ verdictFor (judged H session n j root r)
   on-reading silence e = refl
   on-reading unreadable e = refl
   on-reading (shared number share path) e =
       let c : ℕ = length path in
       ap₂ (λ (x : List ℕ) (q : List (List ℕ)). cond (eqb number j && leb (length share) maxShare
-      && leb (at + 4 + length share + 32 * c) (length s) && passes H n j x q c root) Valid Faulty)
+      && leb (at + 4 + length share + 32 * c) (length s) && passes H session n j x q c root) Valid Faulty)
       (sym (share-there number share path e)) (sym (path-there number share path e))
       ∙ two-left (eqb number j) (leb (length share) maxShare) (leb (at + 4 + length share + 32 * c) (length s))
-      (passes H n j share path c root) share path (le-leb (length share) maxShare (fields number share path e .most))
+      (passes H session n j share path c root) share path (le-leb (length share) maxShare (fields number share path e .most))
       (le-leb (at + 4 + length share + 32 * c) (length s) (inside number share path e))
 
   -- no share was read
-  unread : (r : Reading) → OneOf (0 ∷ 1 ∷ []) (tagOf packet-type (placed at r)) → PassedOver (judged H n j root r)
+  unread : (r : Reading) → OneOf (0 ∷ 1 ∷ []) (tagOf packet-type (placed at r)) → PassedOver (judged H session n j root r)
   unread silence h = tt
   unread unreadable h = tt
   unread (shared number share path) h = absurd (miss (0 ∷ 1 ∷ []) 2 tt h)
@@ -179,11 +179,11 @@ module _ (H : List ℕ → List ℕ) (n j : ℕ) (root s : List ℕ) (at k : ℕ
   TakenIn c packet.Silence = Unit {0}
   TakenIn c (packet.Share number from len count) = TakenAt s from len count c
 
-  taken : n ≤ maxParties → (r : Reading) → readOf n P ≡ r → verdictFor (judged H n j root r) ≡ Valid
-      → TakenIn (judged H n j root r) (placed at r)
+  taken : n ≤ maxParties → (r : Reading) → readOf n P ≡ r → verdictFor (judged H session n j root r) ≡ Valid
+      → TakenIn (judged H session n j root r) (placed at r)
   taken high silence e h = tt
   taken high unreadable e h = tt
-  taken high (shared number share path) e h = go (eqb number j && passes H n j share path (length path) root) h
+  taken high (shared number share path) e h = go (eqb number j && passes H session n j share path (length path) root) h
     where
       go : (t : Bool) → verdictFor (cond t (valid share path) faulty) ≡ Valid
           → TakenAt s (at + 4) (length share) (length path) (cond t (valid share path) faulty)
@@ -199,26 +199,26 @@ module _ (H : List ℕ → List ℕ) (n j : ℕ) (root s : List ℕ) (at k : ℕ
           }
 
   module _ (x : Packet) (read : x ≡ placed at (readOf n P)) where
-    pub class-unread : OneOf (0 ∷ 1 ∷ []) (tagOf packet-type x) → PassedOver (classOf H n j root P)
+    pub class-unread : OneOf (0 ∷ 1 ∷ []) (tagOf packet-type x) → PassedOver (classOf H session n j root P)
     unfolding classOf
     class-unread h = unread (readOf n P) (subst (λ (y : Packet). OneOf (0 ∷ 1 ∷ []) (tagOf packet-type y)) read h)
 
     module _ (low : 1 ≤ n) (high : n ≤ maxParties) (first : 1 ≤ j) (last : j ≤ n) (wide : length root ≡ 32) where
       -- it is judged by its class
-      pub judge-class : judgeOf H n j root s x ≡ verdictFor (classOf H n j root P)
+      pub judge-class : judgeOf H session n j root s x ≡ verdictFor (classOf H session n j root P)
       unfolding classOf
       judge-class =
-          judge-on H n j root s x low high first last wide ∙ ap (verdictOn H n j root s) read ∙ on-reading (readOf n P) refl
+          judge-on H session n j root s x low high first last wide ∙ ap (verdictOn H session n j root s) read ∙ on-reading (readOf n P) refl
 
-      module _ (r : Judged) (answer : r ≡ judgeOf H n j root s x) where
-        pub class-passed-over : OneOf (0 ∷ 1 ∷ 2 ∷ []) (tagOf judged-type r) → PassedOver (classOf H n j root P)
+      module _ (r : Judged) (answer : r ≡ judgeOf H session n j root s x) where
+        pub class-passed-over : OneOf (0 ∷ 1 ∷ 2 ∷ []) (tagOf judged-type r) → PassedOver (classOf H session n j root P)
         class-passed-over h =
-            over (classOf H n j root P)
+            over (classOf H session n j root P)
             (subst (λ (y : Judged). OneOf (0 ∷ 1 ∷ 2 ∷ []) (tagOf judged-type y)) (answer ∙ judge-class) h)
 
         pub class-taken : (number from len count : ℕ) → x ≡ packet.Share number from len count → r ≡ Valid
-            → TakenAt s from len count (classOf H n j root P)
+            → TakenAt s from len count (classOf H session n j root P)
         unfolding classOf
         class-taken number from len count q v =
-            subst (TakenIn (classOf H n j root P)) (sym read ∙ q)
+            subst (TakenIn (classOf H session n j root P)) (sym read ∙ q)
             (taken high (readOf n P) refl (sym judge-class ∙ sym answer ∙ v))

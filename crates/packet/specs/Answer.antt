@@ -109,22 +109,22 @@ verdict r = record { answer = r; cause = verdictCause r; valid = verdictValid r 
 
 module _ (H : List ℕ → List ℕ) where
   -- what was read from s, judged: a share is valid if it has the number demanded, is no longer than a share may be, lies within s with its
-  -- path, and passes the path check by the hash H
-  abbrev pub verdictOn : ℕ → ℕ → List ℕ → List ℕ → Packet → Judged
-  verdictOn n j root s (packet.Refused k) = judged.Faulty
-  verdictOn n j root s packet.Silence = judged.Silent
-  verdictOn n j root s (packet.Share number from len count) =
+  -- path, and passes the path check by the hash H under the session's number
+  abbrev pub verdictOn : ℕ → ℕ → ℕ → List ℕ → List ℕ → Packet → Judged
+  verdictOn session n j root s (packet.Refused k) = judged.Faulty
+  verdictOn session n j root s packet.Silence = judged.Silent
+  verdictOn session n j root s (packet.Share number from len count) =
       cond (eqb number j && leb len maxShare && leb (from + len + 32 * count) (length s)
-      && passes H n j (take len (drop from s)) (hashes count (drop (from + len) s)) count root)
+      && passes H session n j (take len (drop from s)) (hashes count (drop (from + len) s)) count root)
       judged.Valid judged.Faulty
 
   -- a packet that was read from s: causes 1, 3 and 7, then the judgement
-  unfoldable pub judgeOf : ℕ → ℕ → List ℕ → List ℕ → Packet → Judged
-  judgeOf n j root s p =
+  unfoldable pub judgeOf : ℕ → ℕ → ℕ → List ℕ → List ℕ → Packet → Judged
+  judgeOf session n j root s p =
       cond (not (parties n)) (judged.Refused 1)
       (cond (not (numbered n j)) (judged.Refused 3)
       (cond (not (eqb (length root) 32)) (judged.Refused 7)
-      (verdictOn n j root s p)))
+      (verdictOn session n j root s p)))
 
 -- why the packet of a share of len bytes with `count` hashes is not written: n or the number out of its range (1, 3), or a packet that
 -- no reader would take (10, here by our own choice); 0: it is

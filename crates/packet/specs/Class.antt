@@ -1,5 +1,5 @@
--- A packet judged, by a hash, against n, the number demanded of it and the agreed root. Steps 4 and 5 take valid packets alone: silent and faulty are
--- alike to them. Assumes nothing.
+-- A packet judged, by a hash, against the session's number, n, the number demanded of it and the agreed root. Steps 4 and 5 take valid packets alone: silent
+-- and faulty are alike to them. Assumes nothing.
 use mathlib.Core.Bool.{cond, _&&_}
 use mathlib.Core.List.{List, []}
 use Prim.Native.Nat.{ℕ}
@@ -14,20 +14,20 @@ pub data Class : Type 0 where
   valid : List ℕ → List (List ℕ) → Class
 
 module _ (H : List ℕ → List ℕ) where
-  abbrev pub judged : ℕ → ℕ → List ℕ → Reading → Class
-  judged n j root silence = silent
-  judged n j root unreadable = faulty
-  judged n j root (shared number share path) =
-      cond (eqb number j && passes H n j share path (length path) root) (valid share path) faulty
+  abbrev pub judged : ℕ → ℕ → ℕ → List ℕ → Reading → Class
+  judged session n j root silence = silent
+  judged session n j root unreadable = faulty
+  judged session n j root (shared number share path) =
+      cond (eqb number j && passes H session n j share path (length path) root) (valid share path) faulty
 
-  unfoldable pub classOf : ℕ → ℕ → List ℕ → List ℕ → Class
-  classOf n j root packet = judged n j root (readOf n packet)
+  unfoldable pub classOf : ℕ → ℕ → ℕ → List ℕ → List ℕ → Class
+  classOf session n j root packet = judged session n j root (readOf n packet)
 
   -- the strings hashed in judging a packet: those of the path check, which is made where the number is the one demanded
-  abbrev pub checkedStrings : ℕ → ℕ → Reading → List (List ℕ)
-  checkedStrings n j silence = []
-  checkedStrings n j unreadable = []
-  checkedStrings n j (shared number share path) = cond (eqb number j) (stringsOf H n j share path (length path)) []
+  abbrev pub checkedStrings : ℕ → ℕ → ℕ → Reading → List (List ℕ)
+  checkedStrings session n j silence = []
+  checkedStrings session n j unreadable = []
+  checkedStrings session n j (shared number share path) = cond (eqb number j) (stringsOf H session n j share path (length path)) []
 
-  unfoldable pub classStrings : ℕ → ℕ → List ℕ → List (List ℕ)
-  classStrings n j packet = checkedStrings n j (readOf n packet)
+  unfoldable pub classStrings : ℕ → ℕ → ℕ → List ℕ → List (List ℕ)
+  classStrings session n j packet = checkedStrings session n j (readOf n packet)

@@ -193,9 +193,16 @@ fn hash_at(s: &[u8], at: usize) -> Hash
     hash
 }
 
-// Judges a packet that was read from s: whether it bears number j and its path leads to the root.
-pub fn judge(n: usize, j: usize, root: &[u8], s: &[u8], packet: Packet) -> Judged
-    ensures { λ r. ⌜ verdict r ≡ verdict (judgeOf sha256 n j (now (root .entry)) (now (s .entry)) packet) ⌝ }
+// Judges a packet that was read from s: whether it bears number j and its path leads to the root under the session's number.
+pub fn judge(
+    session: u32,
+    n: usize,
+    j: usize,
+    root: &[u8],
+    s: &[u8],
+    packet: Packet,
+) -> Judged
+    ensures { λ r. ⌜ verdict r ≡ verdict (judgeOf sha256 session n j (now (root .entry)) (now (s .entry)) packet) ⌝ }
 {
     if !limits::parties(n) {
         return Judged::Refused(1);
@@ -221,22 +228,30 @@ pub fn judge(n: usize, j: usize, root: &[u8], s: &[u8], packet: Packet) -> Judge
     if number != j {
         return Judged::Faulty;
     }
-    judge_share(n, j, root, s, from, len, count)
+    let place = Place { from, len, count };
+    judge_share(session, n, j, root, s, place)
+}
+
+// Where a share lies, how long it is, and how many hashes follow it.
+struct Place {
+    from: usize,
+    len: usize,
+    count: usize,
 }
 
 // The same of a share that bears number j. No place that it states is used before the bytes present are found to be as many.
 fn judge_share(
+    session: u32,
     n: usize,
     j: usize,
     root: &[u8],
     s: &[u8],
-    from: usize,
-    len: usize,
-    count: usize,
+    place: Place,
 ) -> Judged
     requires { ⌜ (1 ≤ n) × (n ≤ maxParties) × (1 ≤ j) × (j ≤ n) × (length (now root) ≡ 32) ⌝ }
-    ensures { λ r. ⌜ r ≡ verdictOn sha256 n j (now (root .entry)) (now (s .entry)) (Packet.Share j from len count) ⌝ }
+    ensures { λ r. ⌜ r ≡ verdictOn sha256 session n j (now (root .entry)) (now (s .entry)) (Packet.Share j (place .from) (place .len) (place .count)) ⌝ }
 {
+    let Place { from, len, count } = place;
     if MAX_SHARE < len {
         return Judged::Faulty;
     }
@@ -251,7 +266,7 @@ fn judge_share(
     }
     let end = from + len;
     let path = path_at(s, end, count);
-    if let Checked::Yes = merkle::check(n, j, &s[from..end], path, count, root) {
+    if let Checked::Yes = merkle::check(session, n, j, &s[from..end], path, count, root) {
         return Judged::Valid;
     }
     Judged::Faulty

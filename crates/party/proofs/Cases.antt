@@ -21,7 +21,7 @@ too-long : (m : List ℕ) → length m ≡ maxMessage + 1 → causeOf 3 1 m ≡ 
 unfolding parties groupCause
 too-long m e =
     let c : openCause 3 1 1 (length m) ≡ 4 = open-long 3 1 1 (length m) refl (lit≤ tt) (lit≤ tt) (omega arith) in
-    ap (λ (r : Opened). r .cause) (open-refused sha256 3 1 1 m (λ q. omega arith)) ∙ c
+    ap (λ (r : Opened). r .cause) (open-refused sha256 0 3 1 1 m (λ q. omega arith)) ∙ c
 
 pub cases : Cases
 unfolding parties numbered openOf openCause groupCause pathLengthOf splitFrom split shapeOf shape size sides
@@ -31,6 +31,6 @@ cases = record {
   sixteen = refl;
   eight-faults = refl;
   seventeen = refl;
-  longest = λ m e. open-accepted sha256 3 1 1 m (lit≤ tt) (lit≤ tt) (lit≤ tt) (lit≤ tt) (lit≤ tt) (omega arith);
+  longest = λ m e. open-accepted sha256 0 3 1 1 m (lit≤ tt) (lit≤ tt) (lit≤ tt) (lit≤ tt) (lit≤ tt) (omega arith);
   too-long = too-long;
 }

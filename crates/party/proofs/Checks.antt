@@ -17,12 +17,12 @@ use Rattle.party.specs.Strings.{unlessValid, shareStrings, relayStrings}
 use Rattle.party.specs.declared.Party.{Party}
 use Rattle.party.proofs.Ways.{Way, on, off, way}
 
-module _ (H : List ℕ → List ℕ) (n : ℕ) where
+module _ (H : List ℕ → List ℕ) (session n : ℕ) where
   -- the packet that step 4 takes from senders numbered from j on
   pub record Took (i : ℕ) (z : List ℕ) (j : ℕ) (ps : List (List ℕ)) (x : List ℕ) (p : List (List ℕ)) : Type 0 where
     pub packet : List ℕ
-    pub good : classOf H n i z packet ≡ valid x p
-    pub hashed : (s : List ℕ) → List·Memᴰ s (classStrings H n i packet) → List·Memᴰ s (shareStrings H n i z j ps)
+    pub good : classOf H session n i z packet ≡ valid x p
+    pub hashed : (s : List ℕ) → List·Memᴰ s (classStrings H session n i packet) → List·Memᴰ s (shareStrings H session n i z j ps)
 
   not-missing : {x : List ℕ} {p : List (List ℕ)} → missing ≡ found x p → ⊥
   not-missing e = let q : _≡_ {A = ℕ} 0 1 = cc in omega arith
@@ -30,22 +30,22 @@ module _ (H : List ℕ → List ℕ) (n : ℕ) where
   same-found : {x y : List ℕ} {p q : List (List ℕ)} → found x p ≡ found y q → (x ≡ y) × (p ≡ q)
   same-found e = (cc, cc)
 
-  pub took : (i : ℕ) (z : List ℕ) (j : ℕ) (ps : List (List ℕ)) (x : List ℕ) (p : List (List ℕ)) → firstValid H n i z j ps ≡ found x p
+  pub took : (i : ℕ) (z : List ℕ) (j : ℕ) (ps : List (List ℕ)) (x : List ℕ) (p : List (List ℕ)) → firstValid H session n i z j ps ≡ found x p
       → Took i z j ps x p
   unfolding firstValid shareStrings
   took i z j [] x p e = absurd (not-missing e)
-  took i z j (w ∷ ps) x p e = go (way (eqb j i)) (classOf H n i z w) refl (took i z (j + 1) ps x p)
+  took i z j (w ∷ ps) x p e = go (way (eqb j i)) (classOf H session n i z w) refl (took i z (j + 1) ps x p)
     where
       later : Way (eqb j i) → Took i z (j + 1) ps x p → (s : List ℕ)
-          → List·Memᴰ s (shareStrings H n i z (j + 1) ps)
-          → unlessValid (classOf H n i z w) (shareStrings H n i z (j + 1) ps) ≡ shareStrings H n i z (j + 1) ps
-          → List·Memᴰ s (shareStrings H n i z j (w ∷ ps))
+          → List·Memᴰ s (shareStrings H session n i z (j + 1) ps)
+          → unlessValid (classOf H session n i z w) (shareStrings H session n i z (j + 1) ps) ≡ shareStrings H session n i z (j + 1) ps
+          → List·Memᴰ s (shareStrings H session n i z j (w ∷ ps))
       later (on a) t s h u = rw a h
       later (off a) t s h u =
-          rw a (Memᴰ·append-right (classStrings H n i w)
+          rw a (Memᴰ·append-right (classStrings H session n i w)
           (subst (λ (l : List (List ℕ)). List·Memᴰ s l) (sym u) h))
 
-      go : Way (eqb j i) → (c : Class) → classOf H n i z w ≡ c → (firstValid H n i z (j + 1) ps ≡ found x p → Took i z (j + 1) ps x p)
+      go : Way (eqb j i) → (c : Class) → classOf H session n i z w ≡ c → (firstValid H session n i z (j + 1) ps ≡ found x p → Took i z (j + 1) ps x p)
           → Took i z j (w ∷ ps) x p
       go (on a) c q r =
           let t = r (rw a at e) in
@@ -55,36 +55,36 @@ module _ (H : List ℕ → List ℕ) (n : ℕ) where
           record {
             packet = t .packet;
             good = t .good;
-            hashed = λ s h. later (off a) t s (t .hashed s h) (ap (λ (c : Class). unlessValid c (shareStrings H n i z (j + 1) ps)) q);
+            hashed = λ s h. later (off a) t s (t .hashed s h) (ap (λ (c : Class). unlessValid c (shareStrings H session n i z (j + 1) ps)) q);
           }
       go (off a) faulty q r =
           let t = r (rw (a, q) at e) in
           record {
             packet = t .packet;
             good = t .good;
-            hashed = λ s h. later (off a) t s (t .hashed s h) (ap (λ (c : Class). unlessValid c (shareStrings H n i z (j + 1) ps)) q);
+            hashed = λ s h. later (off a) t s (t .hashed s h) (ap (λ (c : Class). unlessValid c (shareStrings H session n i z (j + 1) ps)) q);
           }
       go (off a) (valid y q′) q r =
           let f = same-found (rw (a, q) at e) in
           record {
             packet = w;
             good = q ∙ ap₂ valid (f .0) (f .1);
-            hashed = λ s h. rw a (Memᴰ·append-left (unlessValid (classOf H n i z w) (shareStrings H n i z (j + 1) ps)) h);
+            hashed = λ s h. rw a (Memᴰ·append-left (unlessValid (classOf H session n i z w) (shareStrings H session n i z (j + 1) ps)) h);
           }
 
   -- it finds one where another sender's packet passes
   pub finds : (i : ℕ) (z : List ℕ) (j : ℕ) (ps : List (List ℕ)) (k : ℕ) (x : List ℕ) (p : List (List ℕ)) → k < length ps → j + k ≢ i
-      → classOf H n i z (getD ps k []) ≡ valid x p → (y : List ℕ) × (q : List (List ℕ)) × (firstValid H n i z j ps ≡ found y q)
+      → classOf H session n i z (getD ps k []) ≡ valid x p → (y : List ℕ) × (q : List (List ℕ)) × (firstValid H session n i z j ps ≡ found y q)
   unfolding firstValid
   finds i z j [] k x p l d e = absurd (omega arith)
   finds i z j (w ∷ ps) zero x p l d e = (x, p, rw (ne-eqb j i (λ a. d (add-zero j ∙ a)), e))
   finds i z j (w ∷ ps) (suc k) x p l d e =
-      go (way (eqb j i)) (classOf H n i z w) refl
+      go (way (eqb j i)) (classOf H session n i z w) refl
       (finds i z (j + 1) ps k x p (omega arith) (λ a. let b : j + suc k ≡ i = omega (arith, a) in d b) e)
     where
-      go : Way (eqb j i) → (c : Class) → classOf H n i z w ≡ c
-          → (y : List ℕ) × (q : List (List ℕ)) × (firstValid H n i z (j + 1) ps ≡ found y q)
-          → (y : List ℕ) × (q : List (List ℕ)) × (firstValid H n i z j (w ∷ ps) ≡ found y q)
+      go : Way (eqb j i) → (c : Class) → classOf H session n i z w ≡ c
+          → (y : List ℕ) × (q : List (List ℕ)) × (firstValid H session n i z (j + 1) ps ≡ found y q)
+          → (y : List ℕ) × (q : List (List ℕ)) × (firstValid H session n i z j (w ∷ ps) ≡ found y q)
       go (on a) c f r = (r .0, r .1, rw a (r .2))
       go (off a) silent f r = (r .0, r .1, rw (a, f) (r .2))
       go (off a) faulty f r = (r .0, r .1, rw (a, f) (r .2))
@@ -92,31 +92,31 @@ module _ (H : List ℕ → List ℕ) (n : ℕ) where
 
   -- the strings of step 5's checks
   pub in-relays : (i j : ℕ) (ps : List (List ℕ)) (k : ℕ) → k < length ps → j + k ≢ i → (s : List ℕ)
-      → List·Memᴰ s (classStrings H n (j + k) (getD ps k [])) → List·Memᴰ s (relayStrings H n i j ps)
+      → List·Memᴰ s (classStrings H session n (j + k) (getD ps k [])) → List·Memᴰ s (relayStrings H session n i j ps)
   unfolding relayStrings
   in-relays i j [] k l d s h = absurd (omega arith)
   in-relays i j (w ∷ ps) zero l d s h =
       let e : j + 0 ≡ j = add-zero j in
       rw (ne-eqb j i (λ a. d (e ∙ a)))
-      (Memᴰ·append-left (relayStrings H n i (j + 1) ps) (subst (λ (u : ℕ). List·Memᴰ s (classStrings H n u w)) e h))
+      (Memᴰ·append-left (relayStrings H session n i (j + 1) ps) (subst (λ (u : ℕ). List·Memᴰ s (classStrings H session n u w)) e h))
   in-relays i j (w ∷ ps) (suc k) l d s h =
       let e : j + suc k ≡ j + 1 + k = omega arith in
-      Memᴰ·append-right (cond (eqb j i) [] (classStrings H n j w))
+      Memᴰ·append-right (cond (eqb j i) [] (classStrings H session n j w))
       (in-relays i (j + 1) ps k (omega arith) (λ a. d (e ∙ a)) s
-      (subst (λ (u : ℕ). List·Memᴰ s (classStrings H n u (getD ps k []))) e h))
+      (subst (λ (u : ℕ). List·Memᴰ s (classStrings H session n u (getD ps k []))) e h))
 
 -- what step 5 gathers under each number
 pub gathered-at : (H : List ℕ → List ℕ) (x : Party) (j : ℕ) (ps : List (List ℕ)) (k : ℕ) → k < length ps
     → getD (gathered H x j ps) k []
-    ≡ cond (eqb (j + k) (x .seat .own)) (shareHeld x) (shareFrom (classOf H (x .seat .n) (j + k) (x .root) (getD ps k [])))
+    ≡ cond (eqb (j + k) (x .seat .own)) (shareHeld x) (shareFrom (classOf H (x .seat .session) (x .seat .n) (j + k) (x .root) (getD ps k [])))
 unfolding gathered
 gathered-at H x j [] k l = absurd (omega arith)
 gathered-at H x j (w ∷ ps) zero l =
-    ap (λ (u : ℕ). cond (eqb u (x .seat .own)) (shareHeld x) (shareFrom (classOf H (x .seat .n) u (x .root) w))) (sym (add-zero j))
+    ap (λ (u : ℕ). cond (eqb u (x .seat .own)) (shareHeld x) (shareFrom (classOf H (x .seat .session) (x .seat .n) u (x .root) w))) (sym (add-zero j))
 gathered-at H x j (w ∷ ps) (suc k) l =
     let e : j + 1 + k ≡ j + suc k = omega arith in
     gathered-at H x (j + 1) ps k (omega arith)
-    ∙ ap (λ (u : ℕ). cond (eqb u (x .seat .own)) (shareHeld x) (shareFrom (classOf H (x .seat .n) u (x .root) (getD ps k [])))) e
+    ∙ ap (λ (u : ℕ). cond (eqb u (x .seat .own)) (shareHeld x) (shareFrom (classOf H (x .seat .session) (x .seat .n) u (x .root) (getD ps k [])))) e
 
 pub gathered-length : (H : List ℕ → List ℕ) (x : Party) (j : ℕ) (ps : List (List ℕ)) → length (gathered H x j ps) ≡ length ps
 unfolding gathered

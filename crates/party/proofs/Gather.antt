@@ -25,10 +25,10 @@ abbrev placesOf : List ℕ → List ℕ → Places
 placesOf F L = record { from = F; len = L }
 
 -- in an inbox s, with the share y that the party relayed behind it
-module _ (H : List ℕ → List ℕ) (n own : ℕ) (z y s : List ℕ) where
+module _ (H : List ℕ → List ℕ) (session n own : ℕ) (z y s : List ℕ) where
   -- the shares of the senders from j on, of whom k entries lie behind a place
   abbrev rest : ℕ → ℕ → ℕ → List (List ℕ)
-  rest j k at = picked H n own z y j (bodies k (drop at s))
+  rest j k at = picked H session n own z y j (bodies k (drop at s))
 
   -- after j turns: the places of the first j shares, and no length behind them
   pub record Gathering (j at : ℕ) (F L : List ℕ) : Type 0 where
@@ -56,7 +56,7 @@ module _ (H : List ℕ → List ℕ) (n own : ℕ) (z y s : List ℕ) where
 
   -- a turn: share x of sender j + 1, whose entry stands at a place
   module _ (j at : ℕ) (F L x : List ℕ) (g : Gathering j at F L) (more : j < n) (high : n ≤ maxParties) (e : Stands n (n - (j + 1)) at s)
-      (here : rest (j + 1) (n - j) at ≡ x ∷ picked H n own z y (j + 1 + 1) (bodiesAfter (n - (j + 1)) at s)) where
+      (here : rest (j + 1) (n - j) at ≡ x ∷ picked H session n own z y (j + 1 + 1) (bodiesAfter (n - (j + 1)) at s)) where
     grown : (p : Places) → partsAt (j + 1) (s ++ y) p ≡ partsAt j (s ++ y) (placesOf F L) ++ (x ∷ [])
         → partsAt (j + 1) (s ++ y) p ++ rest (j + 1 + 1) (n - (j + 1)) (nextAt s at) ≡ rest 1 n 0
     grown p q =
@@ -107,6 +107,6 @@ module _ (H : List ℕ → List ℕ) (n own : ℕ) (z y s : List ℕ) where
     lie = λ i l. g .lie i (omega arith);
     parts = ap (λ (k : ℕ). partsAt k (s ++ y) (placesOf F L)) (sym e)
         ∙ sym (append-nil (partsAt j (s ++ y) (placesOf F L)))
-        ∙ ap (λ (l : List (List ℕ)). partsAt j (s ++ y) (placesOf F L) ++ l) (sym (picked-none H n own z y (n - j) (j + 1) at s (omega arith)))
+        ∙ ap (λ (l : List (List ℕ)). partsAt j (s ++ y) (placesOf F L) ++ l) (sym (picked-none H session n own z y (n - j) (j + 1) at s (omega arith)))
         ∙ g .parts;
   }

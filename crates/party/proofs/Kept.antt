@@ -15,7 +15,7 @@ use Rattle.merkle.specs.Shares.{blank}
 use Rattle.party.specs.State.{padded, messageIn, shareHeld, waiting, atRoot, atBit, atFirst, atSecond, atEnd, Result, nothing, settled, outcomeOf, resultBytes, resultIn}
 use Rattle.party.specs.declared.Stage.{Stage}
 use Rattle.party.specs.declared.Stage.the-variants.{Ended}
-use Rattle.party.specs.declared.Seat.{Seat}
+use Rattle.commitment.specs.declared.Seat.{Seat}
 use Rattle.party.specs.declared.Party.{Party}
 
 pub put-padded : (k : ℕ) (l : List ℕ) → length l ≤ k → putOf (replicate k 0) 0 l ≡ padded k l

@@ -62,14 +62,14 @@ module _ (x : Party) where
 
 module _ (H : List ℕ → List ℕ) where
   -- step 1, the opening
-  module _ (n t own : ℕ) (m : List ℕ) where
+  module _ (session n t own : ℕ) (m : List ℕ) where
     pub open-refused : (openCause n t own (length m) ≡ 0 → ⊥)
-        → openOf H n t own m ≡ record { state = blankState; cause = openCause n t own (length m); root = blank }
+        → openOf H session n t own m ≡ record { state = blankState; cause = openCause n t own (length m); root = blank }
     unfolding openOf
     open-refused h = rw (ne-eqb (openCause n t own (length m)) 0 h)
 
     pub open-given : openCause n t own (length m) ≡ 0
-        → openOf H n t own m ≡ record { state = atRoot (seatOf n t own) m; cause = 0; root = messageRoot H n t m }
+        → openOf H session n t own m ≡ record { state = atRoot (seatOf session n t own) m; cause = 0; root = messageRoot H session n t m }
     unfolding openOf
     open-given h = rw (eq-eqb (openCause n t own (length m)) 0 h)
 
@@ -150,7 +150,7 @@ module _ (H : List ℕ → List ℕ) where
     found-happy h = rw h
 
     pub found-rebuilt : happy H x ≡ false
-        → resultFound H x inbox ≡ rebuilt (underRoot H (x .seat .n) (x .seat .t) (x .root) (recoveredBy H x inbox))
+        → resultFound H x inbox ≡ rebuilt (underRoot H (x .seat .session) (x .seat .n) (x .seat .t) (x .root) (recoveredBy H x inbox))
     unfolding resultFound
     found-rebuilt h = rw h
 

@@ -23,7 +23,7 @@ use Rattle.party.specs.Steps.{shareTaken, relayOf, heldOf, takeSharesOf,
 use Rattle.party.specs.declared.Outcome.the-variants.{Nothing, Message}
 use Rattle.party.specs.declared.Stage.{Stage}
 use Rattle.party.specs.declared.Stage.the-variants.{Root, Bit, First, Second, Ended}
-use Rattle.party.specs.declared.Seat.{Seat}
+use Rattle.commitment.specs.declared.Seat.{Seat}
 use Rattle.party.specs.declared.Party.{Party}
 use Rattle.party.specs.declared.Opened.{Opened}
 use Rattle.commitment.specs.Commitment.{openCause}
@@ -44,11 +44,11 @@ room-for-end x (settled m) out h = rw (le-ltb (length out) (length m) h)
 
 module _ (H : List ℕ → List ℕ) where
   -- step 1
-  pub open-accepted : (n t own : ℕ) (m : List ℕ) → 1 ≤ n → n ≤ maxParties → 2 * t < n → 1 ≤ own → own ≤ n → length m ≤ maxMessage
-      → openOf H n t own m .cause ≡ 0
-  open-accepted n t own m low high faults first last short =
+  pub open-accepted : (session n t own : ℕ) (m : List ℕ) → 1 ≤ n → n ≤ maxParties → 2 * t < n → 1 ≤ own → own ≤ n → length m ≤ maxMessage
+      → openOf H session n t own m .cause ≡ 0
+  open-accepted session n t own m low high faults first last short =
       ap (λ (r : Opened). r .cause)
-      (open-given H n t own m (open-fine n t own (length m) (group-fine n t low high faults) first last short))
+      (open-given H session n t own m (open-fine n t own (length m) (group-fine n t low high faults) first last short))
 
   module _ (x : Party) (whole : broken x ≡ false) where
     -- step 2
@@ -125,8 +125,8 @@ module _ (H : List ℕ → List ℕ) (x : Party) (whole : broken x ≡ false) wh
       go true t e = omega arith
       go false missing e = rw e (omega arith)
       go false (found y p) e =
-          let k = took H (x .seat .n) (x .seat .own) (x .root) 1 (bodies (x .seat .n) inbox) y p e in
-          let q = passing H (x .seat .n) (x .seat .own) (x .root) (k .packet) y p (k .good) in
+          let k = took H (x .seat .session) (x .seat .n) (x .seat .own) (x .root) 1 (bodies (x .seat .n) inbox) y p e in
+          let q = passing H (x .seat .session) (x .seat .n) (x .seat .own) (x .root) (k .packet) y p (k .good) in
           rw e (fields-of (x .seat .n) (k .packet) (x .seat .own) y p (q .reads) .most)
 
   rebuilt-short : (r : Recovered) → Short r → length (resultBytes (rebuilt r)) ≤ maxMessage
@@ -138,11 +138,11 @@ module _ (H : List ℕ → List ℕ) (x : Party) (whole : broken x ≡ false) wh
   found-short inbox = go (happy H x)
     where
       go : (b : Bool) → length (resultBytes (cond b (settled (messageIn x))
-          (rebuilt (underRoot H (x .seat .n) (x .seat .t) (x .root) (recoveredBy H x inbox))))) ≤ maxMessage
+          (rebuilt (underRoot H (x .seat .session) (x .seat .n) (x .seat .t) (x .root) (recoveredBy H x inbox))))) ≤ maxMessage
       go true = message-short
       go false =
-          rebuilt-short (underRoot H (x .seat .n) (x .seat .t) (x .root) (recoveredBy H x inbox))
-          (short-under H (x .seat .n) (x .seat .t) (x .root) (recoveredBy H x inbox)
+          rebuilt-short (underRoot H (x .seat .session) (x .seat .n) (x .seat .t) (x .root) (recoveredBy H x inbox))
+          (short-under H (x .seat .session) (x .seat .n) (x .seat .t) (x .root) (recoveredBy H x inbox)
           (short-recovered (x .seat .n - x .seat .t) (present 1 (gathered H x 1 (bodies (x .seat .n) inbox)))))
 
   -- a result that is held is within the limit, or the state were broken

@@ -26,7 +26,7 @@ use Rattle.commitment.proofs.Shared.{shares-bound}
 use Rattle.commitment.proofs.Messages.{share-fits, pathTo, path-count, path-each}
 use Rattle.party.specs.State.{atBit, atFirst, happy}
 use Rattle.party.specs.Steps.{packetFor, outboxOf, Taken, missing, found, takenBy, packetTaken, ownRelay, relayOf}
-use Rattle.party.specs.declared.Seat.{Seat}
+use Rattle.commitment.specs.declared.Seat.{Seat}
 use Rattle.party.proofs.Packets.{packet-bit, packet-first}
 use Rattle.party.proofs.Checks.{took}
 
@@ -49,6 +49,9 @@ none-there (suc n) zero = refl
 none-there (suc n) (suc k) = none-there n k
 
 module _ (H : List ℕ → List ℕ) (wide : (w : List ℕ) → length (H w) ≡ 32) (s : Seat) (m z : List ℕ) (c : Coded (s .n) (s .t) m) where
+  abbrev session : ℕ
+  session = s .session
+
   abbrev n : ℕ
   n = s .n
 
@@ -60,17 +63,17 @@ module _ (H : List ℕ → List ℕ) (wide : (w : List ℕ) → length (H w) ≡
   most = 4 + shareLength (n - t) (length m) + 32 * maxPath
 
   -- the packet with share j
-  made-length : (j : ℕ) (first : 1 ≤ j) (last : j ≤ n) → length (packetOf j (share (n - t) j m) (pathTo H wide n t m c j first last)) ≤ most
+  made-length : (j : ℕ) (first : 1 ≤ j) (last : j ≤ n) → length (packetOf j (share (n - t) j m) (pathTo H wide session n t m c j first last)) ≤ most
   made-length j first last =
       omega (
         arith,
-        packet-length j (share (n - t) j m) (pathTo H wide n t m c j first last) (path-each H wide n t m c j first last),
+        packet-length j (share (n - t) j m) (pathTo H wide session n t m c j first last) (path-each H wide session n t m c j first last),
         length-share (n - t) j m,
-        path-count H wide n t m c j first last,
+        path-count H wide session n t m c j first last,
         sides-fit n (j - 1) (c .high) (omega arith),
       )
 
-  made-short : (j : ℕ) (first : 1 ≤ j) (last : j ≤ n) → length (packetOf j (share (n - t) j m) (pathTo H wide n t m c j first last)) ≤ maxPacket
+  made-short : (j : ℕ) (first : 1 ≤ j) (last : j ≤ n) → length (packetOf j (share (n - t) j m) (pathTo H wide session n t m c j first last)) ≤ maxPacket
   made-short j first last = omega (arith, made-length j first last, share-fits n t m c)
 
   -- n entries of such packets
@@ -123,8 +126,8 @@ module _ (H : List ℕ → List ℕ) (wide : (w : List ℕ) → length (H w) ≡
       go true k e = alone (eqb n 1)
       go false missing e = rw e (omega arith)
       go false (found y p) e =
-          let k = took H n (s .own) z 1 (bodies n inbox) y p e in
-          let q = passing H n (s .own) z (k .packet) y p (k .good) in
+          let k = took H session n (s .own) z 1 (bodies n inbox) y p e in
+          let q = passing H session n (s .own) z (k .packet) y p (k .good) in
           let f = fields-of n (k .packet) (s .own) y p (q .reads) in
           rw e (omega (
             arith,

@@ -164,35 +164,35 @@ module _ (n t own sender : ℕ) (bs : List ℕ) where
   ]
 
   -- the outcomes
-  module _ (H : List ℕ → List ℕ) (out : List ℕ) where
+  module _ (H : List ℕ → List ℕ) (session : ℕ) (out : List ℕ) where
     abbrev packet : List ℕ
     packet = packetBy n own sender bs
 
     pub begun-refused : (senderCause n t own sender bs ≡ 0 → ⊥)
-        → openBySenderOf H n t own sender bs out ≡ refusedBy (senderCause n t own sender bs) 0 out
+        → openBySenderOf H session n t own sender bs out ≡ refusedBy (senderCause n t own sender bs) 0 out
     unfolding openBySenderOf
     begun-refused d = rw (ne-eqb (senderCause n t own sender bs) 0 d)
 
     module _ (fine : senderCause n t own sender bs ≡ 0) where
-      pub begun-short : length out < length packet → openBySenderOf H n t own sender bs out ≡ refusedBy 9 (length packet) out
+      pub begun-short : length out < length packet → openBySenderOf H session n t own sender bs out ≡ refusedBy 9 (length packet) out
       unfolding openBySenderOf
       begun-short h = rw (eq-eqb (senderCause n t own sender bs) 0 fine, lt-ltb (length out) (length packet) h)
 
-      pub begun-given : length packet ≤ length out → openBySenderOf H n t own sender bs out
-          ≡ record { opened = openOf H n t own (messageBy own sender bs); value = length packet; buffer = spliced out 0 packet }
+      pub begun-given : length packet ≤ length out → openBySenderOf H session n t own sender bs out
+          ≡ record { opened = openOf H session n t own (messageBy own sender bs); value = length packet; buffer = spliced out 0 packet }
       unfolding openBySenderOf
       begun-given h = rw (eq-eqb (senderCause n t own sender bs) 0 fine, le-ltb (length out) (length packet) h)
 
       -- a party that sends nothing leaves the buffer
-      pub begun-silent : packet ≡ [] → openBySenderOf H n t own sender bs out
-          ≡ record { opened = openOf H n t own (messageBy own sender bs); value = 0; buffer = out }
+      pub begun-silent : packet ≡ [] → openBySenderOf H session n t own sender bs out
+          ≡ record { opened = openOf H session n t own (messageBy own sender bs); value = 0; buffer = out }
       begun-silent e =
           begun-given (omega (arith, ap length e))
-          ∙ ap (λ (p : List ℕ). record { opened = openOf H n t own (messageBy own sender bs); value = length p; buffer = spliced out 0 p }) e
-          ∙ ap (λ (o : List ℕ). record { opened = openOf H n t own (messageBy own sender bs); value = 0; buffer = o }) (spliced-none out 0)
+          ∙ ap (λ (p : List ℕ). record { opened = openOf H session n t own (messageBy own sender bs); value = length p; buffer = spliced out 0 p }) e
+          ∙ ap (λ (o : List ℕ). record { opened = openOf H session n t own (messageBy own sender bs); value = 0; buffer = o }) (spliced-none out 0)
 
     -- an accepted one has no cause, and its packet fits; so it gives the ordinary opening, and the packet stands in the buffer
-    pub accepted-fits : openBySenderOf H n t own sender bs out .opened .cause ≡ 0 → (senderCause n t own sender bs ≡ 0) × (length packet ≤ length out)
+    pub accepted-fits : openBySenderOf H session n t own sender bs out .opened .cause ≡ 0 → (senderCause n t own sender bs ≡ 0) × (length packet ≤ length out)
     accepted-fits e = elim (ℕ-discrete (senderCause n t own sender bs) 0) [
       | yes f ↦ (
         f,
@@ -204,17 +204,17 @@ module _ (n t own sender : ℕ) (bs : List ℕ) where
       | no d ↦ absurd (d (sym (ap (λ (r : Begun). r .opened .cause) (begun-refused d)) ∙ e))
     ]
 
-    module _ (accepted : openBySenderOf H n t own sender bs out .opened .cause ≡ 0) where
-      pub accepted-opens : openBySenderOf H n t own sender bs out .opened ≡ openOf H n t own (messageBy own sender bs)
+    module _ (accepted : openBySenderOf H session n t own sender bs out .opened .cause ≡ 0) where
+      pub accepted-opens : openBySenderOf H session n t own sender bs out .opened ≡ openOf H session n t own (messageBy own sender bs)
       accepted-opens = let f = accepted-fits accepted in ap (λ (r : Begun). r .opened) (begun-given (f .0) (f .1))
 
-      pub accepted-wrote : take (openBySenderOf H n t own sender bs out .value) (openBySenderOf H n t own sender bs out .buffer) ≡ packet
+      pub accepted-wrote : take (openBySenderOf H session n t own sender bs out .value) (openBySenderOf H session n t own sender bs out .buffer) ≡ packet
       accepted-wrote =
           let f = accepted-fits accepted in
           ap (λ (r : Begun). take (r .value) (r .buffer)) (begun-given (f .0) (f .1)) ∙ take-spliced out packet
 
     -- whatever comes of it, the length that it tells is at most that of the longest packet
-    pub value-fits : openBySenderOf H n t own sender bs out .value ≤ maxMessagePacket
+    pub value-fits : openBySenderOf H session n t own sender bs out .value ≤ maxMessagePacket
     value-fits = elim (ℕ-discrete (senderCause n t own sender bs) 0) [
       | yes f ↦ elim (decLt (length out) (length packet)) [
         | yes l ↦ omega (arith, ap (λ (r : Begun). r .value) (begun-short f l), packet-fits f)

@@ -42,10 +42,10 @@ module _ (H : List ℕ → List ℕ) where
   outbox-silent x bit h = rw h (silence (x .seat .n))
 
   -- what a happy party sends is what its message gives
-  pub outbox-mail : (x : Party) → happy H x ≡ true → outboxOf H x 1 ≡ mailWith H false (x .seat .n) (x .seat .t) (x .seat .own) (messageIn x)
+  pub outbox-mail : (x : Party) → happy H x ≡ true → outboxOf H x 1 ≡ mailWith H (x .seat .session) false (x .seat .n) (x .seat .t) (x .seat .own) (messageIn x)
   unfolding outboxOf packetFor
   outbox-mail x h = rw h refl
 
-  pub relay-mail : (x : Party) → ownRelay H x ≡ mailWith H true (x .seat .n) (x .seat .t) (x .seat .own) (messageIn x)
+  pub relay-mail : (x : Party) → ownRelay H x ≡ mailWith H (x .seat .session) true (x .seat .n) (x .seat .t) (x .seat .own) (messageIn x)
   unfolding packetFor
   relay-mail x = refl

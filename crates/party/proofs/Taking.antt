@@ -32,21 +32,21 @@ pub taken-none : (t : Taken) (s : List ℕ) → TakenIs Nowhere t s → t ≡ mi
 taken-none missing s h = refl
 taken-none (found y p) s h = absurd h
 
-module _ (H : List ℕ → List ℕ) where
+module _ (H : List ℕ → List ℕ) (session : ℕ) where
   -- a share that was taken passed the path check
   module _ (n own : ℕ) (z : List ℕ) where
     abbrev pub Passed : Taken → Type 0
     Passed missing = Unit {0}
-    Passed (found x p) = passes H n own x p (length p) z ≡ true
+    Passed (found x p) = passes H session n own x p (length p) z ≡ true
 
-    pub passed : (j : ℕ) (ps : List (List ℕ)) → Passed (firstValid H n own z j ps)
-    passed j ps = go (firstValid H n own z j ps) refl
+    pub passed : (j : ℕ) (ps : List (List ℕ)) → Passed (firstValid H session n own z j ps)
+    passed j ps = go (firstValid H session n own z j ps) refl
       where
-        go : (t : Taken) → firstValid H n own z j ps ≡ t → Passed t
+        go : (t : Taken) → firstValid H session n own z j ps ≡ t → Passed t
         go missing e = tt
         go (found x p) e =
-            let k = took H n own z j ps x p e in
-            passing H n own z (k .packet) x p (k .good) .leads
+            let k = took H session n own z j ps x p e in
+            passing H session n own z (k .packet) x p (k .good) .leads
 
     -- and it lies at its place in the inbox
     module _ (s : List ℕ) (f l c : ℕ) where
@@ -73,13 +73,14 @@ module _ (H : List ℕ → List ℕ) where
 
   -- so its packet is written
   pub write-taken : (n own : ℕ) (z y : List ℕ) (p path : List (List ℕ)) (c : ℕ) (out : List ℕ) → 1 ≤ n → n ≤ maxParties → 1 ≤ own
-      → own ≤ n → 1 ≤ length y → length y ≤ maxShare → length p ≡ c → take c path ≡ p → passes H n own y p (length p) z ≡ true
+      → own ≤ n → 1 ≤ length y → length y ≤ maxShare → length p ≡ c → take c path ≡ p → passes H session n own y p (length p) z ≡ true
       → writeOf n own y path c out ≡ written (packetOf own y p) out
   write-taken n own z y p path c out low high first last some most count h q =
       write-written n own y path c out
-      (cause-fine n own (length y) c low high first last some most (sym count ∙ passes-true H n own y p (length p) z q .0))
+      (cause-fine n own (length y) c low high first last some most (sym count ∙ passes-true H session n own y p (length p) z q .0))
       ∙ ap (λ (l : List (List ℕ)). written (packetOf own y l) out) h
 
+module _ (H : List ℕ → List ℕ) where
   -- rebuilding from the shares gathered, where they lie
   pub rebuilt-of : (x : Party) (inbox : List ℕ) (p : Places) (out : List ℕ) → Fit x
       → Gathered (x .seat .n) (gathered H x 1 (bodies (x .seat .n) inbox)) inbox (shareHeld x) p

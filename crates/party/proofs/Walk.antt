@@ -51,46 +51,38 @@ taken-bounds silent s f l k h = absurd h
 taken-bounds faulty s f l k h = absurd h
 taken-bounds (valid x p) s f l k h = (omega (arith, h .inside), h .most)
 
-module _ (H : List ℕ → List ℕ) where
+module _ (H : List ℕ → List ℕ) (session : ℕ) where
   -- the search at the end
-  pub first-none : (n own : ℕ) (z : List ℕ) (k j at : ℕ) (s : List ℕ) → k ≡ 0 → firstValid H n own z j (bodies k (drop at s)) ≡ missing
+  pub first-none : (n own : ℕ) (z : List ℕ) (k j at : ℕ) (s : List ℕ) → k ≡ 0 → firstValid H session n own z j (bodies k (drop at s)) ≡ missing
   unfolding firstValid bodies
   first-none n own z k j at s e = rw e
 
   -- the search, at entry j, with m after it
   module _ (n own : ℕ) (z : List ℕ) (m k j at : ℕ) (s : List ℕ) (e : k ≡ suc m) where
-    pub first-own : j ≡ own → firstValid H n own z j (bodies k (drop at s)) ≡ firstValid H n own z (j + 1) (bodiesAfter m at s)
+    pub first-own : j ≡ own → firstValid H session n own z j (bodies k (drop at s)) ≡ firstValid H session n own z (j + 1) (bodiesAfter m at s)
     unfolding firstValid
     first-own q = rw (bodies-more m k at s e, eq-eqb j own q)
 
     module _ (other : j ≡ own → ⊥) where
-      first-other : firstValid H n own z j (bodies k (drop at s))
-          ≡ orLater (classOf H n own z (bodyAt at s)) (firstValid H n own z (j + 1) (bodiesAfter m at s))
+      first-other : firstValid H session n own z j (bodies k (drop at s))
+          ≡ orLater (classOf H session n own z (bodyAt at s)) (firstValid H session n own z (j + 1) (bodiesAfter m at s))
       unfolding firstValid
       first-other = rw (bodies-more m k at s e, ne-eqb j own other)
 
-      pub first-later : PassedOver (classOf H n own z (bodyAt at s))
-          → firstValid H n own z j (bodies k (drop at s)) ≡ firstValid H n own z (j + 1) (bodiesAfter m at s)
-      first-later h = first-other ∙ later (classOf H n own z (bodyAt at s)) (firstValid H n own z (j + 1) (bodiesAfter m at s)) h
+      pub first-later : PassedOver (classOf H session n own z (bodyAt at s))
+          → firstValid H session n own z j (bodies k (drop at s)) ≡ firstValid H session n own z (j + 1) (bodiesAfter m at s)
+      first-later h = first-other ∙ later (classOf H session n own z (bodyAt at s)) (firstValid H session n own z (j + 1) (bodiesAfter m at s)) h
 
-      pub first-taken : (f l c : ℕ) → TakenAt s f l c (classOf H n own z (bodyAt at s))
-          → TakenIs (At f l c) (firstValid H n own z j (bodies k (drop at s))) s
+      pub first-taken : (f l c : ℕ) → TakenAt s f l c (classOf H session n own z (bodyAt at s))
+          → TakenIs (At f l c) (firstValid H session n own z j (bodies k (drop at s))) s
       first-taken f l c h =
           subst (λ (t : Taken). TakenIs (At f l c) t s) (sym first-other)
-          (taken (classOf H n own z (bodyAt at s)) (firstValid H n own z (j + 1) (bodiesAfter m at s)) s f l c h)
+          (taken (classOf H session n own z (bodyAt at s)) (firstValid H session n own z (j + 1) (bodiesAfter m at s)) s f l c h)
 
-  -- the shares gathered, by what the walk knows of the state: n, the own number, the root and the share held
+  -- the shares gathered, by what the walk knows of the state: the session's number, n, the own number, the root and the share held
   unfoldable pub picked : ℕ → ℕ → List ℕ → List ℕ → ℕ → List (List ℕ) → List (List ℕ)
   picked n own z x j [] = []
-  picked n own z x j (p ∷ ps) = cond (eqb j own) x (shareFrom (classOf H n j z p)) ∷ picked n own z x (j + 1) ps
-
-  pub picked-gathered : (x : Party) (j : ℕ) (ps : List (List ℕ))
-      → picked (x .seat .n) (x .seat .own) (x .root) (shareHeld x) j ps ≡ gathered H x j ps
-  unfolding picked gathered
-  picked-gathered x j [] = refl
-  picked-gathered x j (p ∷ ps) =
-      ap (λ (l : List (List ℕ)). cond (eqb j (x .seat .own)) (shareHeld x) (shareFrom (classOf H (x .seat .n) j (x .root) p)) ∷ l)
-      (picked-gathered x (j + 1) ps)
+  picked n own z x j (p ∷ ps) = cond (eqb j own) x (shareFrom (classOf H session n j z p)) ∷ picked n own z x (j + 1) ps
 
   pub picked-none : (n own : ℕ) (z x : List ℕ) (k j at : ℕ) (s : List ℕ) → k ≡ 0
       → picked n own z x j (bodies k (drop at s)) ≡ []
@@ -107,13 +99,22 @@ module _ (H : List ℕ → List ℕ) where
     picked-own q = rw (bodies-more m k at s e, eq-eqb j own q)
 
     module _ (other : j ≡ own → ⊥) where
-      picked-other : picked n own z x j (bodies k (drop at s)) ≡ shareFrom (classOf H n j z (bodyAt at s)) ∷ After
+      picked-other : picked n own z x j (bodies k (drop at s)) ≡ shareFrom (classOf H session n j z (bodyAt at s)) ∷ After
       unfolding picked
       picked-other = rw (bodies-more m k at s e, ne-eqb j own other)
 
-      pub picked-missed : PassedOver (classOf H n j z (bodyAt at s)) → picked n own z x j (bodies k (drop at s)) ≡ [] ∷ After
-      picked-missed h = picked-other ∙ ap (λ (y : List ℕ). y ∷ After) (missed (classOf H n j z (bodyAt at s)) h)
+      pub picked-missed : PassedOver (classOf H session n j z (bodyAt at s)) → picked n own z x j (bodies k (drop at s)) ≡ [] ∷ After
+      picked-missed h = picked-other ∙ ap (λ (y : List ℕ). y ∷ After) (missed (classOf H session n j z (bodyAt at s)) h)
 
-      pub picked-held : (f l c : ℕ) → TakenAt s f l c (classOf H n j z (bodyAt at s))
+      pub picked-held : (f l c : ℕ) → TakenAt s f l c (classOf H session n j z (bodyAt at s))
           → picked n own z x j (bodies k (drop at s)) ≡ take l (drop f s) ∷ After
-      picked-held f l c h = picked-other ∙ ap (λ (y : List ℕ). y ∷ After) (held (classOf H n j z (bodyAt at s)) s f l c h)
+      picked-held f l c h = picked-other ∙ ap (λ (y : List ℕ). y ∷ After) (held (classOf H session n j z (bodyAt at s)) s f l c h)
+
+-- they are those of the definition
+pub picked-gathered : (H : List ℕ → List ℕ) (x : Party) (j : ℕ) (ps : List (List ℕ))
+    → picked H (x .seat .session) (x .seat .n) (x .seat .own) (x .root) (shareHeld x) j ps ≡ gathered H x j ps
+unfolding picked gathered
+picked-gathered H x j [] = refl
+picked-gathered H x j (p ∷ ps) =
+    ap (λ (l : List (List ℕ)). cond (eqb j (x .seat .own)) (shareHeld x) (shareFrom (classOf H (x .seat .session) (x .seat .n) j (x .root) p)) ∷ l)
+    (picked-gathered H x (j + 1) ps)

@@ -12,9 +12,9 @@ use Rattle.merkle.specs.Shares.{pathLengthOf}
 use Rattle.merkle.specs.declared.Counted.the-variants.{Hashes}
 use Rattle.party.specs.Steps.{openOf}
 
--- the cause of an opening with n, t, number 1 and a message
+-- the cause of an opening with n, t, number 1 and a message, under session number 0
 abbrev pub causeOf : ℕ → ℕ → List ℕ → ℕ
-causeOf n t m = openOf sha256 n t 1 m .cause
+causeOf n t m = openOf sha256 0 n t 1 m .cause
 
 pub record Cases : Type 0 where
   -- the field, the shares and the rebuilding

@@ -49,9 +49,9 @@ refusedBy k value out = record { opened = refusedOpening k; value = value; buffe
 
 -- causes 1, 2, 3, 4, then 9 for the packet; else the ordinary opening, and the packet at the start of the buffer
 module _ (H : List ℕ → List ℕ) where
-  unfoldable pub openBySenderOf : ℕ → ℕ → ℕ → ℕ → List ℕ → List ℕ → Begun
-  openBySenderOf n t own sender bs out =
+  unfoldable pub openBySenderOf : ℕ → ℕ → ℕ → ℕ → ℕ → List ℕ → List ℕ → Begun
+  openBySenderOf session n t own sender bs out =
       let p = packetBy n own sender bs in
       cond (not (eqb (senderCause n t own sender bs) 0)) (refusedBy (senderCause n t own sender bs) 0 out)
       (cond (ltb (length out) (length p)) (refusedBy 9 (length p) out)
-      (record { opened = openOf H n t own (messageBy own sender bs); value = length p; buffer = spliced out 0 p }))
+      (record { opened = openOf H session n t own (messageBy own sender bs); value = length p; buffer = spliced out 0 p }))

@@ -9,11 +9,11 @@ use lib.ListN.{length, take, replicate}
 use Rattle.limits.specs.Limits.{maxParties, maxMessage, maxShare, numbered, groupCause}
 use Rattle.merkle.specs.Shares.{blank, same}
 unfoldable pub use Rattle.commitment.specs.Commitment.{messageRoot}
+use Rattle.commitment.specs.declared.Seat.{Seat}
 use Rattle.party.specs.declared.Outcome.{Outcome}
 use Rattle.party.specs.declared.Outcome.the-variants.{Nothing, Message}
 use Rattle.party.specs.declared.Stage.{Stage}
 use Rattle.party.specs.declared.Stage.the-variants.{Root, Bit, First, Second, Ended}
-use Rattle.party.specs.declared.Seat.{Seat}
 use Rattle.party.specs.declared.Party.{Party}
 use Rattle.party.specs.declared.Limits.{Limits}
 
@@ -21,9 +21,9 @@ use Rattle.party.specs.declared.Limits.{Limits}
 abbrev pub partyLimits : Limits
 partyLimits = record { parties = maxParties; message = maxMessage }
 
--- the seat among n parties, of whom t may be bad, with the own number
-abbrev pub seatOf : ℕ → ℕ → ℕ → Seat
-seatOf n t own = record { n = n; t = t; own = own }
+-- the seat in a session of this number, among n parties, of whom t may be bad, with the own number
+abbrev pub seatOf : ℕ → ℕ → ℕ → ℕ → Seat
+seatOf session n t own = record { session = session; n = n; t = t; own = own }
 
 -- a list in an array of k bytes: zeros past its length
 abbrev pub padded : ℕ → List ℕ → List ℕ
@@ -115,7 +115,7 @@ hasEnded (Ended o) = true
 unfoldable pub blankState : Party
 blankState =
     record {
-      seat = seatOf 0 0 0;
+      seat = seatOf 0 0 0 0;
       stage = Root;
       message = replicate maxMessage 0;
       len = 0;
@@ -140,6 +140,6 @@ broken x =
     || overlong (x .stage)
 
 module _ (H : List ℕ → List ℕ) where
-  -- a party is happy if the agreed root is that of its own message: worked out, never stored
+  -- a party is happy if the agreed root is that of its own message under the session's number: worked out, never stored
   unfoldable pub happy : Party → Bool
-  happy x = same (messageRoot H (x .seat .n) (x .seat .t) (messageIn x)) (x .root)
+  happy x = same (messageRoot H (x .seat .session) (x .seat .n) (x .seat .t) (messageIn x)) (x .root)

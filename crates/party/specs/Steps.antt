@@ -45,12 +45,12 @@ stateCause turn x = cond (broken x) 5 (cond (not (eqb (turnOf (x .stage)) turn))
 abbrev pub refusedOpening : ℕ → Opened
 refusedOpening k = record { state = blankState; cause = k; root = blank }
 
--- step 1, the opening: causes 1, 2, 3, 4; the root of the message's shares goes to the short agreement
+-- step 1, the opening, in a session of this number, which the state keeps from now on (document 02, No. 6): causes 1, 2, 3, 4; the root of the message's shares goes to the short agreement
 module _ (H : List ℕ → List ℕ) where
-  unfoldable pub openOf : ℕ → ℕ → ℕ → List ℕ → Opened
-  openOf n t own m =
+  unfoldable pub openOf : ℕ → ℕ → ℕ → ℕ → List ℕ → Opened
+  openOf session n t own m =
       cond (not (eqb (openCause n t own (length m)) 0)) (refusedOpening (openCause n t own (length m)))
-      (record { state = atRoot (seatOf n t own) m; cause = 0; root = messageRoot H n t m })
+      (record { state = atRoot (seatOf session n t own) m; cause = 0; root = messageRoot H session n t m })
 
 -- what a step gives back: the state and the answer, with document 01's number of the cause (0: accepted), the value beside it (the length needed
 -- with cause 9; if accepted, of step 2 the party's bit, 1 for happy, of steps 3 and 4 how many bytes were written, of step 5 the message's
@@ -118,7 +118,7 @@ writes x next bs out =
 -- the packet with share j of a party's message
 module _ (H : List ℕ → List ℕ) where
   unfoldable pub packetFor : Party → ℕ → List ℕ
-  packetFor x j = packetWith H (x .seat .n) (x .seat .t) (messageIn x) j
+  packetFor x j = packetWith H (x .seat .session) (x .seat .n) (x .seat .t) (messageIn x) j
 
 -- step 3, the agreed bit: causes 5, 6, 7, 9. On 0 the party ends with nothing. On 1 a happy one writes for each other party j a packet
 -- with share j and its path; all else writes n lengths of zero
@@ -164,13 +164,13 @@ packetTaken x (found y p) = packetOf (x .seat .own) y p
 module _ (H : List ℕ → List ℕ) where
   -- of packets from senders numbered from j on, that of the lowest-numbered sender which bears the own number and passes the path
   -- check; the own entry is ignored
-  unfoldable pub firstValid : ℕ → ℕ → List ℕ → ℕ → List (List ℕ) → Taken
-  firstValid n own z j [] = missing
-  firstValid n own z j (p ∷ ps) =
-      cond (eqb j own) (firstValid n own z (j + 1) ps) (orLater (classOf H n own z p) (firstValid n own z (j + 1) ps))
+  unfoldable pub firstValid : ℕ → ℕ → ℕ → List ℕ → ℕ → List (List ℕ) → Taken
+  firstValid session n own z j [] = missing
+  firstValid session n own z j (p ∷ ps) =
+      cond (eqb j own) (firstValid session n own z (j + 1) ps) (orLater (classOf H session n own z p) (firstValid session n own z (j + 1) ps))
 
   abbrev pub takenBy : Party → List ℕ → Taken
-  takenBy x inbox = firstValid (x .seat .n) (x .seat .own) (x .root) 1 (bodies (x .seat .n) inbox)
+  takenBy x inbox = firstValid (x .seat .session) (x .seat .n) (x .seat .own) (x .root) 1 (bodies (x .seat .n) inbox)
 
   -- step 4, the first inbox: causes 5, 6, 8, 9. A happy party relays its own share, but not with n 1; another relays what it took
   abbrev pub ownRelay : Party → List ℕ
@@ -208,7 +208,7 @@ module _ (H : List ℕ → List ℕ) where
   unfoldable pub gathered : Party → ℕ → List (List ℕ) → List (List ℕ)
   gathered x j [] = []
   gathered x j (p ∷ ps) =
-      cond (eqb j (x .seat .own)) (shareHeld x) (shareFrom (classOf H (x .seat .n) j (x .root) p)) ∷ gathered x (j + 1) ps
+      cond (eqb j (x .seat .own)) (shareHeld x) (shareFrom (classOf H (x .seat .session) (x .seat .n) j (x .root) p)) ∷ gathered x (j + 1) ps
 
   -- what is rebuilt from these shares
   abbrev pub recoveredBy : Party → List ℕ → Recovered
@@ -217,7 +217,7 @@ module _ (H : List ℕ → List ℕ) where
   -- a happy party finds its message; another what it rebuilds, if that has the agreed root (document 02, No. 4)
   unfoldable pub resultFound : Party → List ℕ → Result
   resultFound x inbox =
-      cond (happy H x) (settled (messageIn x)) (rebuilt (underRoot H (x .seat .n) (x .seat .t) (x .root) (recoveredBy x inbox)))
+      cond (happy H x) (settled (messageIn x)) (rebuilt (underRoot H (x .seat .session) (x .seat .n) (x .seat .t) (x .root) (recoveredBy x inbox)))
 
 -- the result that a party holds, or else the one that it finds
 abbrev pub heldOr : Option Result → Result → Result

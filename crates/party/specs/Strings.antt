@@ -14,13 +14,13 @@ unlessValid (valid x p) ss = []
 
 module _ (H : List ℕ → List ℕ) where
   -- step 4 checks the packets that bear the own number, up to the first that passes; of senders numbered from j on
-  unfoldable pub shareStrings : ℕ → ℕ → List ℕ → ℕ → List (List ℕ) → List (List ℕ)
-  shareStrings n own z j [] = []
-  shareStrings n own z j (p ∷ ps) =
-      cond (eqb j own) (shareStrings n own z (j + 1) ps)
-      (classStrings H n own p ++ unlessValid (classOf H n own z p) (shareStrings n own z (j + 1) ps))
+  unfoldable pub shareStrings : ℕ → ℕ → ℕ → List ℕ → ℕ → List (List ℕ) → List (List ℕ)
+  shareStrings session n own z j [] = []
+  shareStrings session n own z j (p ∷ ps) =
+      cond (eqb j own) (shareStrings session n own z (j + 1) ps)
+      (classStrings H session n own p ++ unlessValid (classOf H session n own z p) (shareStrings session n own z (j + 1) ps))
 
   -- step 5 checks each other sender's packet that bears the sender's number
-  unfoldable pub relayStrings : ℕ → ℕ → ℕ → List (List ℕ) → List (List ℕ)
-  relayStrings n own j [] = []
-  relayStrings n own j (p ∷ ps) = cond (eqb j own) [] (classStrings H n j p) ++ relayStrings n own (j + 1) ps
+  unfoldable pub relayStrings : ℕ → ℕ → ℕ → ℕ → List (List ℕ) → List (List ℕ)
+  relayStrings session n own j [] = []
+  relayStrings session n own j (p ∷ ps) = cond (eqb j own) [] (classStrings H session n j p) ++ relayStrings session n own (j + 1) ps

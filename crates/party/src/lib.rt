@@ -18,6 +18,7 @@ ghost use Rattle.packet.specs.Message.{readMessage};
 ghost use Rattle.party.specs.Sender.{messageRead, senderCause, begun, openBySenderOf};
 ghost use Rattle.party.specs.Private.{Fit, TakenIs, Gathered, after};
 use buffer::Written;
+use commitment::Seat;
 use commitment::Sent;
 use erasure::Places;
 use limits::MAX_SHARE;
@@ -41,13 +42,6 @@ pub enum Stage {
     First,
     Second,
     Ended(Outcome),
-}
-
-// Where a party sits: how many there are, how many of them may be bad, and its own number.
-pub struct Seat {
-    pub n: usize,
-    pub t: usize,
-    pub own: usize,
 }
 
 // The state of a party.
@@ -114,19 +108,25 @@ impl Party {
         }
     }
 
-    // Step 1: the opening. The root goes to the short agreement.
-    pub fn open(n: usize, t: usize, own: usize, message: &[u8]) -> Opened
-        ensures { λ r. ⌜ r ≡ openOf sha256 n t own (now (message .entry)) ⌝ }
+    // Step 1: the opening, in the session of this number, which every good party opens with. The root goes to the short agreement.
+    pub fn open(session: u32, n: usize, t: usize, own: usize, message: &[u8]) -> Opened
+        ensures { λ r. ⌜ r ≡ openOf sha256 session n t own (now (message .entry)) ⌝ }
     {
         let cause = Party::open_cause(n, t, own, message.len());
         if cause != 0 {
             return refused_opening(cause);
         }
-        let Rooted { root, .. } = commitment::root(n, t, own, message);
+        let seat = Seat {
+            session,
+            n,
+            t,
+            own,
+        };
+        let Rooted { root, .. } = commitment::root(seat, message);
         let mut held = [0u8; Party::MAX_MESSAGE];
         buffer::put(&mut held, 0, message);
         let state = Party {
-            seat: Seat { n, t, own },
+            seat,
             stage: Stage::Root,
             message: held,
             len: message.len(),
@@ -144,6 +144,7 @@ impl Party {
     // The same where one party alone, the sender, has the message. It is handed its message, and writes a packet with it that goes to every other party;
     // each of these is handed the packet that came, and opens with the empty message where it can read none.
     pub fn open_by_sender(
+        session: u32,
         n: usize,
         t: usize,
         own: usize,
@@ -151,24 +152,24 @@ impl Party {
         bytes: &[u8],
         out: &mut [u8],
     ) -> OpenedBySender
-        ensures { λ r. ⌜ begun r (now (out .exit)) ≡ openBySenderOf sha256 n t own sender (now (bytes .entry)) (now (out .entry)) ⌝ }
+        ensures { λ r. ⌜ begun r (now (out .exit)) ≡ openBySenderOf sha256 session n t own sender (now (bytes .entry)) (now (out .entry)) ⌝ }
     {
         let cause = Party::sender_cause(n, t, own, sender, bytes);
         if cause != 0 {
             return begun(refused_opening(cause), 0);
         }
         if own != sender {
-            return begun(Party::open_with_packet(n, t, own, bytes), 0);
+            return begun(Party::open_with_packet(session, n, t, own, bytes), 0);
         }
         if n == 1 {
-            return begun(Party::open(n, t, own, bytes), 0);
+            return begun(Party::open(session, n, t, own, bytes), 0);
         }
         let answer = packet::write_message(bytes, out);
         let len = buffer::value_of(answer);
         let Written::Done(_) = answer else {
             return begun(refused_opening(9), len);
         };
-        begun(Party::open(n, t, own, bytes), len)
+        begun(Party::open(session, n, t, own, bytes), len)
     }
 
     // Why an opening by a named sender is refused before any buffer is looked at: cause 1, 2, 3 or 4, or 0.
@@ -191,14 +192,14 @@ impl Party {
     }
 
     // The opening with the message of a packet, or with the empty one.
-    fn open_with_packet(n: usize, t: usize, own: usize, bytes: &[u8]) -> Opened
-        ensures { λ r. ⌜ r ≡ openOf sha256 n t own (messageRead (readMessage (now (bytes .entry)))) ⌝ }
+    fn open_with_packet(session: u32, n: usize, t: usize, own: usize, bytes: &[u8]) -> Opened
+        ensures { λ r. ⌜ r ≡ openOf sha256 session n t own (messageRead (readMessage (now (bytes .entry)))) ⌝ }
     {
         let MessagePacket::Message(len) = packet::read_message(bytes) else {
-            return Party::open(n, t, own, &[]);
+            return Party::open(session, n, t, own, &[]);
         };
         let end = 3 + len;
-        Party::open(n, t, own, &bytes[3..end])
+        Party::open(session, n, t, own, &bytes[3..end])
     }
 
     // Step 2: the agreed root comes; the answer is this party's bit for the second short agreement.
@@ -253,6 +254,7 @@ impl Party {
         if cause != 0 {
             return self.refused(cause);
         }
+        let session = self.seat.session;
         let n = self.seat.n;
         let own = self.seat.own;
         let root = self.root;
@@ -261,7 +263,7 @@ impl Party {
         if happy {
             return self.after(next, answer);
         }
-        let Placed::At(from, len, count) = first_valid(n, own, &root, inbox) else {
+        let Placed::At(from, len, count) = first_valid(session, n, own, &root, inbox) else {
             return Reply {
                 state: next,
                 answer: Answer::Sent(0),
@@ -362,21 +364,14 @@ impl Party {
     fn send(self, relays: bool, out: &mut [u8]) -> Sent
         requires { ⌜ Fit self ⌝ }
         ensures { λ r. ⌜ (r .happy ≡ happy sha256 self)
-            × (r .happy ≡ true → gave (r .answer) (now (out .exit)) ≡ written (mailWith sha256 relays (self .seat .n) (self .seat .t) (self .seat .own) (messageIn self)) (now (out .entry)))
+            × (r .happy ≡ true → gave (r .answer) (now (out .exit)) ≡ written (mailWith sha256 (self .seat .session) relays (self .seat .n) (self .seat .t) (self .seat .own) (messageIn self)) (now (out .entry)))
             × (r .happy ≡ false → now (out .exit) ≡ now (out .entry)) ⌝ }
     {
+        let seat = self.seat;
         let root = self.root;
         let len = self.len;
         let message = self.message;
-        commitment::send(
-            relays,
-            self.seat.n,
-            self.seat.t,
-            self.seat.own,
-            &message[..len],
-            &root,
-            out,
-        )
+        commitment::send(relays, seat, &message[..len], &root, out)
     }
 
     // What comes of writing: the next state where bytes were written, else this one.
@@ -432,6 +427,7 @@ impl Party {
         requires { ⌜ Fit self × (fills (self .seat .n) (now inbox) ≡ true) ⌝ }
         ensures { λ r. ⌜ Gathered (self .seat .n) (gathered sha256 self 1 (bodies (self .seat .n) (now (inbox .entry)))) (now (inbox .entry)) (shareHeld self) r ⌝ }
     {
+        let session = self.seat.session;
         let n = self.seat.n;
         let own = self.seat.own;
         let root = self.root;
@@ -457,7 +453,7 @@ impl Party {
             else {
                 continue;
             };
-            let Judged::Valid = packet::judge(n, j, &root, inbox, packet) else {
+            let Judged::Valid = packet::judge(session, n, j, &root, inbox, packet) else {
                 continue;
             };
             from[i] = start;
@@ -577,10 +573,11 @@ impl Party {
     // Whether the agreed root is that of a message.
     fn has_root(self, message: &[u8]) -> bool
         requires { ⌜ Fit self × (length (now message) ≤ maxMessage) ⌝ }
-        ensures { λ r. ⌜ r ≡ same (messageRoot sha256 (self .seat .n) (self .seat .t) (now (message .entry))) (self .root) ⌝ }
+        ensures { λ r. ⌜ r ≡ same (messageRoot sha256 (self .seat .session) (self .seat .n) (self .seat .t) (now (message .entry))) (self .root) ⌝ }
     {
+        let seat = self.seat;
         let agreed = self.root;
-        let coded = commitment::root(self.seat.n, self.seat.t, self.seat.own, message).root;
+        let coded = commitment::root(seat, message).root;
         check::same(&coded, &agreed)
     }
 
@@ -608,9 +605,9 @@ enum Placed {
 }
 
 // What the lowest-numbered sender gave whose packet bears the own number and passes the check; the own entry is ignored.
-fn first_valid(n: usize, own: usize, root: &Hash, inbox: &[u8]) -> Placed
+fn first_valid(session: u32, n: usize, own: usize, root: &Hash, inbox: &[u8]) -> Placed
     requires { ⌜ (1 ≤ n) × (n ≤ maxParties) × (1 ≤ own) × (own ≤ n) × (fills n (now inbox) ≡ true) × (length (now root) ≡ 32) ⌝ }
-    ensures { λ r. ⌜ TakenIs r (firstValid sha256 n own (now (root .entry)) 1 (bodies n (now (inbox .entry)))) (now (inbox .entry)) ⌝ }
+    ensures { λ r. ⌜ TakenIs r (firstValid sha256 session n own (now (root .entry)) 1 (bodies n (now (inbox .entry)))) (now (inbox .entry)) ⌝ }
 {
     let mut at: usize = 0;
     let mut j: usize = 0;
@@ -630,7 +627,7 @@ fn first_valid(n: usize, own: usize, root: &Hash, inbox: &[u8]) -> Placed
         else {
             continue;
         };
-        let Judged::Valid = packet::judge(n, own, root, inbox, packet) else {
+        let Judged::Valid = packet::judge(session, n, own, root, inbox, packet) else {
             continue;
         };
         return Placed::At(from, len, count);
@@ -642,7 +639,12 @@ fn blank() -> Party
     ensures { λ r. ⌜ r ≡ blankState ⌝ }
 {
     Party {
-        seat: Seat { n: 0, t: 0, own: 0 },
+        seat: Seat {
+            session: 0,
+            n: 0,
+            t: 0,
+            own: 0,
+        },
         stage: Stage::Root,
         message: [0; Party::MAX_MESSAGE],
         len: 0,

@@ -12,7 +12,7 @@ use Rattle.limits.specs.Limits.{maxMessage, maxPlan, parties, numbered, groupCa
 use Rattle.buffer.specs.Entries.{size, body, rest}
 use Rattle.buffer.proofs.Entries.{entry, entry-body}
 use Rattle.plan.specs.Layout.{every, walk, skipEntry, partyEntry, skipBlock, packetFrom, fieldBytes, rootIn, bitIn, goodIn, exchangeIn, endOf, laidOut}
-use Rattle.plan.specs.Layout.{holders, behindBooks, senderPacket}
+use Rattle.plan.specs.Layout.{wordAt, sessionOf, holders, behindBooks, senderPacket}
 use Rattle.plan.specs.Plan.{planCause, planOf}
 use Rattle.plan.proofs.Blocks.{entry-skipped}
 
@@ -22,8 +22,8 @@ worked =
     0x03 ∷ 0x01 ∷ 0x00 ∷ 0x00 ∷ 0x03 ∷ 0x00 ∷ 0x02 ∷ 0x41 ∷ 0x42 ∷ 0x00 ∷ 0x02 ∷ 0x41 ∷ 0x42 ∷ 0x00 ∷ 0x00 ∷ 0x00 ∷ 0x00 ∷ []
 
 pub worked-read : planOf worked
-    ≡ record { cause = 0; n = 3; t = 1; options = 0; sender = 0; good = 3; holders = 3; books = 5; packets = 13; exchanges = 13 }
-unfolding parties groupCause size rest skipEntry skipBlock every numbered body partyEntry holders behindBooks exchangeIn walk fieldBytes endOf laidOut planCause planOf
+    ≡ record { cause = 0; n = 3; t = 1; options = 0; sender = 0; session = 0; good = 3; holders = 3; books = 5; packets = 13; exchanges = 13 }
+unfolding parties groupCause size rest skipEntry skipBlock every numbered body partyEntry wordAt sessionOf holders behindBooks exchangeIn walk fieldBytes endOf laidOut planCause planOf
 worked-read = refl
 
 pub worked-book : partyEntry 3 3 2 (drop 5 worked) ≡ 0x41 ∷ 0x42 ∷ []
@@ -52,7 +52,7 @@ pub left-over : planCause (worked ++ (0x00 ∷ [])) ≡ 13
 unfolding parties groupCause size rest skipEntry skipBlock every numbered holders walk fieldBytes endOf laidOut planCause
 left-over = refl
 
-pub unknown-option : planCause (0x03 ∷ 0x01 ∷ 0x08 ∷ drop 3 worked) ≡ 13
+pub unknown-option : planCause (0x03 ∷ 0x01 ∷ 0x10 ∷ drop 3 worked) ≡ 13
 unfolding parties groupCause fieldBytes endOf laidOut planCause
 unknown-option = refl
 
@@ -69,13 +69,13 @@ abbrev block : List ℕ
 block = 0x00 ∷ 0x01 ∷ 0x00 ∷ 0x03 ∷ 0x08 ∷ 0x00 ∷ 0x00 ∷ []
 
 pub good-sender : planOf (sends 2 (0x00 ∷ 0x01 ∷ 0x41 ∷ []))
-    ≡ record { cause = 0; n = 3; t = 1; options = 4; sender = 2; good = 3; holders = 2; books = 6; packets = 9; exchanges = 9 }
-unfolding parties groupCause size rest skipEntry skipBlock every numbered body partyEntry holders behindBooks exchangeIn walk fieldBytes endOf laidOut planCause planOf
+    ≡ record { cause = 0; n = 3; t = 1; options = 4; sender = 2; session = 0; good = 3; holders = 2; books = 6; packets = 9; exchanges = 9 }
+unfolding parties groupCause size rest skipEntry skipBlock every numbered body partyEntry sessionOf holders behindBooks exchangeIn walk fieldBytes endOf laidOut planCause planOf
 good-sender = refl
 
 pub bad-sender : planOf (sends 3 block)
-    ≡ record { cause = 0; n = 3; t = 1; options = 4; sender = 3; good = 3; holders = 0; books = 6; packets = 6; exchanges = 13 }
-unfolding parties groupCause size rest skipEntry skipBlock every numbered body partyEntry holders behindBooks exchangeIn walk fieldBytes endOf laidOut planCause planOf
+    ≡ record { cause = 0; n = 3; t = 1; options = 4; sender = 3; session = 0; good = 3; holders = 0; books = 6; packets = 6; exchanges = 13 }
+unfolding parties groupCause size rest skipEntry skipBlock every numbered body partyEntry sessionOf holders behindBooks exchangeIn walk fieldBytes endOf laidOut planCause planOf
 bad-sender = refl
 
 pub sender-sends : (senderPacket 1 (sends 3 block) ≡ 0x08 ∷ 0x00 ∷ 0x00 ∷ []) × (senderPacket 2 (sends 3 block) ≡ [])
@@ -94,6 +94,34 @@ no-sender-block = (refl, refl)
 pub second-book : planCause (sends 2 (0x00 ∷ 0x01 ∷ 0x41 ∷ 0x00 ∷ 0x01 ∷ 0x41 ∷ [])) ≡ 13
 unfolding parties groupCause size rest skipEntry skipBlock every numbered holders walk fieldBytes endOf laidOut planCause
 second-book = refl
+
+-- the same parties in a session whose number has the four bytes i, the highest first. Number 0 has the parts of no number, but that they start four bytes later;
+-- the field stands behind a sender's; a plan that ends in it is badly laid out
+abbrev inSession : List ℕ → List ℕ
+inSession i = 0x03 ∷ 0x01 ∷ 0x08 ∷ (i ++ drop 3 worked)
+
+pub session-read : planOf (inSession (0x00 ∷ 0x00 ∷ 0x00 ∷ 0x07 ∷ []))
+    ≡ record { cause = 0; n = 3; t = 1; options = 8; sender = 0; session = 7; good = 3; holders = 3; books = 9; packets = 17; exchanges = 17 }
+unfolding parties groupCause size rest skipEntry skipBlock every numbered body partyEntry wordAt sessionOf holders behindBooks exchangeIn walk fieldBytes endOf laidOut planCause planOf
+session-read = refl
+
+pub session-zero : planOf (inSession (replicate 4 0x00))
+    ≡ record { cause = 0; n = 3; t = 1; options = 8; sender = 0; session = 0; good = 3; holders = 3; books = 9; packets = 17; exchanges = 17 }
+unfolding parties groupCause size rest skipEntry skipBlock every numbered body partyEntry wordAt sessionOf holders behindBooks exchangeIn walk fieldBytes endOf laidOut planCause planOf
+session-zero = refl
+
+pub session-high : sessionOf (inSession (0x01 ∷ 0x00 ∷ 0x00 ∷ 0x00 ∷ [])) ≡ 0x01000000
+unfolding fieldBytes wordAt sessionOf
+session-high = refl
+
+pub session-behind-sender : planOf (0x03 ∷ 0x01 ∷ 0x0C ∷ 0x02 ∷ 0x00 ∷ 0x00 ∷ 0x01 ∷ 0x02 ∷ drop 4 (sends 2 (0x00 ∷ 0x01 ∷ 0x41 ∷ [])))
+    ≡ record { cause = 0; n = 3; t = 1; options = 12; sender = 2; session = 258; good = 3; holders = 2; books = 10; packets = 13; exchanges = 13 }
+unfolding parties groupCause size rest skipEntry skipBlock every numbered body partyEntry wordAt sessionOf holders behindBooks exchangeIn walk fieldBytes endOf laidOut planCause planOf
+session-behind-sender = refl
+
+pub session-cut : planCause (take 6 (inSession (replicate 4 0x00))) ≡ 13
+unfolding parties groupCause fieldBytes endOf laidOut planCause
+session-cut = refl
 
 -- one party with the message m, and bytes behind it
 abbrev alone : List ℕ → List ℕ → List ℕ

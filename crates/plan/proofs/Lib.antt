@@ -5,6 +5,7 @@ pub mod Tails
 pub mod Packets
 pub mod Blocks
 pub mod Reading
+pub mod Session
 pub mod Given
 pub mod Cases
 pub mod Accepted

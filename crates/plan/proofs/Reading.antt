@@ -11,7 +11,7 @@ use lib.ListN.{length, drop, length-drop}
 use Rattle.limits.specs.Limits.{maxParties, maxPlan, numbered, groupCause}
 use Rattle.limits.proofs.Ranges.{numbered-range}
 use Rattle.plan.specs.Layout.{names, member, only, skipBlock}
-use Rattle.plan.specs.Layout.{mapWidth, andThen, orEmpty, skipEntries, booksFit, fields, nIn, tIn, optionsIn, hasSender, senderIn, goodAt, goodIn, booksIn, walk}
+use Rattle.plan.specs.Layout.{mapWidth, andThen, orEmpty, skipEntries, booksFit, fields, nIn, tIn, optionsIn, hasSender, senderIn, sessionOf, goodAt, goodIn, booksIn, walk}
 use Rattle.plan.specs.Layout.{holders, behindBooks, skipSender, exchanges, skipExchanges, exchangeIn, exchangeAt, endOf, laidOut}
 use Rattle.plan.specs.Plan.{planCause, refused, partsOf, planOf}
 use Rattle.plan.specs.Private.{Header, sourceOf, holdersBy, skipSenderBy}
@@ -111,6 +111,7 @@ pub record Parts (x : Plan) (s : List ℕ) : Type 0 where
   pub t-is : x .t ≡ tIn s
   pub options-is : x .options ≡ optionsIn s
   pub sender-is : x .sender ≡ cond (hasSender s) (senderIn s) 0
+  pub session-is : x .session ≡ sessionOf s
   pub good-is : x .good ≡ goodIn s
   pub holders-is : x .holders ≡ holders s
   pub books-is : x .books ≡ goodAt s + mapWidth
@@ -120,14 +121,14 @@ pub record Parts (x : Plan) (s : List ℕ) : Type 0 where
 parts-same : (x : Plan) (s : List ℕ) → x .cause ≡ 0 → Parts x s
     → x ≡ partsOf s
 parts-same x s e p =
-    go (x .cause) (x .n) (x .t) (x .options) (x .sender) (x .good) (x .holders) (x .books) (x .packets) (x .exchanges) e (p .n-is) (p .t-is) (p .options-is)
-    (p .sender-is) (p .good-is) (p .holders-is) (p .books-is) (p .packets-is) (p .exchanges-is)
+    go (x .cause) (x .n) (x .t) (x .options) (x .sender) (x .session) (x .good) (x .holders) (x .books) (x .packets) (x .exchanges) e (p .n-is) (p .t-is)
+    (p .options-is) (p .sender-is) (p .session-is) (p .good-is) (p .holders-is) (p .books-is) (p .packets-is) (p .exchanges-is)
   where
-    go : (c n t o q g h b k f : ℕ) {c' n' t' o' q' g' h' b' k' f' : ℕ} → c ≡ c' → n ≡ n' → t ≡ t' → o ≡ o' → q ≡ q' → g ≡ g' → h ≡ h' → b ≡ b'
-        → k ≡ k' → f ≡ f'
-        → _≡_ {A = Plan} (record { cause = c; n = n; t = t; options = o; sender = q; good = g; holders = h; books = b; packets = k; exchanges = f })
-        (record { cause = c'; n = n'; t = t'; options = o'; sender = q'; good = g'; holders = h'; books = b'; packets = k'; exchanges = f' })
-    go c n t o q g h b k f ec en et eo eq eg eh eb ek ef = rw (ec, en, et, eo, eq, eg, eh, eb, ek, ef)
+    go : (c n t o q i g h b k f : ℕ) {c' n' t' o' q' i' g' h' b' k' f' : ℕ} → c ≡ c' → n ≡ n' → t ≡ t' → o ≡ o' → q ≡ q' → i ≡ i' → g ≡ g'
+        → h ≡ h' → b ≡ b' → k ≡ k' → f ≡ f'
+        → _≡_ {A = Plan} (record { cause = c; n = n; t = t; options = o; sender = q; session = i; good = g; holders = h; books = b; packets = k; exchanges = f })
+        (record { cause = c'; n = n'; t = t'; options = o'; sender = q'; session = i'; good = g'; holders = h'; books = b'; packets = k'; exchanges = f' })
+    go c n t o q i g h b k f ec en et eo eq ei eg eh eb ek ef = rw (ec, en, et, eo, eq, ei, eg, eh, eb, ek, ef)
 
 -- the causes
 module _ (s : List ℕ) where

@@ -1,10 +1,10 @@
 -- The layout of a plan (document 01, "The rehearsal"): n, t, an option map, the fields of the options that it names, a map of good parties, their
 -- books, and for each exchange the blocks of the bad parties. Where one party sends (document 02, No. 5), its book alone is listed, if it is good; if it is
--- not, no book is, and a block of its own stands before the first exchange. Assumes nothing.
+-- not, no book is, and a block of its own stands before the first exchange. A plan may give the sitting's number (No. 6). Assumes nothing.
 use mathlib.Core.Bool.{Bool, true, false, cond, not, _&&_, _||_}
 use mathlib.Core.List.{List, [], _∷_}
 use mathlib.Core.Option.{Option, none, some}
-use Prim.Native.Nat.{ℕ, zero, suc, _+_, _-_, _/_, _%_, _^_}
+use Prim.Native.Nat.{ℕ, zero, suc, _+_, _-_, _*_, _/_, _%_, _^_}
 use lib.Dec.{ltb, leb, eqb}
 use lib.ListN.{length, getD, take, drop}
 use Rattle.limits.specs.Limits.{maxMessage, numbered}
@@ -88,10 +88,10 @@ skipExchange n g s = skipBlocks n n g s
 unfoldable pub packetFrom : ℕ → ℕ → ℕ → ℕ → List ℕ → List ℕ
 packetFrom n g q i s = cond (numbered n q && not (names g q)) (blockEntry n i (orEmpty (skipBlocks (q - 1) n g s))) []
 
--- Options are numbered from 1 and named by the option map, as parties are by theirs: a root, then a bit, then a sender. The bytes of the field of each, in
--- this order.
+-- Options are numbered from 1 and named by the option map, as parties are by theirs: a root, then a bit, then a sender, then the session's number. The bytes
+-- of the field of each, in this order.
 abbrev pub fields : List ℕ
-fields = 32 ∷ 1 ∷ 1 ∷ []
+fields = 32 ∷ 1 ∷ 1 ∷ 4 ∷ []
 
 abbrev pub rootOption : ℕ
 rootOption = 1
@@ -101,6 +101,9 @@ bitOption = 2
 
 abbrev pub senderOption : ℕ
 senderOption = 3
+
+abbrev pub sessionOption : ℕ
+sessionOption = 4
 
 -- the bytes of the fields of those of the first k options that a map names
 unfoldable pub fieldBytes : ℕ → ℕ → ℕ
@@ -142,6 +145,20 @@ hasSender s = names (optionsIn s) senderOption
 
 abbrev pub senderIn : List ℕ → ℕ
 senderIn s = getD s (fieldAt (optionsIn s) senderOption) 0
+
+-- the four bytes at an offset as one number, the highest first
+unfoldable pub wordAt : List ℕ → ℕ → ℕ
+wordAt s at = getD s at 0 * 2 ^ 24 + getD s (at + 1) 0 * 2 ^ 16 + getD s (at + 2) 0 * 2 ^ 8 + getD s (at + 3) 0
+
+abbrev pub hasSession : List ℕ → Bool
+hasSession s = names (optionsIn s) sessionOption
+
+abbrev pub sessionIn : List ℕ → ℕ
+sessionIn s = wordAt s (fieldAt (optionsIn s) sessionOption)
+
+-- the session's number, which is document 02's sitting number (No. 6): the one that is given, or 0
+unfoldable pub sessionOf : List ℕ → ℕ
+sessionOf s = cond (hasSession s) (sessionIn s) 0
 
 abbrev pub goodAt : List ℕ → ℕ
 goodAt s = fieldAt (optionsIn s) (length fields + 1)

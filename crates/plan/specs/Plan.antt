@@ -8,7 +8,7 @@ use lib.ListN.{length, drop}
 use Rattle.limits.specs.Limits.{maxPlan, parties, numbered, groupCause}
 use Rattle.buffer.specs.Given.{Given, gave, written}
 use Rattle.buffer.specs.declared.Written.the-variants.{Refused}
-use Rattle.plan.specs.Layout.{mapWidth, member, partyEntry, booksFit, blockEntry, packetFrom, orEmpty, nIn, tIn, optionsIn, hasSender, senderIn}
+use Rattle.plan.specs.Layout.{mapWidth, member, partyEntry, booksFit, blockEntry, packetFrom, orEmpty, nIn, tIn, optionsIn, hasSender, senderIn, sessionOf}
 use Rattle.plan.specs.Layout.{goodAt, goodIn, booksIn, holders, behindBooks, skipExchanges, exchangeAt, laidOut}
 use Rattle.plan.specs.declared.Plan.{Plan}
 
@@ -25,7 +25,7 @@ planCause s =
 -- nothing is told of a plan that is refused
 abbrev pub refused : ℕ → Plan
 refused k =
-    record { cause = k; n = 0; t = 0; options = 0; sender = 0; good = 0; holders = 0; books = 0; packets = 0; exchanges = 0 }
+    record { cause = k; n = 0; t = 0; options = 0; sender = 0; session = 0; good = 0; holders = 0; books = 0; packets = 0; exchanges = 0 }
 
 -- the parts; the books, what stands behind them and the exchanges by where they start
 abbrev pub partsOf : List ℕ → Plan
@@ -36,6 +36,7 @@ partsOf s =
       t = tIn s;
       options = optionsIn s;
       sender = cond (hasSender s) (senderIn s) 0;
+      session = sessionOf s;
       good = goodIn s;
       holders = holders s;
       books = goodAt s + mapWidth;

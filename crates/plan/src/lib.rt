@@ -1,13 +1,13 @@
 // The plan of a rehearsal: what its bytes say, and why it is refused.
 ghost use mathlib.Core.Path.{_≡_};
 ghost use mathlib.Core.Bool.{true, not, _&&_};
-ghost use Prim.Native.Nat.{_+_, _-_, _≤_, _<_, _^_};
+ghost use Prim.Native.Nat.{_+_, _-_, _*_, _≤_, _<_, _^_};
 ghost use lib.Dec.{ltb};
 ghost use lib.ListN.{length, take, drop};
 ghost use Rattle.limits.specs.Limits.{maxParties, numbered};
 ghost use Rattle.buffer.specs.Given.{gave, written};
 ghost use Rattle.plan.specs.Layout.{names, member, within, skipEntry, skipEntries, partyEntry, booksFit, skipBlock, skipBlocks, blockEntry, packetFrom};
-ghost use Rattle.plan.specs.Layout.{fieldAt, nIn, optionsIn, goodAt, goodIn, holders, skipExchanges};
+ghost use Rattle.plan.specs.Layout.{fieldAt, nIn, optionsIn, sessionOf, goodAt, goodIn, holders, skipExchanges};
 ghost use Rattle.plan.specs.Plan.{refused, planOf, bookGiven, packetGiven, blockGiven, exchangeOf};
 ghost use Rattle.plan.specs.Private.{Ends, orEnd, Spans, Header, HeaderEnds, Rest, sourceOf, holdersBy, skipSenderBy, LaidAt};
 use buffer::Written;
@@ -21,9 +21,9 @@ const MAP: usize = 2;
 const HEAD: usize = 3;
 
 // The number of options, and the bytes of the field of each: option k, from 1 on, has the value two to the k - 1 in the option map.
-const OPTIONS: usize = 3;
+const OPTIONS: usize = 4;
 
-const FIELDS: [usize; OPTIONS] = [32, 1, 1];
+const FIELDS: [usize; OPTIONS] = [32, 1, 1, 4];
 
 pub const ROOT: usize = 1;
 
@@ -31,17 +31,20 @@ pub const BIT: usize = 2;
 
 pub const SENDER: usize = 3;
 
+const SESSION: usize = 4;
+
 // The number of exchanges.
 const EXCHANGES: usize = 2;
 
-// A plan's parts: n, t, the option map, the sender's number or 0, the maps of good parties and of those whose books are listed, and where the books, a bad
-// sender's packets and the exchanges start. The cause is 0 if the plan is taken; else all parts are 0.
+// A plan's parts: n, t, the option map, the sender's number or 0, the session's number, the maps of good parties and of those whose books are listed, and
+// where the books, a bad sender's packets and the exchanges start. The cause is 0 if the plan is taken; else all parts are 0.
 pub struct Plan {
     pub cause: u8,
     pub n: usize,
     pub t: usize,
     pub options: usize,
     pub sender: usize,
+    pub session: u32,
     pub good: usize,
     pub holders: usize,
     pub books: usize,
@@ -184,6 +187,7 @@ fn refused(cause: u8) -> Plan
         t: 0,
         options: 0,
         sender: 0,
+        session: 0,
         good: 0,
         holders: 0,
         books: 0,
@@ -244,6 +248,7 @@ fn parts(plan: &[u8], n: usize, t: usize, books: usize) -> Plan
         t,
         options,
         sender: source.number,
+        session: session_of(plan, options),
         good,
         holders,
         books,
@@ -271,6 +276,25 @@ fn sender_of(plan: &[u8], options: usize, n: usize, good: usize) -> Source
         number,
         good: member(n, good, number),
     }
+}
+
+// The session's number: the one that a plan gives, or 0.
+fn session_of(plan: &[u8], options: usize) -> u32
+    requires { ⌜ (options ≡ optionsIn (now plan)) × (goodAt (now plan) ≤ length (now plan)) ⌝ }
+    ensures { λ r. ⌜ r ≡ sessionOf (now (plan .entry)) ⌝ }
+{
+    if names(options, SESSION) {
+        let at = field_at(options, SESSION);
+        return word(plan[at], plan[at + 1], plan[at + 2], plan[at + 3]);
+    }
+    0
+}
+
+// Four bytes as one number, the highest first.
+fn word(a: u8, b: u8, c: u8, d: u8) -> u32
+    ensures { λ r. ⌜ r ≡ a * 2 ^ 24 + b * 2 ^ 16 + c * 2 ^ 8 + d ⌝ }
+{
+    (a as u32) * 16777216 + (b as u32) * 65536 + (c as u32) * 256 + (d as u32)
 }
 
 // Whether a plan names a sender that is none of n parties.

@@ -3,7 +3,7 @@
 use mathlib.Core.Path.{_≡_, refl, sym, ap, _∙_}
 use mathlib.Core.Bool.{cond}
 use mathlib.Core.List.{List, [], _++_, append-assoc}
-use Prim.Native.Nat.{ℕ, _+_, _-_, _*_, _/_, _%_, _≤_, _<_}
+use Prim.Native.Nat.{ℕ, _+_, _-_, _*_, _/_, _%_, _^_, _≤_, _<_}
 use native.Mathlib.Nat.{mod-eq-of-lt}
 use native.Mathlib.Omega.{arith}
 use lib.Dec.{eqb}
@@ -12,22 +12,25 @@ use lib.Seq.{take-at, drop-at, drop-drop}
 use Rattle.limits.specs.Limits.{maxParties, maxMessage, maxShare}
 use Rattle.buffer.specs.Splice.{spliced}
 use Rattle.buffer.specs.Entries.{size}
+use Rattle.buffer.specs.Numbers.{fourBytes, number}
 use Rattle.buffer.specs.Given.{Given, written}
 use Rattle.buffer.proofs.Splice.{length-spliced, spliced-start}
 use Rattle.buffer.proofs.Given.{written-done}
+use Rattle.buffer.proofs.Numbers.{number-back}
 use Rattle.merkle.specs.Shares.{blank}
 use Rattle.party.specs.State.{Result, nothing, settled, resultBytes, padded, atRoot, atBit, atFirst, atSecond, atEnd}
 use Rattle.party.specs.declared.Outcome.the-variants as outcome
 use Rattle.party.specs.declared.Stage.{Stage}
 use Rattle.party.specs.declared.Stage.the-variants.{Root, Bit, First, Second, Ended}
-use Rattle.party.specs.declared.Seat.{Seat}
+use Rattle.commitment.specs.declared.Seat.{Seat}
 use Rattle.party.specs.declared.Party.{Party}
 use Rattle.state_bytes.specs.Layout.{rootPlace, headLength, stateLength, stageNumber, lengthFor, headOf, stateBytes, stageOf}
-use Rattle.state_bytes.specs.Layout.{layoutVersion, versionTold, stageTold, lengthTold, heldTold, stateOf}
+use Rattle.state_bytes.specs.Layout.{layoutVersion, versionTold, stageTold, lengthTold, heldTold, sessionTold, stateOf}
 use Rattle.state_bytes.proofs.Reading.{fields-are, bytes-long, state-read}
 
 -- a state whose fields fit their places; an end with a message has no other length
 pub record Storable (x : Party) : Type 0 where
+  pub session : x .seat .session < 2 ^ 32
   pub parties : x .seat .n < 256
   pub faults : x .seat .t < 256
   pub number : x .seat .own < 256
@@ -71,7 +74,7 @@ module _ (x : Party) (f : Storable x) (r : List ℕ) where
   M = x .message ++ (x .share ++ r)
 
   behind-head : drop rootPlace B ≡ x .root ++ M
-  unfolding stateBytes headOf
+  unfolding stateBytes headOf fourBytes
   behind-head =
       append-assoc (x .root) (x .message ++ x .share) r ∙ ap (λ (l : List ℕ). x .root ++ l) (append-assoc (x .message) (x .share) r)
 
@@ -98,9 +101,9 @@ module _ (x : Party) (f : Storable x) (r : List ℕ) where
   unfolding stateBytes headOf
   own-back = sym (mod-eq-of-lt (f .number))
 
-  number-back : stageNumber (x .stage) ≡ stageTold B
+  stage-told : stageNumber (x .stage) ≡ stageTold B
   unfolding stateBytes headOf
-  number-back = refl
+  stage-told = refl
 
   length-back : lengthFor (x .stage) (x .len) ≡ lengthTold B
   unfolding stateBytes headOf size
@@ -110,11 +113,18 @@ module _ (x : Party) (f : Storable x) (r : List ℕ) where
   unfolding stateBytes headOf size
   held-back = pair-back (x .held) (f .few)
 
+  session-back : x .seat .session ≡ sessionTold B
+  unfolding stateBytes headOf
+  session-back =
+      let k : List ℕ = fourBytes (x .seat .session) in
+      let rest : List ℕ = x .root ++ (x .message ++ x .share) in
+      sym (ap number (append-assoc k rest r) ∙ number-back (x .seat .session) (rest ++ r) (f .session))
+
   read-back : stateOf B ≡ x
   read-back =
-      state-read B long version-back (omega (arith, stage-known (x .stage), number-back))
-      ∙ sym (fields-are B (stageNumber (x .stage)) (lengthFor (x .stage) (x .len)) (x .seat .n) (x .seat .t) (x .seat .own) (x .stage)
-      (x .message) (x .len) (x .root) (x .share) (x .held) number-back length-back n-back t-back own-back (stage-back (x .stage) (x .len))
+      state-read B long version-back (omega (arith, stage-known (x .stage), stage-told))
+      ∙ sym (fields-are B (stageNumber (x .stage)) (lengthFor (x .stage) (x .len)) (x .seat .session) (x .seat .n) (x .seat .t) (x .seat .own) (x .stage)
+      (x .message) (x .len) (x .root) (x .share) (x .held) stage-told length-back session-back n-back t-back own-back (stage-back (x .stage) (x .len))
       (sym (ap (take maxMessage) behind-root ∙ take-at (x .message) (x .share ++ r) maxMessage (f .message))) (sym (f .only))
       (sym (ap (take 32) behind-head ∙ take-at (x .root) M 32 (f .root)))
       (sym (ap (take maxShare) behind-message ∙ take-at (x .share) r maxShare (f .share))) held-back)
@@ -145,7 +155,7 @@ written-again x f s long =
 length-padded : (k : ℕ) (l : List ℕ) → length l ≤ k → length (padded k l) ≡ k
 length-padded k l h = length-append l (replicate (k - length l) 0) ∙ omega (arith, length-replicate {A = ℕ} (k - length l) 0)
 
-module _ (s : Seat) (high : s .n ≤ maxParties) (faults : 2 * s .t < s .n) (last : s .own ≤ s .n) where
+module _ (s : Seat) (four : s .session < 2 ^ 32) (high : s .n ≤ maxParties) (faults : 2 * s .t < s .n) (last : s .own ≤ s .n) where
   formed : (k : Stage) (m z y : List ℕ) (len : ℕ) → length m ≤ maxMessage → length z ≡ 32 → length y ≤ maxShare → lengthFor k len < 65536
       → cond (eqb (stageNumber k) 5) 0 (lengthFor k len) ≡ len
       → Storable (record {
@@ -159,6 +169,7 @@ module _ (s : Seat) (high : s .n ≤ maxParties) (faults : 2 * s .t < s .n) (las
       })
   formed k m z y len short root few told only =
       record {
+        session = four;
         parties = omega arith;
         faults = omega arith;
         number = omega arith;

@@ -11,6 +11,7 @@ use lib.ListN.{length, getD, take, drop, replicate, length-append, length-drop}
 use lib.Seq.{length-take-le}
 use Rattle.limits.specs.Limits.{maxMessage, maxShare}
 use Rattle.buffer.specs.Splice.{spliced, putOf}
+use Rattle.buffer.specs.Numbers.{fourBytes}
 use Rattle.buffer.specs.Given.{gave, written}
 use Rattle.buffer.specs.declared.Written.the-variants as given
 use Rattle.buffer.proofs.Splice.{put-fits, length-spliced, spliced-more}
@@ -22,7 +23,7 @@ use Rattle.party.specs.declared.Stage.{Stage}
 use Rattle.party.specs.declared.Stage.the-variants.{Root, Bit, First, Second, Ended}
 use Rattle.party.specs.declared.Party.{Party}
 use Rattle.state_bytes.specs.Layout.{layoutVersion, rootPlace, headLength, stateLength, stageNumber, lengthFor, headOf, stateBytes, stageOf}
-use Rattle.state_bytes.specs.Layout.{versionTold, stageTold, lengthTold, heldTold, readIn, stateOf}
+use Rattle.state_bytes.specs.Layout.{versionTold, stageTold, lengthTold, heldTold, sessionTold, readIn, stateOf}
 
 -- a part of a list has the length that was asked for, where the list is long enough; so put into an array of that length it is all there is
 length-part : (at k : ℕ) (s : List ℕ) → at + k ≤ length s → length (take k (drop at s)) ≡ k
@@ -101,19 +102,20 @@ root-32 s = elim (decLt (length s) stateLength) [
 ]
 
 -- the numbers before the root
-pub head-is : (x : Party) (len a b c d e f g h : ℕ) → len ≡ lengthFor (x .stage) (x .len) → a ≡ x .seat .n % 256 → b ≡ x .seat .t % 256
+pub head-is : (x : Party) (len a b c d e f g h : ℕ) (k : List ℕ) → len ≡ lengthFor (x .stage) (x .len) → a ≡ x .seat .n % 256 → b ≡ x .seat .t % 256
     → c ≡ x .seat .own % 256 → d ≡ stageNumber (x .stage) → e ≡ len / 256 % 256 → f ≡ len % 256 → g ≡ x .held / 256 % 256 → h ≡ x .held % 256
-    → layoutVersion ∷ a ∷ b ∷ c ∷ d ∷ e ∷ f ∷ g ∷ h ∷ [] ≡ headOf x
-unfolding headOf
-head-is x len a b c d e f g h l qa qb qc qd qe qf qg qh = rw (qa, qb, qc, qd, qe, qf, qg, qh, l)
+    → k ≡ fourBytes (x .seat .session)
+    → layoutVersion ∷ a ∷ b ∷ c ∷ d ∷ e ∷ f ∷ g ∷ h ∷ getD k 0 0 ∷ getD k 1 0 ∷ getD k 2 0 ∷ getD k 3 0 ∷ [] ≡ headOf x
+unfolding headOf fourBytes
+head-is x len a b c d e f g h k l qa qb qc qd qe qf qg qh qk = rw (qa, qb, qc, qd, qe, qf, qg, qh, qk, l)
 
 -- a state whose fields are those that the bytes say
-pub fields-are : (s : List ℕ) (number len n t own : ℕ) (stage : Stage) (message : List ℕ) (l : ℕ) (root share : List ℕ) (held : ℕ)
-    → number ≡ stageTold s → len ≡ lengthTold s → n ≡ getD s 1 0 → t ≡ getD s 2 0 → own ≡ getD s 3 0 → stage ≡ stageOf number len
+pub fields-are : (s : List ℕ) (number len session n t own : ℕ) (stage : Stage) (message : List ℕ) (l : ℕ) (root share : List ℕ) (held : ℕ)
+    → number ≡ stageTold s → len ≡ lengthTold s → session ≡ sessionTold s → n ≡ getD s 1 0 → t ≡ getD s 2 0 → own ≡ getD s 3 0 → stage ≡ stageOf number len
     → message ≡ take maxMessage (drop headLength s) → l ≡ cond (eqb number 5) 0 len → root ≡ take 32 (drop rootPlace s)
     → share ≡ take maxShare (drop (headLength + maxMessage) s) → held ≡ heldTold s
     → _≡_ {A = Party} (record {
-      seat = seatOf n t own;
+      seat = seatOf session n t own;
       stage = stage;
       message = message;
       len = l;
@@ -122,8 +124,8 @@ pub fields-are : (s : List ℕ) (number len n t own : ℕ) (stage : Stage) (mess
       held = held;
     }) (readIn s)
 unfolding readIn
-fields-are s number len n t own stage message l root share held qk ql qn qt qo qs qm qe qr qh qd =
-    rw (qn, qt, qo, qs, qm, qe, qr, qh, qd, qk, ql)
+fields-are s number len session n t own stage message l root share held qk ql qi qn qt qo qs qm qe qr qh qd =
+    rw (qi, qn, qt, qo, qs, qm, qe, qr, qh, qd, qk, ql)
 
 -- the four parts of a state, written one behind the other
 behind : (s l r : List ℕ) (at : ℕ) → at ≡ 0 + length l → length l + length r ≤ length s
@@ -134,7 +136,7 @@ behind s l r at e h =
 
 module _ (x : Party) (root : length (x .root) ≡ 32) (message : length (x .message) ≡ maxMessage) (share : length (x .share) ≡ maxShare) where
   head-long : length (headOf x) ≡ rootPlace
-  unfolding headOf
+  unfolding headOf fourBytes
   head-long = refl
 
   pub bytes-long : length (stateBytes x) ≡ stateLength

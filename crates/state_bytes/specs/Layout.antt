@@ -7,6 +7,7 @@ use lib.Dec.{ltb, eqb}
 use lib.ListN.{length, getD, take, drop}
 use Rattle.limits.specs.Limits.{maxMessage, maxShare}
 use Rattle.buffer.specs.Entries.{size}
+use Rattle.buffer.specs.Numbers.{fourBytes, number}
 use Rattle.party.specs.State.{seatOf, blankState}
 use Rattle.party.specs.declared.Outcome.the-variants as outcome
 use Rattle.party.specs.declared.Stage.{Stage}
@@ -15,12 +16,15 @@ use Rattle.party.specs.declared.Party.{Party}
 
 -- the version of this layout: every change of it raises the number
 abbrev pub layoutVersion : ℕ
-layoutVersion = 2
+layoutVersion = 3
 
--- the version, n, t, the own number and the stage in a byte each, and two lengths of two bytes; then the agreed root, the message and the
--- relayed share
+-- the version, n, t, the own number and the stage in a byte each, two lengths of two bytes, and the session's number in four; then the agreed root, the
+-- message and the relayed share
+abbrev pub sessionPlace : ℕ
+sessionPlace = 9
+
 abbrev pub rootPlace : ℕ
-rootPlace = 9
+rootPlace = sessionPlace + 4
 
 abbrev pub headLength : ℕ
 headLength = rootPlace + 32
@@ -54,7 +58,7 @@ pair k = k / 256 % 256 ∷ k % 256 ∷ []
 unfoldable pub headOf : Party → List ℕ
 headOf x =
     layoutVersion ∷ x .seat .n % 256 ∷ x .seat .t % 256 ∷ x .seat .own % 256 ∷ stageNumber (x .stage)
-    ∷ (pair (lengthFor (x .stage) (x .len)) ++ pair (x .held))
+    ∷ (pair (lengthFor (x .stage) (x .len)) ++ (pair (x .held) ++ fourBytes (x .seat .session)))
 
 unfoldable pub stateBytes : Party → List ℕ
 stateBytes x = headOf x ++ (x .root ++ (x .message ++ x .share))
@@ -82,11 +86,14 @@ lengthTold s = size (drop 5 s)
 abbrev pub heldTold : List ℕ → ℕ
 heldTold s = size (drop 7 s)
 
+abbrev pub sessionTold : List ℕ → ℕ
+sessionTold s = number (drop sessionPlace s)
+
 -- a state read from bytes as it is written
 unfoldable pub readIn : List ℕ → Party
 readIn s =
     record {
-      seat = seatOf (getD s 1 0) (getD s 2 0) (getD s 3 0);
+      seat = seatOf (sessionTold s) (getD s 1 0) (getD s 2 0) (getD s 3 0);
       stage = stageOf (stageTold s) (lengthTold s);
       message = take maxMessage (drop headLength s);
       len = cond (eqb (stageTold s) 5) 0 (lengthTold s);

@@ -9,18 +9,20 @@ ghost use Rattle.buffer.specs.Given.{gave, written};
 ghost use Rattle.party.specs.State.{blankState};
 ghost use Rattle.state_bytes.specs.Layout.{rootPlace, headLength, stateLength, stageNumber, lengthFor, headOf, stateBytes, stageOf, readIn, stateOf};
 use buffer::Written;
+use commitment::Seat;
 use limits::MAX_MESSAGE;
 use limits::MAX_SHARE;
 use party::Outcome;
 use party::Party;
-use party::Seat;
 use party::Stage;
 
 // The version of the layout, with which a state's bytes begin.
-const VERSION: u8 = 2;
+const VERSION: u8 = 3;
 
-// Where the agreed root begins, behind the numbers.
-const ROOT: usize = 9;
+// Where the session's number stands, and behind it, as the last number, where the agreed root begins.
+const SESSION: usize = 9;
+
+const ROOT: usize = SESSION + 4;
 
 // Where the message begins.
 const HEAD: usize = ROOT + 32;
@@ -85,7 +87,7 @@ pub fn stage_number(stage: Stage) -> u8
 fn blank() -> Party
     ensures { λ r. ⌜ r ≡ blankState ⌝ }
 {
-    Party::open(0, 0, 0, &[]).state
+    Party::open(0, 0, 0, 0, &[]).state
 }
 
 fn read_fields(bytes: &[u8]) -> Party
@@ -96,6 +98,7 @@ fn read_fields(bytes: &[u8]) -> Party
     let len = buffer::size_at(bytes, 5);
     Party {
         seat: Seat {
+            session: buffer::number_at(bytes, SESSION),
             n: wide(bytes[1]),
             t: wide(bytes[2]),
             own: wide(bytes[3]),
@@ -172,6 +175,7 @@ fn head_of(x: Party) -> [u8; ROOT]
     let stage = x.stage;
     let len = length_for(stage, x.len);
     let held = x.held;
+    let session = buffer::four_bytes(x.seat.session);
     [
         VERSION,
         low(x.seat.n),
@@ -182,6 +186,10 @@ fn head_of(x: Party) -> [u8; ROOT]
         low(len),
         low(held / 256),
         low(held),
+        session[0],
+        session[1],
+        session[2],
+        session[3],
     ]
 }
 

@@ -19,7 +19,7 @@ abbrev Entry : tie.After-outbox-len → tie.Start
 Entry o = o .before .before .before
 
 abbrev bytes : tie.Start → List ℕ
-bytes st = let a = st .args in outboxUpTo sha256 (a .n) (a .n) (a .own) (a .len) (a .shares .now) (a .leaves .now)
+bytes st = let a = st .args in outboxUpTo sha256 (a .seat .n) (a .seat .n) (a .seat .own) (a .len) (a .shares .now) (a .leaves .now)
 
 -- the length counted is the outbox's own
 counted : (o : tie.After-outbox-len) → o .outbox-len .result ≡ length (bytes (Entry o))
@@ -27,9 +27,9 @@ counted o =
     let st = Entry o in
     let a = st .args in
     o .outbox-len .ensures
-    ∙ sym (outbox-counted sha256 sha256-length (a .n) (a .own) (a .len) (a .shares .now) (st .pre .0) (st .pre .1) (st .pre .3)
-    (st .pre .4) (a .n) (omega arith))
-    ∙ ap (λ (ls : List (List ℕ)). length (outboxUpTo sha256 (a .n) (a .n) (a .own) (a .len) (a .shares .now) ls)) (sym (st .pre .5))
+    ∙ sym (outbox-counted sha256 sha256-length (a .seat .session) (a .seat .n) (a .seat .own) (a .len) (a .shares .now) (st .pre .0) (st .pre .1) (st .pre .3)
+    (st .pre .4) (a .seat .n) (omega arith))
+    ∙ ap (λ (ls : List (List ℕ)). length (outboxUpTo sha256 (a .seat .n) (a .seat .n) (a .seat .own) (a .len) (a .shares .now) ls)) (sym (st .pre .5))
 
 outbox-len-requires : tie.Need-outbox-len-requires
 outbox-len-requires c κs = search needs

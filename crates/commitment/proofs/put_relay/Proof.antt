@@ -30,7 +30,7 @@ returns c =
     let a = c .before .before .before .args in
     let out = a .out .now in
     sym (ap (λ (bs : List ℕ). written bs out)
-    (relay-alone sha256 (a .n) (a .own) (a .len) (a .shares .now) (a .leaves .now) (c .if1 .taken))
+    (relay-alone sha256 (a .seat .n) (a .seat .own) (a .len) (a .shares .now) (a .leaves .now) (c .if1 .taken))
     ∙ written-done [] out (omega arith)
     ∙ ap (gave (Done 0)) (spliced-none out 0))
 
@@ -58,8 +58,8 @@ sub-from c = search needs
 abbrev Entry : tie.After-path-in → tie.Start
 Entry p = p .before .before .before .before .before .before .before .before
 
-inside : (p : tie.After-path-in) → let a = Entry p .args in (a .own - 1) * a .len + a .len ≤ length (a .shares .now)
-inside p = let a = Entry p .args in omega (arith, share-inside (a .n) (a .own) (a .len) (omega arith) (omega arith))
+inside : (p : tie.After-path-in) → let a = Entry p .args in (a .seat .own - 1) * a .len + a .len ≤ length (a .shares .now)
+inside p = let a = Entry p .args in omega (arith, share-inside (a .seat .n) (a .seat .own) (a .len) (omega arith) (omega arith))
 
 mul-from : tie.Need-mul-from
 mul-from c = omega (arith, inside c)
@@ -91,20 +91,20 @@ returns-3 c =
     let a = st .args in
     let out = a .out .now in
     let count = q .count .given .0 .0 in
-    let h = count-hashes (a .n) (a .own) (omega arith) (omega arith) _ (q .before .before .path-length .ensures) count (q .count .given .1) in
-    let from = (a .own - 1) * a .len in
+    let h = count-hashes (a .seat .n) (a .seat .own) (omega arith) (omega arith) _ (q .before .before .path-length .ensures) count (q .count .given .1) in
+    let from = (a .seat .own - 1) * a .len in
     let share = take (a .len) (drop from (a .shares .now)) in
-    let way = pathOf sha256 (a .n) (a .own) (a .leaves .now) in
+    let way = pathOf sha256 (a .seat .n) (a .seat .own) (a .leaves .now) in
     let long : length share ≡ a .len = length-part (a .shares .now) from (a .len) (inside p) in
     w .write .ensures
-    ∙ ap₂ (λ (y : List ℕ) (l : List (List ℕ)). writeOf (a .n) (a .own) y l count out) (part-ends (a .shares .now) from (a .len))
-    (p .path-in .ensures ∙ ap (pathIn (a .n) (a .own) (a .leaves .now)) (st .pre .7) ∙ path-read sha256 (a .n) (a .own) (a .leaves .now))
-    ∙ write-written (a .n) (a .own) share way count out
-    (cause-fine (a .n) (a .own) (length share) count (omega arith) (omega arith) (omega arith) (omega arith) (omega arith) (omega arith)
+    ∙ ap₂ (λ (y : List ℕ) (l : List (List ℕ)). writeOf (a .seat .n) (a .seat .own) y l count out) (part-ends (a .shares .now) from (a .len))
+    (p .path-in .ensures ∙ ap (pathIn (a .seat .n) (a .seat .own) (a .leaves .now)) (st .pre .7) ∙ path-read sha256 (a .seat .n) (a .seat .own) (a .leaves .now))
+    ∙ write-written (a .seat .n) (a .seat .own) share way count out
+    (cause-fine (a .seat .n) (a .seat .own) (length share) count (omega arith) (omega arith) (omega arith) (omega arith) (omega arith) (omega arith)
     (h .2))
-    ∙ ap (λ (k : ℕ). written (packetOf (a .own) share (take k way)) out) (h .2)
+    ∙ ap (λ (k : ℕ). written (packetOf (a .seat .own) share (take k way)) out) (h .2)
     ∙ ap (λ (bs : List ℕ). written bs out)
-    (sym (relay-other sha256 (a .n) (a .own) (a .len) (a .shares .now) (a .leaves .now) (q .before .before .before .if1 .left)))
+    (sym (relay-other sha256 (a .seat .n) (a .seat .own) (a .len) (a .shares .now) (a .leaves .now) (q .before .before .before .if1 .left)))
 
 pub put-relay-spec : {M : Type 1} → statement M
 put-relay-spec =

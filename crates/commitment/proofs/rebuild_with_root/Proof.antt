@@ -56,12 +56,12 @@ exact : (k : tie.After-answer) → let d = k .before .before .before in let l = 
 exact k = let d = k .before .before .before in length-take-le (k .answer .given .0 .0) (O d) (found k .2)
 
 -- what the form with a root makes of what was found
-rooted : (d : tie.After-rebuild) → let a = Entry d .args in rebuildWithRootOf sha256 (a .n) (a .t) (a .given .now) (a .entries .now) (a .out .now)
-    ≡ answered (underRoot sha256 (a .n) (a .t) (a .given .now) (Found (Entry d))) (a .out .now)
+rooted : (d : tie.After-rebuild) → let a = Entry d .args in rebuildWithRootOf sha256 (a .session) (a .n) (a .t) (a .given .now) (a .entries .now) (a .out .now)
+    ≡ answered (underRoot sha256 (a .session) (a .n) (a .t) (a .given .now) (Found (Entry d))) (a .out .now)
 rooted d =
     let a = Entry d .args in
     let e = d .before .before .before in
-    with-root-entries (a .n) (a .t) (a .entries .now) (a .out .now) sha256 (a .given .now) (fine (e .before)) (e .if2 .left)
+    with-root-entries (a .n) (a .t) (a .entries .now) (a .out .now) sha256 (a .session) (a .given .now) (fine (e .before)) (e .if2 .left)
 
 -- the two roots are compared byte by byte
 abbrev Coded : tie.After-same → tie.After-answer
@@ -71,7 +71,7 @@ abbrev Message : tie.After-same → List ℕ
 Message c = take (Coded c .answer .given .0 .0) (O (Coded c .before .before .before))
 
 compared : (c : tie.After-same) → let a = Entry (Coded c .before .before .before) .args in
-    c .same .result ≡ same (messageRoot sha256 (a .n) (a .t) (Message c)) (a .given .now)
+    c .same .result ≡ same (messageRoot sha256 (a .session) (a .n) (a .t) (Message c)) (a .given .now)
 compared c =
     let r = c .before .before .before in
     let k = Coded c in
@@ -80,17 +80,17 @@ compared c =
     let g = fine (d .before .before .before .before) in
     same-is (r .root .result .root) (a .given .now) (c .same .result) (c .same .ensures .0) (c .same .ensures .1)
     ∙ ap (λ (o : Rooted). same (o .root) (a .given .now))
-    (r .root .ensures ∙ rooted-given sha256 (a .n) (a .t) 1 (Message c)
+    (r .root .ensures ∙ rooted-given sha256 (a .session) (a .n) (a .t) 1 (Message c)
     (open-fine (a .n) (a .t) 1 (length (Message c)) g (omega arith) (group-of (a .n) (a .t) g .low) (omega (arith, exact k, found k .1))))
 
 -- so what was found is taken, or it is cause 15
 judged : (c : tie.After-same) → let a = Entry (Coded c .before .before .before) .args in
-    rebuildWithRootOf sha256 (a .n) (a .t) (a .given .now) (a .entries .now) (a .out .now)
+    rebuildWithRootOf sha256 (a .session) (a .n) (a .t) (a .given .now) (a .entries .now) (a .out .now)
     ≡ answered (cond (c .same .result) (message (Message c)) (cause 15)) (a .out .now)
 judged c =
     let d = Coded c .before .before .before in
     let a = Entry d .args in
-    rooted d ∙ ap (λ (f : Recovered). answered (underRoot sha256 (a .n) (a .t) (a .given .now) f) (a .out .now)) (found (Coded c) .0)
+    rooted d ∙ ap (λ (f : Recovered). answered (underRoot sha256 (a .session) (a .n) (a .t) (a .given .now) f) (a .out .now)) (found (Coded c) .0)
     ∙ ap (λ (b : Bool). answered (cond b (message (Message c)) (cause 15)) (a .out .now)) (sym (compared c))
 
 group-cause-requires : tie.Need-group-cause-requires
@@ -101,12 +101,12 @@ returns c =
     let a = c .before .before .before .before .before .args in
     let k = c .before .group-cause .ensures in
     ap (λ (i : ℕ). gave (given.Refused i) (a .out .now)) k
-    ∙ sym (with-root-refused (a .n) (a .t) (a .entries .now) (a .out .now) sha256 (a .given .now) (λ q. c .if1 .taken (k ∙ q)))
+    ∙ sym (with-root-refused (a .n) (a .t) (a .entries .now) (a .out .now) sha256 (a .session) (a .given .now) (λ q. c .if1 .taken (k ∙ q)))
 
 returns-2 : tie.Need-returns-2
 returns-2 c =
     let a = c .before .before .before .before .before .before .args in
-    sym (with-root-wide (a .n) (a .t) (a .entries .now) (a .out .now) sha256 (a .given .now) (fine (c .before)) (c .if2 .taken))
+    sym (with-root-wide (a .n) (a .t) (a .entries .now) (a .out .now) sha256 (a .session) (a .given .now) (fine (c .before)) (c .if2 .taken))
 
 blank-message-requires : tie.Need-blank-message-requires
 blank-message-requires c κs = search needs
@@ -127,7 +127,7 @@ returns-3 c =
     let k = answer-cause (O d) (d .before .before .blank-message .result) (d .rebuild .result) (d .before .before .blank-message .ensures) (Found (Entry d))
     (short-entries _ _ _) (told d) (c .match .keys2) in
     ap (λ (r : Written). gave r (a .out .now)) (k .2)
-    ∙ sym (rooted d ∙ ap (λ (f : Recovered). answered (underRoot sha256 (a .n) (a .t) (a .given .now) f) (a .out .now)) (k .1))
+    ∙ sym (rooted d ∙ ap (λ (f : Recovered). answered (underRoot sha256 (a .session) (a .n) (a .t) (a .given .now) f) (a .out .now)) (k .1))
 
 array-share-prefix-message : tie.Need-array-share-prefix-message
 array-share-prefix-message c = found (c .before) .2

@@ -18,7 +18,7 @@ use Rattle.commitment.proofs.root.Statement.{statement}
 use Rattle.commitment.proofs.root.Tie as tie
 
 -- past the test no cause applies
-fine : (e : tie.Else1) → let a = e .before .before .before .args in openCause (a .n) (a .t) (a .own) (length (a .message .now)) ≡ 0
+fine : (e : tie.Else1) → let a = e .before .before .before .args in openCause (a .seat .n) (a .seat .t) (a .seat .own) (length (a .message .now)) ≡ 0
 fine e = sym (e .before .open-cause .ensures) ∙ e .if1 .left
 
 -- the array with the shares has as many elements as before
@@ -36,7 +36,7 @@ returns c =
     let a = c .before .before .before .args in
     let k = c .before .open-cause .ensures in
     ap {B = Rooted} (λ (i : ℕ). record { cause = i; root = blank }) k
-    ∙ sym (rooted-refused sha256 (a .n) (a .t) (a .own) (a .message .now) (λ q. c .if1 .taken (k ∙ q)))
+    ∙ sym (rooted-refused sha256 (a .seat .session) (a .seat .n) (a .seat .t) (a .seat .own) (a .message .now) (λ q. c .if1 .taken (k ∙ q)))
 
 blank-requires : tie.Need-blank-requires
 blank-requires c κs = search needs
@@ -48,7 +48,7 @@ code-requires : tie.Need-code-requires
 code-requires c κs =
     let b = c .before in
     let a = b .before .before .before .before .args in
-    (open-coded (a .n) (a .t) (a .own) (a .message .now) (fine (b .before)), b .blank .ensures)
+    (open-coded (a .seat .n) (a .seat .t) (a .seat .own) (a .message .now) (fine (b .before)), b .blank .ensures)
 
 array-share-prefix-bytes : tie.Need-array-share-prefix-bytes
 array-share-prefix-bytes c = search needs
@@ -71,11 +71,11 @@ returns-2 c =
     let q = l .before .before .before in
     let e = q .before .before .before in
     let a = e .before .before .before .args in
-    let w = open-coded (a .n) (a .t) (a .own) (a .message .now) (fine e) in
+    let w = open-coded (a .seat .n) (a .seat .t) (a .seat .own) (a .message .now) (fine e) in
     c .root .ensures
-    ∙ ap (rootedOf sha256 (a .n)) (l .leaves .ensures ∙ ap (leavesOf sha256 (a .n)) (q .code .ensures .1))
-    ∙ root-made sha256 (a .n) _ (w .low) (w .high)
-    ∙ sym (rooted-given sha256 (a .n) (a .t) (a .own) (a .message .now) (fine e))
+    ∙ ap (rootedOf sha256 (a .seat .n)) (l .leaves .ensures ∙ ap (leavesOf sha256 (a .seat .session) (a .seat .n)) (q .code .ensures .1))
+    ∙ root-made sha256 (a .seat .n) _ (w .low) (w .high)
+    ∙ sym (rooted-given sha256 (a .seat .session) (a .seat .n) (a .seat .t) (a .seat .own) (a .message .now) (fine e))
 
 pub root-spec : {M : Type 1} → statement M
 root-spec =

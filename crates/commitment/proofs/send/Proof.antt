@@ -41,14 +41,14 @@ Out st = st .args .out .now
 
 -- what is to be sent
 abbrev Bytes : Bool → tie.Start → List ℕ
-Bytes relays st = let a = st .args in mailWith sha256 relays (a .n) (a .t) (a .own) (M st)
+Bytes relays st = let a = st .args in mailWith sha256 (a .seat .session) relays (a .seat .n) (a .seat .t) (a .seat .own) (M st)
 
 -- past the first test no cause applies
-fine : (e : tie.Else1) → let a = Entry (e .before) .args in openCause (a .n) (a .t) (a .own) (length (a .message .now)) ≡ 0
+fine : (e : tie.Else1) → let a = Entry (e .before) .args in openCause (a .seat .n) (a .seat .t) (a .seat .own) (length (a .message .now)) ≡ 0
 fine e = sym (e .before .open-cause .ensures) ∙ e .if1 .left
 
-within : (e : tie.Else1) → let a = Entry (e .before) .args in Coded (a .n) (a .t) (a .message .now)
-within e = let a = Entry (e .before) .args in open-coded (a .n) (a .t) (a .own) (a .message .now) (fine e)
+within : (e : tie.Else1) → let a = Entry (e .before) .args in Coded (a .seat .n) (a .seat .t) (a .message .now)
+within e = let a = Entry (e .before) .args in open-coded (a .seat .n) (a .seat .t) (a .seat .own) (a .message .now) (fine e)
 
 -- the array with the shares, which has as many elements as before, and the shares in it
 abbrev Array : tie.After-code → List ℕ
@@ -65,21 +65,21 @@ all q = length-take-le (q .code .result .size) (Array q) (omega (arith, long q, 
 
 -- the leaves, and the root over leaves and nodes, are those of the definition
 leaves-are : (l : tie.After-leaves) → let q = l .before .before .before in let a = Entry (q .before .before .before .before) .args in
-    l .leaves .result ≡ leavesFor sha256 (a .n) (a .t) (a .message .now)
+    l .leaves .result ≡ leavesFor sha256 (a .seat .session) (a .seat .n) (a .seat .t) (a .message .now)
 leaves-are l =
     let q = l .before .before .before in
-    l .leaves .ensures ∙ ap (leavesOf sha256 (Entry (q .before .before .before .before) .args .n)) (q .code .ensures .1)
+    l .leaves .ensures ∙ ap (leavesOf sha256 (Entry (q .before .before .before .before) .args .seat .session) (Entry (q .before .before .before .before) .args .seat .n)) (q .code .ensures .1)
 
 abbrev Leaves : tie.After-root-in → tie.After-leaves
 Leaves r = r .before .before .before .before .before
 
 root-is : (r : tie.After-root-in) → let a = Entry (Leaves r .before .before .before .before .before .before .before) .args in
-    r .root-in .result .root ≡ messageRoot sha256 (a .n) (a .t) (a .message .now)
+    r .root-in .result .root ≡ messageRoot sha256 (a .seat .session) (a .seat .n) (a .seat .t) (a .message .now)
 unfolding messageRoot
 root-is r =
     let l = Leaves r in
     let e = l .before .before .before .before .before .before in
-    let n = Entry (e .before) .args .n in
+    let n = Entry (e .before) .args .seat .n in
     let d = r .before .before .before in
     ap (λ (x : Rooted). x .root) (r .root-in .ensures
     ∙ ap (rootedIn n (l .leaves .result)) (d .nodes .ensures)
@@ -95,7 +95,7 @@ abbrev Cause : tie.After-same → tie.Else1
 Cause s = Leaves (Root s) .before .before .before .before .before .before
 
 happy-is : (s : tie.After-same) → let st = Entry (Cause s .before) in
-    s .same .result ≡ same (messageRoot sha256 (st .args .n) (st .args .t) (M st)) (st .args .root .now)
+    s .same .result ≡ same (messageRoot sha256 (st .args .seat .session) (st .args .seat .n) (st .args .seat .t) (M st)) (st .args .root .now)
 happy-is s =
     let st = Entry (Cause s .before) in
     same-is (Root s .root-in .result .root) (st .args .root .now) (s .same .result) (s .same .ensures .0) (s .same .ensures .1)
@@ -110,7 +110,7 @@ returns c =
     let a = st .args in
     let k = c .before .open-cause .ensures in
     ap (λ (i : ℕ). sending false (gave (Refused i) (Out st))) k
-    ∙ sym (send-refused sha256 (a .n) (a .t) (a .own) (M st) (a .relays) (a .root .now) (Out st) (λ q. c .if1 .taken (k ∙ q)))
+    ∙ sym (send-refused sha256 (a .seat .session) (a .seat .n) (a .seat .t) (a .seat .own) (M st) (a .relays) (a .root .now) (Out st) (λ q. c .if1 .taken (k ∙ q)))
 
 blank-requires : tie.Need-blank-requires
 blank-requires c κs = search needs
@@ -148,43 +148,43 @@ returns-2 c =
     let e = Cause s in
     let st = Entry (e .before) in
     let a = st .args in
-    sym (send-other sha256 (a .n) (a .t) (a .own) (M st) (a .relays) (a .root .now) (Out st) (fine e)
+    sym (send-other sha256 (a .seat .session) (a .seat .n) (a .seat .t) (a .seat .own) (M st) (a .relays) (a .root .now) (Out st) (fine e)
     (sym (happy-is s) ∙ not-true (s .same .result) (c .if2 .taken)))
 
 -- where it has that root, what is written is what is given
 given : (s : tie.Else2) (b : Bool) → let st = Entry (Cause (s .before) .before) in
     sending true (written (Bytes b st) (Out st))
-    ≡ sendOf sha256 b (st .args .n) (st .args .t) (st .args .own) (M st) (st .args .root .now) (Out st)
+    ≡ sendOf sha256 (st .args .seat .session) b (st .args .seat .n) (st .args .seat .t) (st .args .seat .own) (M st) (st .args .root .now) (Out st)
 given s b =
     let e = Cause (s .before) in
     let st = Entry (e .before) in
     let a = st .args in
-    sym (send-own sha256 (a .n) (a .t) (a .own) (M st) b (a .root .now) (Out st) (fine e)
+    sym (send-own sha256 (a .seat .session) (a .seat .n) (a .seat .t) (a .seat .own) (M st) b (a .root .now) (Out st) (fine e)
     (sym (happy-is (s .before)) ∙ not-false (s .before .same .result) (s .if2 .left)))
 
 -- the shares handed over, their number and length, and the nodes over their leaves
 abbrev Coding : tie.Else2 → tie.After-code
 Coding s = Leaves (Root (s .before)) .before .before .before
 
-sized : (s : tie.Else2) → let q = Coding s in let n = Entry (q .before .before .before .before) .args .n in
+sized : (s : tie.Else2) → let q = Coding s in let n = Entry (q .before .before .before .before) .args .seat .n in
     (1 ≤ q .code .result .len) × (q .code .result .len ≤ maxShare) × (length (Shares q) ≡ n * q .code .result .len)
 sized s =
     let q = Coding s in
     let e = q .before .before .before in
     let a = Entry (e .before) .args in
     let c = within e in (
-      omega (arith, q .code .ensures .2, share-some (a .n) (a .t) (a .message .now) c),
-      omega (arith, q .code .ensures .2, share-fits (a .n) (a .t) (a .message .now) c),
+      omega (arith, q .code .ensures .2, share-some (a .seat .n) (a .seat .t) (a .message .now) c),
+      omega (arith, q .code .ensures .2, share-fits (a .seat .n) (a .seat .t) (a .message .now) c),
       all q ∙ q .code .ensures .3,
     )
 
 nodes-are : (s : tie.Else2) → let r = Root (s .before) in let l = Leaves r in
-    r .before .before .before .nodes .result ≡ nodesOf sha256 (Entry (Coding s .before .before .before .before) .args .n) (l .leaves .result)
+    r .before .before .before .nodes .result ≡ nodesOf sha256 (Entry (Coding s .before .before .before .before) .args .seat .n) (l .leaves .result)
 nodes-are s = Root (s .before) .before .before .before .nodes .ensures
 
 -- the relay and the outbox over these are those of the message
 relayed : (s : tie.Else2) → let q = Coding s in let st = Entry (q .before .before .before .before) in
-    relayFor sha256 (st .args .n) (st .args .own) (q .code .result .len) (Shares q) (Leaves (Root (s .before)) .leaves .result)
+    relayFor sha256 (st .args .seat .n) (st .args .seat .own) (q .code .result .len) (Shares q) (Leaves (Root (s .before)) .leaves .result)
     ≡ Bytes true st
 relayed s =
     let q = Coding s in
@@ -192,13 +192,13 @@ relayed s =
     let st = Entry (e .before) in
     let a = st .args in
     let l = Leaves (Root (s .before)) in
-    let b = open-bounds (a .n) (a .t) (a .own) (length (M st)) (fine e) in
-    ap₂ (λ (k : ℕ) (all : List ℕ). relayFor sha256 (a .n) (a .own) k all (l .leaves .result)) (q .code .ensures .2) (q .code .ensures .1)
-    ∙ ap (relayFor sha256 (a .n) (a .own) (shareLength (a .n - a .t) (length (M st))) (shares (a .n) (a .n - a .t) (M st))) (leaves-are l)
-    ∙ relay-sent sha256 (a .n) (a .t) (a .own) (M st) (within e) (b .1) (b .2)
+    let b = open-bounds (a .seat .n) (a .seat .t) (a .seat .own) (length (M st)) (fine e) in
+    ap₂ (λ (k : ℕ) (all : List ℕ). relayFor sha256 (a .seat .n) (a .seat .own) k all (l .leaves .result)) (q .code .ensures .2) (q .code .ensures .1)
+    ∙ ap (relayFor sha256 (a .seat .n) (a .seat .own) (shareLength (a .seat .n - a .seat .t) (length (M st))) (shares (a .seat .n) (a .seat .n - a .seat .t) (M st))) (leaves-are l)
+    ∙ relay-sent sha256 (a .seat .session) (a .seat .n) (a .seat .t) (a .seat .own) (M st) (within e) (b .1) (b .2)
 
 sent-out : (s : tie.Else2) → let q = Coding s in let st = Entry (q .before .before .before .before) in
-    outboxUpTo sha256 (st .args .n) (st .args .n) (st .args .own) (q .code .result .len) (Shares q)
+    outboxUpTo sha256 (st .args .seat .n) (st .args .seat .n) (st .args .seat .own) (q .code .result .len) (Shares q)
     (Leaves (Root (s .before)) .leaves .result)
     ≡ Bytes false st
 sent-out s =
@@ -207,11 +207,11 @@ sent-out s =
     let st = Entry (e .before) in
     let a = st .args in
     let l = Leaves (Root (s .before)) in
-    ap₂ (λ (k : ℕ) (all : List ℕ). outboxUpTo sha256 (a .n) (a .n) (a .own) k all (l .leaves .result)) (q .code .ensures .2)
+    ap₂ (λ (k : ℕ) (all : List ℕ). outboxUpTo sha256 (a .seat .n) (a .seat .n) (a .seat .own) k all (l .leaves .result)) (q .code .ensures .2)
     (q .code .ensures .1)
-    ∙ ap (outboxUpTo sha256 (a .n) (a .n) (a .own) (shareLength (a .n - a .t) (length (M st))) (shares (a .n) (a .n - a .t) (M st)))
+    ∙ ap (outboxUpTo sha256 (a .seat .n) (a .seat .n) (a .seat .own) (shareLength (a .seat .n - a .seat .t) (length (M st))) (shares (a .seat .n) (a .seat .n - a .seat .t) (M st)))
     (leaves-are l)
-    ∙ outbox-sent sha256 (a .n) (a .t) (a .own) (M st) (within e)
+    ∙ outbox-sent sha256 (a .seat .session) (a .seat .n) (a .seat .t) (a .seat .own) (M st) (within e)
 
 array-share-prefix-bytes-2 : tie.Need-array-share-prefix-bytes-2
 array-share-prefix-bytes-2 c = search needs
@@ -225,7 +225,7 @@ put-relay-requires c κs =
     let e = Coding s .before .before .before in
     let a = Entry (e .before) .args in
     let w = within e in
-    let b = open-bounds (a .n) (a .t) (a .own) (length (a .message .now)) (fine e) in
+    let b = open-bounds (a .seat .n) (a .seat .t) (a .seat .own) (length (a .message .now)) (fine e) in
     let z = sized s in
     (w .low, w .high, b .1, b .2, z .0, z .1, omega (arith, z .2), nodes-are s)
 
@@ -241,7 +241,7 @@ returns-3 c =
     let a = st .args in
     ap (sending true) (p .put-relay .ensures ∙ ap (λ (bs : List ℕ). written bs (Out st)) (relayed s))
     ∙ given s true
-    ∙ ap (λ (b : Bool). sendOf sha256 b (a .n) (a .t) (a .own) (M st) (a .root .now) (Out st)) (sym (t .if3 .taken))
+    ∙ ap (λ (b : Bool). sendOf sha256 (a .seat .session) b (a .seat .n) (a .seat .t) (a .seat .own) (M st) (a .root .now) (Out st)) (sym (t .if3 .taken))
 
 array-share-prefix-bytes-3 : tie.Need-array-share-prefix-bytes-3
 array-share-prefix-bytes-3 c = search needs
@@ -269,7 +269,7 @@ returns-4 c =
     let a = st .args in
     ap (sending true) (p .put-outbox .ensures ∙ ap (λ (bs : List ℕ). written bs (Out st)) (sent-out s))
     ∙ given s false
-    ∙ ap (λ (b : Bool). sendOf sha256 b (a .n) (a .t) (a .own) (M st) (a .root .now) (Out st)) (sym (t .if3 .left))
+    ∙ ap (λ (b : Bool). sendOf sha256 (a .seat .session) b (a .seat .n) (a .seat .t) (a .seat .own) (M st) (a .root .now) (Out st)) (sym (t .if3 .left))
 
 pub send-spec : {M : Type 1} → statement M
 send-spec =

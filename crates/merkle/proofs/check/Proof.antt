@@ -28,22 +28,22 @@ place e = numbered-told _ _ (e .before .numbered .ensures) (e .if2 .left)
 
 -- the function's entry, from where no cause applies
 abbrev Entry : tie.Else4 → tie.Start
-Entry e = e .before .before .before .before .before .before .before .before
+Entry e = e .before .before .before .before .before .before .before .before .before
 
 judged : (e : tie.Else4) → let a = Entry e .args in
-    checkOf sha256 (a .n) (a .j) (a .share .now) (a .path) (a .count) (a .root .now)
-    ≡ answerOf (passes sha256 (a .n) (a .j) (a .share .now) (a .path) (a .count) (a .root .now))
+    checkOf sha256 (a .session) (a .n) (a .j) (a .share .now) (a .path) (a .count) (a .root .now)
+    ≡ answerOf (passes sha256 (a .session) (a .n) (a .j) (a .share .now) (a .path) (a .count) (a .root .now))
 judged e =
     let a = Entry e .args in
-    let k = e .before .before in
+    let k = e .before .before .before in
     let r = range (k .before .before) in
     let p = place k in
-    check-judged sha256 (a .n) (a .j) (a .share .now) (a .path) (a .count) (a .root .now)
+    check-judged sha256 (a .session) (a .n) (a .j) (a .share .now) (a .path) (a .count) (a .root .now)
     (r .0) (r .1) (p .0) (p .1) (omega arith) (e .if4 .left)
 
 -- the fold along the turns is the fold along the sides of the definition
 top : (f : tie.After-fold-path) → let a = Entry (f .before .before .before .before .before) .args in
-    folded sha256 (sidesOf (a .n) (a .j)) (take (a .count) (a .path)) (sha256 (leafString (a .j) (a .share .now)))
+    folded sha256 (sidesOf (a .n) (a .j)) (take (a .count) (a .path)) (sha256 (leafString (a .session) (a .j) (a .share .now)))
     ≡ f .fold-path .result
 top f =
     let h = f .before in
@@ -54,14 +54,14 @@ top f =
     folded-same sha256 (a .path) (f .fold-path .ensures) (w .way-down .ensures .2) counted (h .leaf-hash .ensures)
 
 answer : (q : tie.After-equal) → let a = Entry (q .before .before .before .before .before .before .before) .args in
-    passes sha256 (a .n) (a .j) (a .share .now) (a .path) (a .count) (a .root .now) ≡ q .equal .result
+    passes sha256 (a .session) (a .n) (a .j) (a .share .now) (a .path) (a .count) (a .root .now) ≡ q .equal .result
 answer q =
     let f = q .before .before in
     let k = f .before .before in
     let w = k .before .before in
     let a = Entry (w .before) .args in
     let counted : a .count ≡ w .way-down .result .count = omega arith in
-    passes-same sha256 (a .n) (a .j) (a .share .now) (a .path) (a .count) (a .root .now) (counted ∙ w .way-down .ensures .1)
+    passes-same sha256 (a .session) (a .n) (a .j) (a .share .now) (a .path) (a .count) (a .root .now) (counted ∙ w .way-down .ensures .1)
     ∙ ap (λ (x : List ℕ). same x (a .root .now)) (top f) ∙ sym (q .equal .ensures)
 
 parties-requires : tie.Need-parties-requires
@@ -70,7 +70,7 @@ parties-requires c κs = search needs
 returns : tie.Need-returns
 returns c =
     let a = c .before .before .before .before .args in
-    sym (check-parties sha256 (a .n) (a .j) (a .share .now) (a .path) (a .count) (a .root .now)
+    sym (check-parties sha256 (a .session) (a .n) (a .j) (a .share .now) (a .path) (a .count) (a .root .now)
     (denied (c .before .parties .ensures) (c .if1 .taken)))
 
 numbered-requires : tie.Need-numbered-requires
@@ -81,38 +81,41 @@ returns-2 c =
     let e = c .before .before in
     let a = e .before .before .before .before .args in
     let r = range e in
-    sym (check-number sha256 (a .n) (a .j) (a .share .now) (a .path) (a .count) (a .root .now)
+    sym (check-number sha256 (a .session) (a .n) (a .j) (a .share .now) (a .path) (a .count) (a .root .now)
     (r .0) (r .1) (denied (c .before .numbered .ensures) (c .if2 .taken)))
+
+front-length-requires : tie.Need-front-length-requires
+front-length-requires c κs = search needs
 
 sub-if3 : tie.Need-sub-if3
 sub-if3 c = search needs
 
 returns-3 : tie.Need-returns-3
 returns-3 c =
-    let k = c .before in
+    let k = c .before .before in
     let e = k .before .before in
     let a = e .before .before .before .before .args in
     let r = range e in
     let p = place k in
-    sym (check-long sha256 (a .n) (a .j) (a .share .now) (a .path) (a .count) (a .root .now)
+    sym (check-long sha256 (a .session) (a .n) (a .j) (a .share .now) (a .path) (a .count) (a .root .now)
     (r .0) (r .1) (p .0) (p .1) (omega arith))
 
 returns-4 : tie.Need-returns-4
 returns-4 c =
-    let k = c .before .before in
+    let k = c .before .before .before in
     let e = k .before .before in
     let a = e .before .before .before .before .args in
     let r = range e in
     let p = place k in
-    sym (check-root sha256 (a .n) (a .j) (a .share .now) (a .path) (a .count) (a .root .now)
+    sym (check-root sha256 (a .session) (a .n) (a .j) (a .share .now) (a .path) (a .count) (a .root .now)
     (r .0) (r .1) (p .0) (p .1) (omega arith) (c .if4 .taken))
 
 sub-way-down : tie.Need-sub-way-down
-sub-way-down c = place (c .before .before) .0
+sub-way-down c = place (c .before .before .before) .0
 
 way-down-requires : tie.Need-way-down-requires
 way-down-requires c κs =
-    let k = c .before .before in
+    let k = c .before .before .before in
     (range (k .before .before) .1, omega (arith, place k))
 
 returns-5 : tie.Need-returns-5
@@ -120,12 +123,12 @@ returns-5 c =
     let w = c .before .before in
     let a = Entry (w .before) .args in
     sym (judged (w .before)
-    ∙ ap answerOf (passes-miscount sha256 (a .n) (a .j) (a .share .now) (a .path) (a .count) (a .root .now)
+    ∙ ap answerOf (passes-miscount sha256 (a .session) (a .n) (a .j) (a .share .now) (a .path) (a .count) (a .root .now)
     (λ q. c .if5 .taken (q ∙ sym (w .way-down .ensures .1)))))
 
 leaf-hash-requires : tie.Need-leaf-hash-requires
 leaf-hash-requires c κs =
-    let k = c .before .before .before .before .before in
+    let k = c .before .before .before .before .before .before in
     (omega (arith, range (k .before .before), place k), omega arith)
 
 fold-path-requires : tie.Need-fold-path-requires
@@ -152,6 +155,7 @@ check-spec =
     returns
     numbered-requires
     returns-2
+    front-length-requires
     sub-if3
     returns-3
     returns-4

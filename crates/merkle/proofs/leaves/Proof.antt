@@ -17,11 +17,11 @@ use Rattle.merkle.proofs.leaves.Statement.{statement}
 use Rattle.merkle.proofs.leaves.Tie as tie
 
 abbrev Inv-loop : tie.InvT-loop
-Inv-loop n shares hashes₀ s at₀ j₀ hashes at j =
-    (j ≤ n) × (at ≡ j * s) × (hashes ≡ leafHashes s shares j ++ replicate (maxParties - j) blank)
+Inv-loop session n shares hashes₀ s at₀ j₀ hashes at j =
+    (j ≤ n) × (at ≡ j * s) × (hashes ≡ leafHashes session s shares j ++ replicate (maxParties - j) blank)
 
 abbrev μ-loop : tie.MeasureT-loop
-μ-loop n shares hashes₀ s at₀ j₀ hashes at j = n - j
+μ-loop session n shares hashes₀ s at₀ j₀ hashes at j = n - j
 
 -- the function's entry, from where the shares are found to be even
 abbrev Entry : tie.Else1 Inv-loop μ-loop → tie.Start Inv-loop μ-loop
@@ -34,11 +34,11 @@ All e = Entry e .args .shares .now
 abbrev S : tie.Else1 Inv-loop μ-loop → ℕ
 S e = length (All e) / Entry e .args .n
 
-fine : (e : tie.Else1 Inv-loop μ-loop) → sharesCause (Entry e .args .n) (length (All e)) ≡ 0
+fine : (e : tie.Else1 Inv-loop μ-loop) → sharesCause (Entry e .args .session) (Entry e .args .n) (length (All e)) ≡ 0
 fine e = sym (e .before .shares-cause .ensures) ∙ e .if1 .left
 
-even : (e : tie.Else1 Inv-loop μ-loop) → Even (Entry e .args .n) (length (All e))
-even e = even-of _ _ (fine e)
+even : (e : tie.Else1 Inv-loop μ-loop) → Even (Entry e .args .session) (Entry e .args .n) (length (All e))
+even e = even-of _ _ _ (fine e)
 
 -- the next share lies within the shares
 inside : (c : tie.In-loop Inv-loop μ-loop) → c .before .loop .at + S (c .before .before) ≤ length (All (c .before .before))
@@ -46,7 +46,7 @@ inside c =
     let e = c .before .before in
     let l = c .before .loop in
     let n = Entry e .args .n in
-    omega (arith, l .inv .1, row-inside n (l .j) (S e) (c .loop-test .taken), even-whole n (length (All e)) (even e))
+    omega (arith, l .inv .1, row-inside n (l .j) (S e) (c .loop-test .taken), even-whole _ n (length (All e)) (even e))
 
 -- which share it is, and its length
 part : (c : tie.In-loop Inv-loop μ-loop) → let e = c .before .before in let l = c .before .loop in
@@ -72,14 +72,14 @@ shares-cause-requires c κs = search needs
 returns : tie.Need-returns Inv-loop μ-loop
 returns c =
     let a = c .before .before .before .args in
-    sym (leaves-none sha256 (a .n) (a .shares .now) (λ q. c .if1 .taken (c .before .shares-cause .ensures ∙ q)))
+    sym (leaves-none sha256 (a .session) (a .n) (a .shares .now) (λ q. c .if1 .taken (c .before .shares-cause .ensures ∙ q)))
 
 div-s : tie.Need-div-s Inv-loop μ-loop
 div-s c = omega (arith, even c)
 
 loop-holds : tie.Need-loop-holds Inv-loop μ-loop
 loop-holds c =
-    let none = hashes-none (S c) (All c) in
+    let none = hashes-none (Entry c .args .session) (S c) (All c) in
     (omega arith, sym (zero-mul (S c)), ap (λ (l : List (List ℕ)). l ++ replicate maxParties blank) (sym none))
 
 add-next : tie.Need-add-next Inv-loop μ-loop
@@ -124,8 +124,8 @@ loop-again c =
       omega arith,
       row-next (l .j) (S e) (l .at) (l .inv .1),
       ap (λ (hs : List (List ℕ)). set hs (l .j) h) (l .inv .2)
-          ∙ hashes-more (S e) (All e) (l .j) h (omega (arith, even e))
-          (c .leaf-hash .ensures ∙ ap (λ (x : List ℕ). sha256 (leafString (l .j + 1) x)) (part i)),
+          ∙ hashes-more (Entry e .args .session) (S e) (All e) (l .j) h (omega (arith, even e))
+          (c .leaf-hash .ensures ∙ ap (λ (x : List ℕ). sha256 (leafString (Entry e .args .session) (l .j + 1) x)) (part i)),
     )
 
 returns-2 : tie.Need-returns-2 Inv-loop μ-loop
@@ -134,9 +134,9 @@ returns-2 c =
     let n = Entry e .args .n in
     let l = c .before .loop in
     let done : l .j ≡ n = omega arith in
-    l .inv .2 ∙ ap (λ (k : ℕ). leafHashes (S e) (All e) k ++ replicate (maxParties - k) blank) done
-    ∙ ap (λ (hs : List (List ℕ)). hs ++ replicate (maxParties - n) blank) (hashes-all (S e) (All e) n refl)
-    ∙ sym (leaves-fine sha256 n (All e) (fine e))
+    l .inv .2 ∙ ap (λ (k : ℕ). leafHashes (Entry e .args .session) (S e) (All e) k ++ replicate (maxParties - k) blank) done
+    ∙ ap (λ (hs : List (List ℕ)). hs ++ replicate (maxParties - n) blank) (hashes-all (Entry e .args .session) (S e) (All e) n refl)
+    ∙ sym (leaves-fine sha256 (Entry e .args .session) n (All e) (fine e))
 
 pub leaves-spec : {M : Type 1} → statement M
 leaves-spec =

@@ -30,22 +30,22 @@ abbrev X : tie.Else3 → Packet
 X d = Entry d .args .packet
 
 abbrev On : tie.Else3 → Packet → Judged
-On d = let a = Entry d .args in verdictOn sha256 (a .n) (a .j) (a .root .now) (a .s .now)
+On d = let a = Entry d .args in verdictOn sha256 (a .session) (a .n) (a .j) (a .root .now) (a .s .now)
 
 -- the answer is the judgement
 given : (d : tie.Else3) (r : Judged) → On d (X d) ≡ r → let a = Entry d .args in
-    verdict r ≡ verdict (judgeOf sha256 (a .n) (a .j) (a .root .now) (a .s .now) (X d))
+    verdict r ≡ verdict (judgeOf sha256 (a .session) (a .n) (a .j) (a .root .now) (a .s .now) (X d))
 given d r h =
     let a = Entry d .args in
     let w = range (d .before .before .before) in
     let p = place (d .before) in
-    ap verdict (sym (judge-on sha256 (a .n) (a .j) (a .root .now) (a .s .now) (X d) (w .0) (w .1) (p .0) (p .1) (d .if3 .left) ∙ h))
+    ap verdict (sym (judge-on sha256 (a .session) (a .n) (a .j) (a .root .now) (a .s .now) (X d) (w .0) (w .1) (p .0) (p .1) (d .if3 .left) ∙ h))
 
 parties-requires : tie.Need-parties-requires
 parties-requires c κs = search needs
 
 returns : tie.Need-returns
-returns c = ap verdict (sym (judge-parties sha256 _ _ _ _ _ (denied (c .before .parties .ensures) (c .if1 .taken))))
+returns c = ap verdict (sym (judge-parties sha256 _ _ _ _ _ _ (denied (c .before .parties .ensures) (c .if1 .taken))))
 
 numbered-requires : tie.Need-numbered-requires
 numbered-requires c κs = search needs
@@ -53,14 +53,14 @@ numbered-requires c κs = search needs
 returns-2 : tie.Need-returns-2
 returns-2 c =
     let w = range (c .before .before) in
-    ap verdict (sym (judge-number sha256 _ _ _ _ _ (w .0) (w .1) (denied (c .before .numbered .ensures) (c .if2 .taken))))
+    ap verdict (sym (judge-number sha256 _ _ _ _ _ _ (w .0) (w .1) (denied (c .before .numbered .ensures) (c .if2 .taken))))
 
 returns-3 : tie.Need-returns-3
 returns-3 c =
     let e = c .before in
     let w = range (e .before .before) in
     let p = place e in
-    ap verdict (sym (judge-root sha256 _ _ _ _ _ (w .0) (w .1) (p .0) (p .1) (c .if3 .taken)))
+    ap verdict (sym (judge-root sha256 _ _ _ _ _ _ (w .0) (w .1) (p .0) (p .1) (c .if3 .taken)))
 
 enum-told : tie.Need-enum-told
 enum-told c = search needs
@@ -75,7 +75,7 @@ returns-5 : tie.Need-returns-5
 returns-5 c =
     let d = c .before .before in
     let a = Entry d .args in
-    given d _ (on-refused sha256 (a .n) (a .j) (a .root .now) (a .s .now) (X d) (c .before .match .keys2) (c .match2 .keys2))
+    given d _ (on-refused sha256 (a .session) (a .n) (a .j) (a .root .now) (a .s .now) (X d) (c .before .match .keys2) (c .match2 .keys2))
 
 returns-6 : tie.Need-returns-6
 returns-6 c =
@@ -84,7 +84,7 @@ returns-6 c =
     let a = Entry d .args in
     let g = k .packet .given .0 in
     given d _ (ap (On d) (k .packet .given .1)
-    ∙ on-other sha256 (a .n) (a .j) (a .root .now) (a .s .now) (g .1 .0) (g .1 .1 .0) (g .1 .1 .1 .0) (g .0) (c .if4 .taken))
+    ∙ on-other sha256 (a .session) (a .n) (a .j) (a .root .now) (a .s .now) (g .1 .0) (g .1 .1 .0) (g .1 .1 .1 .0) (g .0) (c .if4 .taken))
 
 judge-share-requires : tie.Need-judge-share-requires
 judge-share-requires c κs =

@@ -11,6 +11,7 @@ use Rattle.limits.specs.Limits.{maxPath}
 use Rattle.merkle.specs.Shares.{blank, passes, checkOf}
 use Rattle.merkle.specs.Answer.{checked, answerOf}
 use Rattle.merkle.proofs.Judged.{check-judged}
+use Rattle.merkle.proofs.Written.{front-short}
 use Rattle.packet.specs.Format.{hashes}
 use Rattle.packet.proofs.Path.{padded, path-there, length-hashes}
 use Rattle.packet.proofs.Verdict.{leads, passes-take, told-true, told-false, on-long, on-many, on-outside, on-failed, on-valid}
@@ -27,76 +28,76 @@ Entry k = k .before .before .before .before .before .before .before .before .bef
 abbrev Leads : tie.After-check → Bool
 Leads k =
     let a = Entry k .args in
-    leads sha256 (a .n) (a .j) (a .root .now) (a .s .now) (a .from) (a .len) (a .count)
+    leads sha256 (a .session) (a .n) (a .j) (a .root .now) (a .s .now) (a .place .from) (a .place .len) (a .place .count)
 
 -- the path read, the bytes of the share, and the part of the bytes that is passed on
 abbrev Path : tie.After-check → List (List ℕ)
-Path k = let a = Entry k .args in padded (a .count) (drop (a .from + a .len) (a .s .now))
+Path k = let a = Entry k .args in padded (a .place .count) (drop (a .place .from + a .place .len) (a .s .now))
 
 there : (k : tie.After-check) → k .before .before .path-at .result ≡ Path k
 there k =
     let a = Entry k .args in
-    k .before .before .path-at .ensures ∙ path-there (a .s .now) (a .from + a .len) (a .count) (omega arith) (omega arith)
+    k .before .before .path-at .ensures ∙ path-there (a .s .now) (a .place .from + a .place .len) (a .place .count) (omega arith) (omega arith)
 
 abbrev X : tie.After-check → List ℕ
-X k = let a = Entry k .args in take (a .len) (drop (a .from) (a .s .now))
+X k = let a = Entry k .args in take (a .place .len) (drop (a .place .from) (a .s .now))
 
-part : (k : tie.After-check) → let a = Entry k .args in take (a .from + a .len - a .from) (drop (a .from) (a .s .now)) ≡ X k
+part : (k : tie.After-check) → let a = Entry k .args in take (a .place .from + a .place .len - a .place .from) (drop (a .place .from) (a .s .now)) ≡ X k
 part k =
     let a = Entry k .args in
-    let e : a .from + a .len - a .from ≡ a .len = omega arith in
-    ap (λ (i : ℕ). take i (drop (a .from) (a .s .now))) e
+    let e : a .place .from + a .place .len - a .place .from ≡ a .place .len = omega arith in
+    ap (λ (i : ℕ). take i (drop (a .place .from) (a .s .now))) e
 
-long : (k : tie.After-check) → length (X k) ≡ Entry k .args .len
+long : (k : tie.After-check) → length (X k) ≡ Entry k .args .place .len
 long k =
     let st = Entry k in
     let a = st .args in
-    length-take-le (a .len) (drop (a .from) (a .s .now)) (omega (arith, length-drop (a .from) (a .s .now), st .pre))
+    length-take-le (a .place .len) (drop (a .place .from) (a .s .now)) (omega (arith, length-drop (a .place .from) (a .s .now), st .pre))
 
 -- what is checked; only the hashes counted matter
 asked : (k : tie.After-check) → let a = Entry k .args in
     checked (k .check .result)
-    ≡ checkOf sha256 (a .n) (a .j) (take (a .from + a .len - a .from) (drop (a .from) (a .s .now))) (k .before .before .path-at .result)
-    (a .count) (a .root .now)
+    ≡ checkOf sha256 (a .session) (a .n) (a .j) (take (a .place .from + a .place .len - a .place .from) (drop (a .place .from) (a .s .now))) (k .before .before .path-at .result)
+    (a .place .count) (a .root .now)
 asked k = k .check .ensures
 
 told : (k : tie.After-check) → let a = Entry k .args in
-    checked (k .check .result) ≡ checkOf sha256 (a .n) (a .j) (X k) (Path k) (a .count) (a .root .now)
+    checked (k .check .result) ≡ checkOf sha256 (a .session) (a .n) (a .j) (X k) (Path k) (a .place .count) (a .root .now)
 told k =
     let a = Entry k .args in
     asked k
-    ∙ ap₂ (λ (x : List ℕ) (p : List (List ℕ)). checkOf sha256 (a .n) (a .j) x p (a .count) (a .root .now)) (part k) (there k)
+    ∙ ap₂ (λ (x : List ℕ) (p : List (List ℕ)). checkOf sha256 (a .session) (a .n) (a .j) x p (a .place .count) (a .root .now)) (part k) (there k)
 
 judged : (k : tie.After-check) → let a = Entry k .args in
-    checkOf sha256 (a .n) (a .j) (X k) (Path k) (a .count) (a .root .now)
-    ≡ answerOf (passes sha256 (a .n) (a .j) (X k) (Path k) (a .count) (a .root .now))
+    checkOf sha256 (a .session) (a .n) (a .j) (X k) (Path k) (a .place .count) (a .root .now)
+    ≡ answerOf (passes sha256 (a .session) (a .n) (a .j) (X k) (Path k) (a .place .count) (a .root .now))
 judged k =
     let a = Entry k .args in
-    check-judged sha256 (a .n) (a .j) (X k) (Path k) (a .count) (a .root .now)
-    (omega arith) (omega arith) (omega arith) (omega arith) (omega (arith, long k)) (omega arith)
+    check-judged sha256 (a .session) (a .n) (a .j) (X k) (Path k) (a .place .count) (a .root .now)
+    (omega arith) (omega arith) (omega arith) (omega arith) (omega (arith, long k, front-short (a .session))) (omega arith)
 
 answer : (k : tie.After-check) → checked (k .check .result) ≡ answerOf (Leads k)
 answer k =
     let a = Entry k .args in
-    let r = drop (a .from + a .len) (a .s .now) in
+    let r = drop (a .place .from + a .place .len) (a .s .now) in
     told k ∙ judged k
-    ∙ ap answerOf (passes-take (a .n) (a .j) (X k) (hashes (a .count) r) (replicate (maxPath - a .count) blank)
-    (a .count) (a .root .now) (length-hashes (a .count) r))
+    ∙ ap answerOf (passes-take (a .session) (a .n) (a .j) (X k) (hashes (a .place .count) r) (replicate (maxPath - a .place .count) blank)
+    (a .place .count) (a .root .now) (length-hashes (a .place .count) r))
 
 returns : tie.Need-returns
 returns c =
     let a = c .before .before .before .args in
-    sym (on-long sha256 (a .n) (a .j) (a .root .now) (a .s .now) (a .from) (a .len) (a .count) (omega arith))
+    sym (on-long sha256 (a .session) (a .n) (a .j) (a .root .now) (a .s .now) (a .place .from) (a .place .len) (a .place .count) (omega arith))
 
 returns-2 : tie.Need-returns-2
 returns-2 c =
     let a = c .before .before .before .before .args in
-    sym (on-many sha256 (a .n) (a .j) (a .root .now) (a .s .now) (a .from) (a .len) (a .count) (omega arith) (omega arith) (omega arith) (omega arith))
+    sym (on-many sha256 (a .session) (a .n) (a .j) (a .root .now) (a .s .now) (a .place .from) (a .place .len) (a .place .count) (omega arith) (omega arith) (omega arith) (omega arith))
 
 returns-3 : tie.Need-returns-3
 returns-3 c =
     let a = c .before .before .before .before .before .args in
-    sym (on-outside sha256 (a .n) (a .j) (a .root .now) (a .s .now) (a .from) (a .len) (a .count) (omega arith) (omega arith))
+    sym (on-outside sha256 (a .session) (a .n) (a .j) (a .root .now) (a .s .now) (a .place .from) (a .place .len) (a .place .count) (omega arith) (omega arith))
 
 sub-if4 : tie.Need-sub-if4
 sub-if4 c = search needs
@@ -110,7 +111,7 @@ add-if4 c = search needs
 returns-4 : tie.Need-returns-4
 returns-4 c =
     let a = c .before .before .before .before .before .before .args in
-    sym (on-outside sha256 (a .n) (a .j) (a .root .now) (a .s .now) (a .from) (a .len) (a .count) (omega arith) (omega arith))
+    sym (on-outside sha256 (a .session) (a .n) (a .j) (a .root .now) (a .s .now) (a .place .from) (a .place .len) (a .place .count) (omega arith) (omega arith))
 
 add-end : tie.Need-add-end
 add-end c = search needs
@@ -137,14 +138,14 @@ returns-5 : tie.Need-returns-5
 returns-5 c =
     let k = c .before .before in
     let a = Entry k .args in
-    sym (on-valid sha256 (a .n) (a .j) (a .root .now) (a .s .now) (a .from) (a .len) (a .count) (omega arith) (omega arith)
+    sym (on-valid sha256 (a .session) (a .n) (a .j) (a .root .now) (a .s .now) (a .place .from) (a .place .len) (a .place .count) (omega arith) (omega arith)
     (told-true (k .check .result) (Leads k) (answer k) (c .enum-told .given .1)))
 
 returns-6 : tie.Need-returns-6
 returns-6 c =
     let k = c .before in
     let a = Entry k .args in
-    sym (on-failed sha256 (a .n) (a .j) (a .root .now) (a .s .now) (a .from) (a .len) (a .count)
+    sym (on-failed sha256 (a .session) (a .n) (a .j) (a .root .now) (a .s .now) (a .place .from) (a .place .len) (a .place .count)
     (told-false (k .check .result) (Leads k) (answer k) (c .match .keys2)))
 
 pub judge-share-spec : {M : Type 1} → statement M

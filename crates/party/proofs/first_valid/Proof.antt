@@ -20,12 +20,12 @@ use Rattle.party.proofs.first_valid.Statement.{statement}
 use Rattle.party.proofs.first_valid.Tie as tie
 
 abbrev Inv-loop : tie.InvT-loop
-Inv-loop n own root inbox at₀ j₀ at j =
+Inv-loop session n own root inbox at₀ j₀ at j =
     (at ≤ length inbox) × (j ≤ n) × (fills (n - j) (drop at inbox) ≡ true)
-    × (firstValid sha256 n own root 1 (bodies n inbox) ≡ firstValid sha256 n own root (j + 1) (bodies (n - j) (drop at inbox)))
+    × (firstValid sha256 session n own root 1 (bodies n inbox) ≡ firstValid sha256 session n own root (j + 1) (bodies (n - j) (drop at inbox)))
 
 abbrev μ-loop : tie.MeasureT-loop
-μ-loop n own root inbox at₀ j₀ at j = n - j
+μ-loop session n own root inbox at₀ j₀ at j = n - j
 
 -- the names of the source, in a turn
 abbrev S : tie.In-loop Inv-loop μ-loop → List ℕ
@@ -33,6 +33,9 @@ S c = c .before .before .before .args .inbox .now
 
 abbrev Z : tie.In-loop Inv-loop μ-loop → List ℕ
 Z c = c .before .before .before .args .root .now
+
+abbrev Session : tie.In-loop Inv-loop μ-loop → ℕ
+Session c = c .before .before .before .args .session
 
 abbrev N : tie.In-loop Inv-loop μ-loop → ℕ
 N c = c .before .before .before .args .n
@@ -77,7 +80,7 @@ loop-again c =
       omega (arith, read r .next-is, room d),
       omega arith,
       rw (read r .next-is) (stands d .tail),
-      rw (read r .next-is) (d .before .loop .inv .3 ∙ first-own sha256 (N d) (Own d) (Z d) (N d - (J d + 1)) (N d - J d) (J d + 1) (At d) (S d)
+      rw (read r .next-is) (d .before .loop .inv .3 ∙ first-own sha256 (Session d) (N d) (Own d) (Z d) (N d - (J d + 1)) (N d - J d) (J d + 1) (At d) (S d)
           (omega arith) (c .if1 .taken)),
     )
 
@@ -95,9 +98,9 @@ loop-again-2 c =
       omega (arith, read r .next-is, room d),
       omega arith,
       rw (read r .next-is) (stands d .tail),
-      rw (read r .next-is) (d .before .loop .inv .3 ∙ first-later sha256 (N d) (Own d) (Z d) (N d - (J d + 1)) (N d - J d) (J d + 1) (At d) (S d)
+      rw (read r .next-is) (d .before .loop .inv .3 ∙ first-later sha256 (Session d) (N d) (Own d) (Z d) (N d - (J d + 1)) (N d - J d) (J d + 1) (At d) (S d)
           (omega arith) (e .if1 .left)
-          (class-unread sha256 (N d) (Own d) (Z d) (S d) (At d + 2) (size (drop (At d) (S d))) (room d) _ (read r .packet-is) (c .match .keys2))),
+          (class-unread sha256 (Session d) (N d) (Own d) (Z d) (S d) (At d + 2) (size (drop (At d) (S d))) (room d) _ (read r .packet-is) (c .match .keys2))),
     )
 
 judge-requires : tie.Need-judge-requires Inv-loop μ-loop
@@ -120,9 +123,9 @@ loop-again-3 c =
       omega (arith, read r .next-is, room d),
       omega arith,
       rw (read r .next-is) (stands d .tail),
-      rw (read r .next-is) (d .before .loop .inv .3 ∙ first-later sha256 (N d) (Own d) (Z d) (N d - (J d + 1)) (N d - J d) (J d + 1) (At d) (S d)
+      rw (read r .next-is) (d .before .loop .inv .3 ∙ first-later sha256 (Session d) (N d) (Own d) (Z d) (N d - (J d + 1)) (N d - J d) (J d + 1) (At d) (S d)
           (omega arith) (e .if1 .left)
-          (class-passed-over sha256 (N d) (Own d) (Z d) (S d) (At d + 2) (size (drop (At d) (S d))) (room d) _
+          (class-passed-over sha256 (Session d) (N d) (Own d) (Z d) (S d) (At d + 2) (size (drop (At d) (S d))) (room d) _
           (sym (k .packet .given .1) ∙ read r .packet-is) (p .0) (p .1) (p .2) (p .3) (p .5) (j .judge .result) (verdict-one (j .judge .ensures)) (c .match2 .keys2))),
     )
 
@@ -139,8 +142,8 @@ returns c =
     let len = g .1 .1 .0 in
     let count = g .1 .1 .1 .0 in
     subst (λ (t : Taken). TakenIs (Found from len count) t (S d)) (sym (d .before .loop .inv .3))
-    (first-taken sha256 (N d) (Own d) (Z d) (N d - (J d + 1)) (N d - J d) (J d + 1) (At d) (S d) (omega arith) (e .if1 .left) from len count
-    (class-taken sha256 (N d) (Own d) (Z d) (S d) (At d + 2) (size (drop (At d) (S d))) (room d) _ (sym (k .packet .given .1) ∙ read r .packet-is)
+    (first-taken sha256 (Session d) (N d) (Own d) (Z d) (N d - (J d + 1)) (N d - J d) (J d + 1) (At d) (S d) (omega arith) (e .if1 .left) from len count
+    (class-taken sha256 (Session d) (N d) (Own d) (Z d) (S d) (At d + 2) (size (drop (At d) (S d))) (room d) _ (sym (k .packet .given .1) ∙ read r .packet-is)
     (p .0) (p .1) (p .2) (p .3) (p .5) (j .judge .result) (verdict-one (j .judge .ensures)) (g .0) from len count refl
     (c .enum-told .given .1)))
 
@@ -149,7 +152,7 @@ returns-2 c =
     let l = c .before .loop in
     let a = c .before .before .before .args in
     subst (λ (t : Taken). TakenIs Nowhere t (a .inbox .now))
-    (sym (l .inv .3 ∙ first-none sha256 (a .n) (a .own) (a .root .now) (a .n - l .j) (l .j + 1) (l .at) (a .inbox .now)
+    (sym (l .inv .3 ∙ first-none sha256 (a .session) (a .n) (a .own) (a .root .now) (a .n - l .j) (l .j + 1) (l .at) (a .inbox .now)
     (omega arith))) tt
 
 pub first-valid-spec : {M : Type 1} → statement M

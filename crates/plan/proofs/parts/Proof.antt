@@ -160,9 +160,15 @@ returns-3 c =
     ∙ sym (plan-long (S z) (omega (arith, p .header .room)) (p .group) (p .short) (laid l .0) (sym (known k) ∙ f .before .if1 .left)
     (denied (fits f) (t .if2 .taken)))
 
+session-of-requires : tie.Need-session-of-requires
+session-of-requires c κs =
+    let z = Sized (Held (c .before .before .before .before .before)) in
+    (options-is z, omega (arith, Entry z .pre .header .room))
+
 returns-4 : tie.Need-returns-4
 returns-4 c =
-    let f = c .before in
+    let d = c .before in
+    let f = d .before in
     let k = f .before .before in
     let l = k .before .before in
     let h = Held l in
@@ -170,11 +176,12 @@ returns-4 c =
     let p = Entry z .pre in
     let y = laid l in
     plan-taken (S z) (omega (arith, p .header .room)) (p .group) (p .short) (y .0) (sym (known k) ∙ f .before .if1 .left)
-    (sym (fits f) ∙ not-false (f .books-fit .result) (c .if2 .left)) _ refl (record {
+    (sym (fits f) ∙ not-false (f .books-fit .result) (d .if2 .left)) _ refl (record {
       n-is = p .n-is;
       t-is = p .t-is;
       options-is = options-is z;
       sender-is = ap (λ (x : Source). x .number) (source-is (h .before));
+      session-is = c .session-of .ensures;
       good-is = good-is z;
       holders-is = held h;
       books-is = p .header .there;
@@ -203,4 +210,5 @@ parts-spec =
     books-fit-requires
     refused-requires-3
     returns-3
+    session-of-requires
     returns-4)

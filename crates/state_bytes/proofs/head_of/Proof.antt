@@ -7,6 +7,9 @@ use Rattle.state_bytes.proofs.head_of.Tie as tie
 length-for-requires : tie.Need-length-for-requires
 length-for-requires c κs = search needs
 
+four-bytes-requires : tie.Need-four-bytes-requires
+four-bytes-requires c κs = search needs
+
 low-requires : tie.Need-low-requires
 low-requires c κs = search needs
 
@@ -31,22 +34,36 @@ low-requires-6 c κs = search needs
 low-requires-7 : tie.Need-low-requires-7
 low-requires-7 c κs = search needs
 
+array-read-t19 : tie.Need-array-read-t19
+array-read-t19 c = search needs
+
+array-read-t22 : tie.Need-array-read-t22
+array-read-t22 c = search needs
+
+array-read-t25 : tie.Need-array-read-t25
+array-read-t25 c = search needs
+
+array-read-t28 : tie.Need-array-read-t28
+array-read-t28 c = search needs
+
 returns : tie.Need-returns
 returns c = let e = c .before .before .before in
     let d = e .before in
     let o = d .before in
     let t = o .before in
     let n = t .before in
-    let l = n .before in
-    head-is (l .before .args .x) (l .length-for .result) _ _ _ _ _ _ _ _ (l .length-for .ensures) (n .low .ensures) (t .low2 .ensures)
+    let k = n .before in
+    let l = k .before in
+    head-is (l .before .args .x) (l .length-for .result) _ _ _ _ _ _ _ _ _ (l .length-for .ensures) (n .low .ensures) (t .low2 .ensures)
     (o .low3 .ensures) (d .stage-number .ensures) (e .low4 .ensures) (c .before .before .low5 .ensures) (c .before .low6 .ensures)
-    (c .low7 .ensures)
+    (c .low7 .ensures) (k .four-bytes .ensures)
 
 pub head-of-spec : {M : Type 1} → statement M
 head-of-spec =
     tie.close
     (tie.spec
     length-for-requires
+    four-bytes-requires
     low-requires
     low-requires-2
     low-requires-3
@@ -55,4 +72,8 @@ head-of-spec =
     low-requires-5
     low-requires-6
     low-requires-7
+    array-read-t19
+    array-read-t22
+    array-read-t25
+    array-read-t28
     returns)

@@ -13,6 +13,9 @@ wide-requires c κs = search needs
 size-at-requires : tie.Need-size-at-requires
 size-at-requires c κs = search needs
 
+number-at-requires : tie.Need-number-at-requires
+number-at-requires c κs = search needs
+
 shared-slice-read-wide-2 : tie.Need-shared-slice-read-wide-2
 shared-slice-read-wide-2 c = search needs
 
@@ -58,11 +61,12 @@ returns c = let y = c .before in
     let o = g .before in
     let t = o .before .before in
     let n = t .before .before in
-    let k = n .before .before in
+    let q = n .before .before in
+    let k = q .before in
     let i = k .before in
     let st = i .before .before .before in
-    fields-are (st .args .bytes .now) (i .wide .result) (k .size-at .result) _ _ _ _ _ _ _ _ _ (i .wide .ensures .0) (k .size-at .ensures)
-    (n .wide2 .ensures .0) (t .wide3 .ensures .0) (o .wide4 .ensures .0) (g .stage-of .ensures) (m .message-in .ensures)
+    fields-are (st .args .bytes .now) (i .wide .result) (k .size-at .result) _ _ _ _ _ _ _ _ _ _ (i .wide .ensures .0) (k .size-at .ensures)
+    (q .number-at .ensures) (n .wide2 .ensures .0) (t .wide3 .ensures .0) (o .wide4 .ensures .0) (g .stage-of .ensures) (m .message-in .ensures)
     (l .length-of .ensures) (z .root-in .ensures) (y .share-in .ensures) (c .size-at2 .ensures)
 
 pub read-fields-spec : {M : Type 1} → statement M
@@ -72,6 +76,7 @@ read-fields-spec =
     shared-slice-read-wide
     wide-requires
     size-at-requires
+    number-at-requires
     shared-slice-read-wide-2
     wide-requires-2
     shared-slice-read-wide-3

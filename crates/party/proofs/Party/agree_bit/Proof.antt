@@ -139,7 +139,7 @@ returns-4 c =
     let s = Sends v in
     let a = Entry (One v .before .before) .args in
     let x = a .self in
-    let bs = mailWith sha256 false (x .seat .n) (x .seat .t) (x .seat .own) (messageIn x) in
+    let bs = mailWith sha256 (x .seat .session) false (x .seat .n) (x .seat .t) (x .seat .own) (messageIn x) in
     ap (λ (r : Reply). stepped r (Left v)) (c .after .ensures)
     ∙ writes-given x (v .waiting .result) bs (a .out .now) (s .send .result .answer) (Left v) (s .send .ensures .1 (t .if4 .taken))
     ∙ ap₂ (λ (y : Party) (bs : List ℕ). writes x y bs (a .out .now)) (next v)

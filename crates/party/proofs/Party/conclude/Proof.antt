@@ -63,7 +63,7 @@ abbrev A : tie.Start → Recovered
 A st = recoveredBy sha256 (X st) (S st)
 
 abbrev Under : tie.Start → Recovered → Result
-Under st a = rebuilt (underRoot sha256 (X st .seat .n) (X st .seat .t) (X st .root) a)
+Under st a = rebuilt (underRoot sha256 (X st .seat .session) (X st .seat .n) (X st .seat .t) (X st .root) a)
 
 rebuilding : (d : tie.After-rebuild-at) → let st = E d in resultFound sha256 (X st) (S st) ≡ Under st (A st)
 rebuilding d =

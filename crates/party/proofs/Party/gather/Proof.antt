@@ -23,10 +23,10 @@ use Rattle.party.proofs.Party.gather.Statement.{statement}
 use Rattle.party.proofs.Party.gather.Tie as tie
 
 abbrev Inv-loop : tie.InvT-loop
-Inv-loop self inbox n own root from₀ len₀ at₀ j₀ from len at j = Gathering sha256 n own root (shareHeld self) inbox j at from len
+Inv-loop self inbox session n own root from₀ len₀ at₀ j₀ from len at j = Gathering sha256 session n own root (shareHeld self) inbox j at from len
 
 abbrev μ-loop : tie.MeasureT-loop
-μ-loop self inbox n own root from₀ len₀ at₀ j₀ from len at j = n - j
+μ-loop self inbox session n own root from₀ len₀ at₀ j₀ from len at j = n - j
 
 -- the names of the source, in a turn
 abbrev Start : tie.In-loop Inv-loop μ-loop → tie.Start Inv-loop μ-loop
@@ -37,6 +37,9 @@ X c = Start c .args .self
 
 abbrev S : tie.In-loop Inv-loop μ-loop → List ℕ
 S c = Start c .args .inbox .now
+
+abbrev Session : tie.In-loop Inv-loop μ-loop → ℕ
+Session c = X c .seat .session
 
 abbrev N : tie.In-loop Inv-loop μ-loop → ℕ
 N c = X c .seat .n
@@ -81,7 +84,7 @@ loop-holds : tie.Need-loop-holds Inv-loop μ-loop
 loop-holds c =
     let st = c .before .before in
     let x = st .args .self in
-    gathering-start sha256 (x .seat .n) (x .seat .own) (x .root) (shareHeld x) (st .args .inbox .now) (st .pre .1)
+    gathering-start sha256 (x .seat .session) (x .seat .n) (x .seat .own) (x .root) (shareHeld x) (st .args .inbox .now) (st .pre .1)
 
 read-entry-requires : tie.Need-read-entry-requires Inv-loop μ-loop
 read-entry-requires c κs = search needs
@@ -119,8 +122,8 @@ loop-again c =
     let here : take (X d .held) (drop (length s) (s ++ y)) ≡ y = part-second s y (length s) (X d .held) (omega arith)
     ∙ ap (λ (k : ℕ). take (X d .held) (drop k y)) (let e : length s - length s ≡ 0 = omega arith in e)
     ∙ take-all (X d .held) y (omega (arith, held d)) in
-    rw (read r .next-is) (gathering-placed sha256 (N d) (Own d) (Z d) y s (J d) (At d) (o .from) (o .len) y (o .inv) (omega arith) (f .high) (stands d)
-    (picked-own sha256 (N d) (Own d) (Z d) y (N d - (J d + 1)) (N d - J d) (J d + 1) (At d) s (omega arith) (c .if1 .taken))
+    rw (read r .next-is) (gathering-placed sha256 (Session d) (N d) (Own d) (Z d) y s (J d) (At d) (o .from) (o .len) y (o .inv) (omega arith) (f .high) (stands d)
+    (picked-own sha256 (Session d) (N d) (Own d) (Z d) y (N d - (J d + 1)) (N d - J d) (J d + 1) (At d) s (omega arith) (c .if1 .taken))
     (length s) (X d .held)
     (in-one-lies (length s) (length y) (length s) (X d .held) (omega (arith, f .few)) (λ h. absurd (omega arith), omega (arith, held d))) here)
 
@@ -136,10 +139,10 @@ loop-again-2 c =
     let r = e .before in
     let d = r .before in
     let o = d .before .loop in
-    rw (read r .next-is) (gathering-missed sha256 (N d) (Own d) (Z d) (Y d) (S d) (J d) (At d) (o .from) (o .len) _ (o .inv) (omega arith)
+    rw (read r .next-is) (gathering-missed sha256 (Session d) (N d) (Own d) (Z d) (Y d) (S d) (J d) (At d) (o .from) (o .len) _ (o .inv) (omega arith)
     (Start d .pre .0 .high) (stands d)
-    (picked-missed sha256 (N d) (Own d) (Z d) (Y d) (N d - (J d + 1)) (N d - J d) (J d + 1) (At d) (S d) (omega arith) (e .if1 .left)
-    (class-unread sha256 (N d) (J d + 1) (Z d) (S d) (At d + 2) (size (drop (At d) (S d))) (room d) _ (read r .packet-is) (c .match .keys2))) refl)
+    (picked-missed sha256 (Session d) (N d) (Own d) (Z d) (Y d) (N d - (J d + 1)) (N d - J d) (J d + 1) (At d) (S d) (omega arith) (e .if1 .left)
+    (class-unread sha256 (Session d) (N d) (J d + 1) (Z d) (S d) (At d + 2) (size (drop (At d) (S d))) (room d) _ (read r .packet-is) (c .match .keys2))) refl)
 
 slice-aggregate-judge : tie.Need-slice-aggregate-judge Inv-loop μ-loop
 slice-aggregate-judge c = search needs
@@ -168,10 +171,10 @@ loop-again-3 c =
     let d = r .before in
     let o = d .before .loop in
     let f = Start d .pre .0 in
-    rw (read r .next-is) (gathering-missed sha256 (N d) (Own d) (Z d) (Y d) (S d) (J d) (At d) (o .from) (o .len) _ (o .inv) (omega arith)
+    rw (read r .next-is) (gathering-missed sha256 (Session d) (N d) (Own d) (Z d) (Y d) (S d) (J d) (At d) (o .from) (o .len) _ (o .inv) (omega arith)
     (f .high) (stands d)
-    (picked-missed sha256 (N d) (Own d) (Z d) (Y d) (N d - (J d + 1)) (N d - J d) (J d + 1) (At d) (S d) (omega arith) (k .before .before .if1 .left)
-    (class-passed-over sha256 (N d) (J d + 1) (Z d) (S d) (At d + 2) (size (drop (At d) (S d))) (room d) _ (sym (k .packet .given .1) ∙ read r .packet-is)
+    (picked-missed sha256 (Session d) (N d) (Own d) (Z d) (Y d) (N d - (J d + 1)) (N d - J d) (J d + 1) (At d) (S d) (omega arith) (k .before .before .if1 .left)
+    (class-passed-over sha256 (Session d) (N d) (J d + 1) (Z d) (S d) (At d + 2) (size (drop (At d) (S d))) (room d) _ (sym (k .packet .given .1) ∙ read r .packet-is)
     (f .low) (f .high) (omega arith) (omega arith) (root-long (Start d)) (j .judge .result) (verdict-one (j .judge .ensures)) (c .match2 .keys2)))
     refl)
 
@@ -203,13 +206,13 @@ loop-again-4 c =
     let from = g .1 .0 in
     let len = g .1 .1 .0 in
     let count = g .1 .1 .1 .0 in
-    let p = classOf sha256 (N d) (J d + 1) (Z d) (bodyAt (At d) s) in
-    let t : TakenAt s from len count p = class-taken sha256 (N d) (J d + 1) (Z d) s (At d + 2) (size (drop (At d) s)) (room d) _
+    let p = classOf sha256 (Session d) (N d) (J d + 1) (Z d) (bodyAt (At d) s) in
+    let t : TakenAt s from len count p = class-taken sha256 (Session d) (N d) (J d + 1) (Z d) s (At d + 2) (size (drop (At d) s)) (room d) _
     (sym (k .packet .given .1) ∙ read r .packet-is) (f .low) (f .high) (omega arith) (omega arith) (root-long (Start d)) (j .judge .result)
     (verdict-one (j .judge .ensures)) (g .0) from len count refl (c .enum-told .given .1) in
     let b = taken-bounds p s from len count t in
-    rw (read r .next-is) (gathering-placed sha256 (N d) (Own d) (Z d) (Y d) s (J d) (At d) (o .from) (o .len) _ (o .inv) (omega arith) (f .high) (stands d)
-    (picked-held sha256 (N d) (Own d) (Z d) (Y d) (N d - (J d + 1)) (N d - J d) (J d + 1) (At d) s (omega arith) (k .before .before .if1 .left)
+    rw (read r .next-is) (gathering-placed sha256 (Session d) (N d) (Own d) (Z d) (Y d) s (J d) (At d) (o .from) (o .len) _ (o .inv) (omega arith) (f .high) (stands d)
+    (picked-held sha256 (Session d) (N d) (Own d) (Z d) (Y d) (N d - (J d + 1)) (N d - J d) (J d + 1) (At d) s (omega arith) (k .before .before .if1 .left)
     from len count t)
     from len
     (in-one-lies (length s) (length (Y d)) from len (omega (arith, b .1)) (λ h. b .0, omega (arith, b .0)))
@@ -223,7 +226,7 @@ returns c =
     let s = st .args .inbox .now in
     subst (λ (shares : List (List ℕ)). Gathered (x .seat .n) shares s (shareHeld x) (record { from = l .loop .from; len = l .loop .len }))
     (picked-gathered sha256 x 1 (bodies (x .seat .n) s))
-    (gathering-end sha256 (x .seat .n) (x .seat .own) (x .root) (shareHeld x) s (l .loop .j) (l .loop .at) (l .loop .from) (l .loop .len)
+    (gathering-end sha256 (x .seat .session) (x .seat .n) (x .seat .own) (x .root) (shareHeld x) s (l .loop .j) (l .loop .at) (l .loop .from) (l .loop .len)
     (let f = l .loop .inv .few in omega arith) (l .loop .inv))
 
 pub gather-spec : {M : Type 1} → statement M

@@ -26,12 +26,12 @@ same-requires c κs = search needs
 returns : tie.Need-returns
 returns c =
     let r = c .before .before .before .before in
-    let s = r .before .before .before in
+    let s = r .before .before .before .before in
     let x = s .args .self in
     let m = s .args .message .now in
     same-is (r .root .result .root) (x .root) (c .same .result) (c .same .ensures .0) (c .same .ensures .1)
     ∙ ap (λ (g : Rooted). same (g .root) (x .root))
-    (r .root .ensures ∙ rooted-given sha256 (x .seat .n) (x .seat .t) (x .seat .own) m (fit-open x (s .pre .0) (length m) (s .pre .1)))
+    (r .root .ensures ∙ rooted-given sha256 (x .seat .session) (x .seat .n) (x .seat .t) (x .seat .own) m (fit-open x (s .pre .0) (length m) (s .pre .1)))
 
 pub has-root-spec : {M : Type 1} → statement M
 has-root-spec =

@@ -33,7 +33,7 @@ returns c =
     let a = q .before .before .args in
     let some : openCause (a .n) (a .t) (a .own) (length (a .message .now)) ≡ 0 → ⊥ = λ e. t .if1 .taken (q .open-cause .ensures ∙ e) in
     c .refused-opening .ensures ∙ ap refusedOpening (q .open-cause .ensures)
-    ∙ sym (open-refused sha256 (a .n) (a .t) (a .own) (a .message .now) some)
+    ∙ sym (open-refused sha256 (a .session) (a .n) (a .t) (a .own) (a .message .now) some)
 
 root-requires : tie.Need-root-requires
 root-requires c κs = search needs
@@ -57,9 +57,9 @@ returns-2 c =
     let b = open-bounds (a .n) (a .t) (a .own) (length m) none in
     let k = p .put .ensures .1 ∙ put-padded maxMessage m (b .3) in
     ap₂ {C = Opened} (λ (x : Party) (r : Rooted). record { state = x; cause = 0; root = r .root })
-    (waiting-kept (seatOf (a .n) (a .t) (a .own)) Root _ m blank blank _ [] (length m) 0 k refl refl refl refl)
-    (r .root .ensures ∙ rooted-given sha256 (a .n) (a .t) (a .own) m none)
-    ∙ sym (open-given sha256 (a .n) (a .t) (a .own) m none)
+    (waiting-kept (seatOf (a .session) (a .n) (a .t) (a .own)) Root _ m blank blank _ [] (length m) 0 k refl refl refl refl)
+    (r .root .ensures ∙ rooted-given sha256 (a .session) (a .n) (a .t) (a .own) m none)
+    ∙ sym (open-given sha256 (a .session) (a .n) (a .t) (a .own) m none)
 
 pub open-spec : {M : Type 1} → statement M
 open-spec =

@@ -39,12 +39,12 @@ short e q =
 -- a party that sends nothing
 silent : (e : tie.Else1) (o : Opened) → let a = Entry e .args in
     packetBy (a .n) (a .own) (a .sender) (a .bytes .now) ≡ []
-    → o ≡ openOf sha256 (a .n) (a .t) (a .own) (messageBy (a .own) (a .sender) (a .bytes .now))
-    → begun (record { opened = o; len = 0 }) (a .out .now) ≡ openBySenderOf sha256 (a .n) (a .t) (a .own) (a .sender) (a .bytes .now) (a .out .now)
+    → o ≡ openOf sha256 (a .session) (a .n) (a .t) (a .own) (messageBy (a .own) (a .sender) (a .bytes .now))
+    → begun (record { opened = o; len = 0 }) (a .out .now) ≡ openBySenderOf sha256 (a .session) (a .n) (a .t) (a .own) (a .sender) (a .bytes .now) (a .out .now)
 silent e o p q =
     let a = Entry e .args in
     ap {B = Begun} (λ (x : Opened). record { opened = x; value = 0; buffer = a .out .now }) q
-    ∙ sym (begun-silent (a .n) (a .t) (a .own) (a .sender) (a .bytes .now) sha256 (a .out .now) (no-cause e) p)
+    ∙ sym (begun-silent (a .n) (a .t) (a .own) (a .sender) (a .bytes .now) sha256 (a .session) (a .out .now) (no-cause e) p)
 
 -- the sender among others: what its packet's writer gave
 abbrev First : tie.After-write-message → tie.Else1
@@ -79,7 +79,7 @@ returns c =
     let k = q .sender-cause .ensures in
     ap (λ (x : OpenedBySender). begun x (a .out .now)) (c .begun .ensures)
     ∙ ap {B = Begun} (λ (x : Opened). record { opened = x; value = 0; buffer = a .out .now }) (r .refused-opening .ensures ∙ ap refusedOpening k)
-    ∙ sym (begun-refused (a .n) (a .t) (a .own) (a .sender) (a .bytes .now) sha256 (a .out .now) (λ i. t .if1 .taken (k ∙ i)))
+    ∙ sym (begun-refused (a .n) (a .t) (a .own) (a .sender) (a .bytes .now) sha256 (a .session) (a .out .now) (λ i. t .if1 .taken (k ∙ i)))
 
 open-with-packet-requires : tie.Need-open-with-packet-requires
 open-with-packet-requires c κs = search needs
@@ -96,7 +96,7 @@ returns-2 c =
     ap (λ (x : OpenedBySender). begun x (a .out .now)) (c .begun2 .ensures)
     ∙ silent e _ (other-packet (a .own) (a .sender) (a .bytes .now) (a .n) (t .if2 .taken))
     (o .open-with-packet .ensures
-    ∙ ap (openOf sha256 (a .n) (a .t) (a .own)) (sym (other-message (a .own) (a .sender) (a .bytes .now) (t .if2 .taken))))
+    ∙ ap (openOf sha256 (a .session) (a .n) (a .t) (a .own)) (sym (other-message (a .own) (a .sender) (a .bytes .now) (t .if2 .taken))))
 
 open-requires : tie.Need-open-requires
 open-requires c κs = search needs
@@ -113,7 +113,7 @@ returns-3 c =
     let a = Entry e .args in
     ap (λ (x : OpenedBySender). begun x (a .out .now)) (c .begun3 .ensures)
     ∙ silent e _ (alone-packet (a .own) (a .sender) (a .bytes .now) (a .n) (t .if3 .taken))
-    (o .open .ensures ∙ ap (openOf sha256 (a .n) (a .t) (a .own)) (sym (sender-message (a .own) (a .sender) (a .bytes .now) (i .if2 .left))))
+    (o .open .ensures ∙ ap (openOf sha256 (a .session) (a .n) (a .t) (a .own)) (sym (sender-message (a .own) (a .sender) (a .bytes .now) (i .if2 .left))))
 
 write-message-requires : tie.Need-write-message-requires
 write-message-requires c κs = search needs
@@ -148,7 +148,7 @@ returns-4 c =
     (v .value-of .ensures ∙ y .1 ∙ sym (size w)) (y .2)
     ∙ ap {B = Begun} (λ (x : Opened). record { opened = x; value = length (packetBy (a .n) (a .own) (a .sender) (a .bytes .now)); buffer = a .out .now })
     (f .refused-opening2 .ensures)
-    ∙ sym (begun-short (a .n) (a .t) (a .own) (a .sender) (a .bytes .now) sha256 (a .out .now) (no-cause e) (omega (arith, y .0, size w)))
+    ∙ sym (begun-short (a .n) (a .t) (a .own) (a .sender) (a .bytes .now) sha256 (a .session) (a .out .now) (no-cause e) (omega (arith, y .0, size w)))
 
 open-requires-2 : tie.Need-open-requires-2
 open-requires-2 c κs = search needs
@@ -173,8 +173,8 @@ returns-5 c =
     ∙ ap₂ {C = Begun} (λ (k : ℕ) (o : List ℕ). record { opened = f .open2 .result; value = k; buffer = o })
     (v .value-of .ensures ∙ y .1 ∙ sym (size w)) (y .2 ∙ ap (spliced (a .out .now) 0) (sym (sends w .1)))
     ∙ ap {B = Begun} (λ (x : Opened). record { opened = x; value = length p; buffer = spliced (a .out .now) 0 p })
-    (f .open2 .ensures ∙ ap (openOf sha256 (a .n) (a .t) (a .own)) (sym (sender-message (a .own) (a .sender) (a .bytes .now) (sends w .0))))
-    ∙ sym (begun-given (a .n) (a .t) (a .own) (a .sender) (a .bytes .now) sha256 (a .out .now) (no-cause e) (omega (arith, y .0, size w)))
+    (f .open2 .ensures ∙ ap (openOf sha256 (a .session) (a .n) (a .t) (a .own)) (sym (sender-message (a .own) (a .sender) (a .bytes .now) (sends w .0))))
+    ∙ sym (begun-given (a .n) (a .t) (a .own) (a .sender) (a .bytes .now) sha256 (a .session) (a .out .now) (no-cause e) (omega (arith, y .0, size w)))
 
 pub open-by-sender-spec : {M : Type 1} → statement M
 open-by-sender-spec =

@@ -57,7 +57,7 @@ returns c =
     let r = e .before in
     let a = Entry r .args in
     c .open .ensures
-    ∙ ap (openOf sha256 (a .n) (a .t) (a .own)) (sym (unread (readMessage (P r)) (r .read-message .result) (answer r) (e .match .keys2)))
+    ∙ ap (openOf sha256 (a .session) (a .n) (a .t) (a .own)) (sym (unread (readMessage (P r)) (r .read-message .result) (answer r) (e .match .keys2)))
 
 add-end : tie.Need-add-end
 add-end c = omega (arith, lies (c .before) .1)
@@ -81,7 +81,7 @@ returns-2 c =
     let a = Entry r .args in
     let len : 3 + Len k - 3 ≡ Len k = omega arith in
     c .open2 .ensures
-    ∙ ap (openOf sha256 (a .n) (a .t) (a .own))
+    ∙ ap (openOf sha256 (a .session) (a .n) (a .t) (a .own))
     (ap (λ (i : ℕ). take i (drop 3 (P r))) len
     ∙ take-all (Len k) (drop 3 (P r)) (omega (arith, length-drop 3 (P r), lies k .1)) ∙ lies k .0 ∙ ap messageRead (sym (read k .1)))
 

@@ -30,10 +30,10 @@ kept : (s : tie.Start) → length (messageIn (s .args .self)) ≡ s .args .self 
 kept s = length-message (s .args .self) (held s)
 
 array-share-prefix-message : tie.Need-array-share-prefix-message
-array-share-prefix-message c = held (c .before .before .before)
+array-share-prefix-message c = held (c .before .before .before .before)
 
 slice-aggregate-send : tie.Need-slice-aggregate-send
-slice-aggregate-send c = sym (kept (c .before .before .before .before))
+slice-aggregate-send c = sym (kept (c .before .before .before .before .before))
 
 send-requires : tie.Need-send-requires
 send-requires c κs = search needs
@@ -62,16 +62,16 @@ returns : tie.Need-returns
 unfolding happy
 returns c =
     let q = c .before .before in
-    let st = q .before .before .before .before .before .before .before in
+    let st = q .before .before .before .before .before .before .before .before in
     let a = st .args in
     let x = a .self in
     let m = messageIn x in
     let out = a .out .now in
-    let bs = mailWith sha256 (a .relays) (x .seat .n) (x .seat .t) (x .seat .own) m in
+    let bs = mailWith sha256 (x .seat .session) (a .relays) (x .seat .n) (x .seat .t) (x .seat .own) m in
     let fine = fit-open x (st .pre) (length m) (omega (arith, kept st, st .pre .short)) in
-    told (same (messageRoot sha256 (x .seat .n) (x .seat .t) m) (x .root)) (sent (q .send .result) (q .send .last .1 .1 .1 .1 .1 .1 .0)) bs out
-    (λ h. q .send .ensures ∙ send-own sha256 (x .seat .n) (x .seat .t) (x .seat .own) m (a .relays) (x .root) out fine h)
-    (λ h. q .send .ensures ∙ send-other sha256 (x .seat .n) (x .seat .t) (x .seat .own) m (a .relays) (x .root) out fine h)
+    told (same (messageRoot sha256 (x .seat .session) (x .seat .n) (x .seat .t) m) (x .root)) (sent (q .send .result) (q .send .last .1 .1 .1 .1 .0)) bs out
+    (λ h. q .send .ensures ∙ send-own sha256 (x .seat .session) (x .seat .n) (x .seat .t) (x .seat .own) m (a .relays) (x .root) out fine h)
+    (λ h. q .send .ensures ∙ send-other sha256 (x .seat .session) (x .seat .n) (x .seat .t) (x .seat .own) m (a .relays) (x .root) out fine h)
 
 pub send-spec : {M : Type 1} → statement M
 send-spec =

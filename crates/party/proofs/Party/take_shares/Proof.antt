@@ -124,12 +124,12 @@ abbrev C : tie.After-from → ℕ
 C k = k .from .given .0 .1 .1 .0
 
 got : (k : tie.After-from) → let st = Entry (E (D k)) in
-    Got sha256 (X st .seat .n) (X st .seat .own) (X st .root) (S st) (F k) (L k) (C k) (T st)
+    Got sha256 (X st .seat .session) (X st .seat .n) (X st .seat .own) (X st .root) (S st) (F k) (L k) (C k) (T st)
 got k =
     let st = Entry (E (D k)) in
     let x = X st in
-    got-of sha256 (x .seat .n) (x .seat .own) (x .root) (S st) (F k) (L k) (C k) (T st) (took (D k) (At (F k) (L k) (C k)) (k .from .given .1))
-    (passed sha256 (x .seat .n) (x .seat .own) (x .root) 1 (bodies (x .seat .n) (S st)))
+    got-of sha256 (x .seat .session) (x .seat .n) (x .seat .own) (x .root) (S st) (F k) (L k) (C k) (T st) (took (D k) (At (F k) (L k) (C k)) (k .from .given .1))
+    (passed sha256 (x .seat .session) (x .seat .n) (x .seat .own) (x .root) 1 (bodies (x .seat .n) (S st)))
 
 -- the share, the hashes of its path, and the packet
 abbrev Y : tie.After-from → List ℕ
@@ -196,7 +196,7 @@ wrote w =
     let g = got k in
     asked w
     ∙ ap₂ (λ (y : List ℕ) (q : List (List ℕ)). writeOf (x .seat .n) (x .seat .own) y q (C k) (Out st)) (part k) (there p)
-    ∙ write-taken sha256 (x .seat .n) (x .seat .own) (x .root) (Y k) (hashes (C k) (Q k)) (path-padded (C k) (Q k)) (C k) (Out st)
+    ∙ write-taken sha256 (x .seat .session) (x .seat .n) (x .seat .own) (x .root) (Y k) (hashes (C k) (Q k)) (path-padded (C k) (Q k)) (C k) (Out st)
     (f .low) (f .high) (f .first) (f .last) (omega (arith, size k, g .some)) (omega (arith, size k, g .most))
     (length-hashes (C k) (Q k))
     (take-at (hashes (C k) (Q k)) (replicate (maxPath - C k) blank) (C k) (length-hashes (C k) (Q k))) (g .leads)
@@ -247,7 +247,7 @@ returns-2 c =
     let e = Fine v in
     let st = Entry e in
     let x = X st in
-    let bs = mailWith sha256 true (x .seat .n) (x .seat .t) (x .seat .own) (messageIn x) in
+    let bs = mailWith sha256 (x .seat .session) true (x .seat .n) (x .seat .t) (x .seat .own) (messageIn x) in
     ap (λ (r : Reply). stepped r (Left v)) (c .after .ensures)
     ∙ writes-given x (v .waiting .result) bs (Out st) (s .send .result .answer) (Left v) (s .send .ensures .1 (t .if2 .taken))
     ∙ ap₂ (λ (y : Party) (bs : List ℕ). writes x y bs (Out st)) (next v) (sym (relay-mail sha256 x))

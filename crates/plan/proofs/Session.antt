@@ -1,0 +1,36 @@
+-- The session's number of a plan: the one that is given, or 0; it has four bytes. Assumes nothing.
+use mathlib.Core.Path.{_≡_}
+use mathlib.Core.Bool.{Bool, true, false, cond}
+use mathlib.Core.List.{List}
+use Prim.Native.Nat.{ℕ, _+_, _<_, _^_}
+use native.Mathlib.Omega.{arith}
+use Rattle.buffer.specs.Bounds.{Bytes}
+use Rattle.plan.specs.Layout.{fieldAt, optionsIn, wordAt, sessionOption, hasSession, sessionIn, sessionOf}
+use Rattle.plan.specs.Plan.{planCause, planOf}
+
+module _ (s : List ℕ) where
+  pub session-given : hasSession s ≡ true → sessionOf s ≡ sessionIn s
+  unfolding sessionOf
+  session-given h = rw h
+
+  pub session-absent : hasSession s ≡ false → sessionOf s ≡ 0
+  unfolding sessionOf
+  session-absent h = rw h
+
+  -- in a plan that is taken
+  pub session-is : planCause s ≡ 0 → planOf s .session ≡ sessionOf s
+  unfolding planOf
+  session-is e = rw e
+
+  module _ (b : Bytes s) where
+    word-below : (at : ℕ) → wordAt s at < 2 ^ 32
+    unfolding wordAt
+    word-below at = omega (arith, b at, b (at + 1), b (at + 2), b (at + 3))
+
+    pub session-below : sessionOf s < 2 ^ 32
+    unfolding sessionOf
+    session-below = go (hasSession s)
+      where
+        go : (given : Bool) → cond given (sessionIn s) 0 < 2 ^ 32
+        go true = word-below (fieldAt (optionsIn s) sessionOption)
+        go false = omega arith
