@@ -2,6 +2,7 @@
 use mathlib.Core.Path.{_≡_, refl, sym, ap, _∙_}
 use Prim.Native.Nat.{ℕ, _≤_}
 use native.Mathlib.Omega.{arith}
+use lib.ListN.{length}
 use Rattle.buffer.specs.Given.{Given, written}
 use Rattle.sha256.specs.Sha256.{sha256}
 use Rattle.packet.specs.Message.{maxMessagePacket}
@@ -28,7 +29,7 @@ First o = o .before .before .before .before
 abbrev r : tie.After-open-by-sender → Begun
 r o = let a = Entry (First o) .args in openBySenderOf sha256 (a .session) (a .n) (a .t) (a .own) (a .sender) (a .bytes .now) (a .out .now)
 
-gives : (o : tie.After-open-by-sender) → begun (o .open-by-sender .result) (o .open-by-sender .last .1 .1 .1 .1 .1 .0) ≡ r o
+gives : (o : tie.After-open-by-sender) → begun (o .open-by-sender .result) (o .open-by-sender .last .1 .1 .1 .1 .1 .1 .0) ≡ r o
 gives o = o .open-by-sender .ensures
 
 small : (o : tie.After-open-by-sender) → o .open-by-sender .result .len ≤ maxMessagePacket
@@ -75,6 +76,10 @@ returns-3 c =
     ∙ sym (sender-root sha256 (a .session) (a .n) (a .t) (a .own) (a .sender) (a .bytes .now) (a .state .now) (a .root .now) (a .out .now) (fine e) (j .if2 .left)
     (i .if3 .taken))
 
+-- the root that it gives has as many elements as its type says
+root-wide : (o : tie.After-open-by-sender) → length (o .open-by-sender .result .opened .root) ≡ 32
+root-wide o = search needs
+
 open-by-sender-requires : tie.Need-open-by-sender-requires
 open-by-sender-requires c κs = search needs
 
@@ -104,7 +109,7 @@ write-requires : tie.Need-write-requires
 write-requires c κs = search needs
 
 slice-aggregate-give : tie.Need-slice-aggregate-give
-slice-aggregate-give c = search needs
+slice-aggregate-give c = sym (root-wide (c .before .before .before .before .before .before .before .before .before .before .before))
 
 give-requires : tie.Need-give-requires
 give-requires c κs = search needs

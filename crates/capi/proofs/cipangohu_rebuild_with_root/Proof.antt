@@ -22,7 +22,7 @@ same-length c = search needs
 returns : tie.Need-returns
 unfolding rebuildWithRootCall
 returns c = let d = c .before .before .before in
-    c .number-of .ensures (d .rebuild-with-root .last .1 .1 .1 .1 .0) ∙ ap filled (d .rebuild-with-root .ensures)
+    c .number-of .ensures (d .rebuild-with-root .last .1 .1 .1 .1 .1 .0) ∙ ap filled (d .rebuild-with-root .ensures)
 
 pub cipangohu-rebuild-with-root-spec : {M : Type 1} → statement M
 cipangohu-rebuild-with-root-spec =

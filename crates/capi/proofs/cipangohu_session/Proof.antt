@@ -1,8 +1,6 @@
 -- `capi::cipangohu_session` meets its contract: by whether the state that the bytes say is broken. Assumes nothing.
 use mathlib.Core.Path.{sym, _∙_}
-use native.Mathlib.Omega.{arith}
 use Rattle.party.specs.declared.Party.{Party}
-use Rattle.party.proofs.Causes.{fit-of}
 use Rattle.capi.specs.Calls.{packed, sessionCall}
 use Rattle.capi.proofs.Asked.{asked-refused, asked-told}
 use borrow.Author.Needs.{needs}
@@ -25,14 +23,15 @@ returns c = let b = c .before .before in
     c .pack .ensures
     ∙ asked-refused (r .before .before .args .state .now) _ _ (r .read .ensures) (b .broken .ensures) _ (c .before .if1 .taken)
 
--- the own number of a state that is not broken is one of the n
+cast-pack : tie.Need-cast-pack
+cast-pack c = search needs
+
 pack-requires-2 : tie.Need-pack-requires-2
-pack-requires-2 c κs = let b = c .before in
-    omega (arith, fit-of (b .before .read .result) (sym (b .broken .ensures) ∙ c .if1 .left))
+pack-requires-2 c κs = search needs
 
 returns-2 : tie.Need-returns-2
 unfolding sessionCall
-returns-2 c = let e = c .before in
+returns-2 c = let e = c .before .before in
     let b = e .before in
     let r = b .before in
     c .pack2 .ensures
@@ -42,4 +41,4 @@ returns-2 c = let e = c .before in
 pub cipangohu-session-spec : {M : Type 1} → statement M
 cipangohu-session-spec =
     tie.close
-    (tie.spec read-requires broken-requires pack-requires returns pack-requires-2 returns-2)
+    (tie.spec read-requires broken-requires pack-requires returns cast-pack pack-requires-2 returns-2)
