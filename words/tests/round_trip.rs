@@ -9,6 +9,7 @@ use foreign::message_packet;
 use foreign::plans::plan;
 use foreign::random::Random;
 use foreign::rehearsal::{read, Plan};
+use foreign::sessions::EDGES;
 use foreign::sha256::hex;
 use words::books::{Books, Hints};
 use words::input::in_words;
@@ -448,13 +449,10 @@ second exchange
 2 to 4: share 2 of A, path 2 of B
 ";
 
-/// Numbers at the edges of one byte and of four.
-const NUMBERS: [u32; 5] = [0, 1, 0xFF, 0x0100_0000, u32::MAX];
-
 /// 0 comes back where it is written out, and nowhere else.
 #[test]
 fn sitting_numbers() {
-    for number in NUMBERS {
+    for number in EDGES {
         let line = format!("sitting {number}\n");
         let words = NUMBERED.replace("sitting 7\n", &line);
         let bytes = parse(&words).expect("good words").bytes();

@@ -5,6 +5,7 @@ use cipangohu::{lay_out, LAYOUT, MAX_MESSAGE, MAX_PARTIES, MAX_SHARE, STATE};
 use foreign::liars::{Lie, Scene, Sharing, Way};
 use foreign::limits::INSIDE;
 use foreign::random::Random;
+use foreign::sessions;
 
 use crate::reference::{AT_GROUP, AT_HELD, AT_LENGTH, AT_ROOT, AT_SESSION, AT_SHARE, AT_STAGE};
 
@@ -19,27 +20,6 @@ pub const ODD: [usize; 8] = [
     1 << 63,
     usize::MAX,
 ];
-
-/// Session numbers at the edges of one byte and of four.
-pub const SESSIONS: [u32; 5] = [0, 1, 0xFF, 0x0100_0000, u32::MAX];
-
-/// A session number; often 0, else at an edge or any.
-pub fn session(random: &mut Random) -> u32 {
-    match random.below(4) {
-        0 => 0,
-        1 => random.below(1 << 32) as u32,
-        _ => random.pick(&SESSIONS),
-    }
-}
-
-/// The number of another session.
-pub fn other_session(session: u32, random: &mut Random) -> u32 {
-    let near = session ^ (1 << random.below(32));
-    match random.pick(&SESSIONS) {
-        other if other != session => random.pick(&[near, other]),
-        _ => near,
-    }
-}
 
 /// n and t that keep to the limits.
 pub fn group(random: &mut Random) -> (usize, usize) {
@@ -85,7 +65,7 @@ fn sharing(session: u32, n: usize, t: usize, random: &mut Random) -> Sharing {
     Sharing::of_frame(session, n, t, &random.bytes((n - t) * size))
 }
 
-/// What the packets of a list of calls are about: mostly of one session, now and then of two.
+/// What the packets of a list of calls are about; the agreed root is now and then of another session.
 pub struct Play {
     pub session: u32,
     pub group: (usize, usize, usize),
@@ -95,17 +75,14 @@ pub struct Play {
 
 impl Play {
     pub fn new(random: &mut Random) -> Play {
-        let (session, (n, t)) = (session(random), group(random));
+        let (session, (n, t)) = (sessions::some(random), group(random));
         let message = message(random);
         let agreed = match random.below(12) {
             0..4 => Sharing::of(session, n, t, &message),
-            4 => Sharing::of(other_session(session, random), n, t, &message),
+            4 => Sharing::of(sessions::another(session, random), n, t, &message),
             _ => sharing(session, n, t, random),
         };
-        let other = match random.once_in(4) {
-            true => Sharing::over(other_session(session, random), agreed.shares.clone()),
-            false => sharing(session, n, t, random),
-        };
+        let other = sharing(session, n, t, random);
         Play {
             session,
             group: (n, t, 1 + random.below(n)),
@@ -207,7 +184,7 @@ pub fn spoil(state: &mut Vec<u8>, play: &Play, random: &mut Random) {
         9 => hold(state, play),
         10 => past_lengths(state, random),
         11 => state[0] = random.pick(&[0, LAYOUT, LAYOUT + 1, 255]),
-        12 => put(state, AT_SESSION, &session(random).to_be_bytes()),
+        12 => put(state, AT_SESSION, &sessions::some(random).to_be_bytes()),
         _ => {
             let place = random.below(state.len());
             state[place] ^= 1 << random.below(8);

@@ -17,9 +17,10 @@ mod tally;
 use cipangohu::{lay_out, MAX_HASHED, MAX_MESSAGE, MAX_PARTIES, MAX_SHARE, STATE};
 use foreign::liars::{flip, Lie, Scene, Sharing, Way};
 use foreign::random::Random;
+use foreign::sessions;
 
 use call::{Answer, Call, Lent};
-use made::{dirt, group, message, odd_group, other_session, room, session, spoil, Play, ODD};
+use made::{dirt, group, message, odd_group, room, spoil, Play, ODD};
 use reference::AT_STAGE;
 use tally::{compare, Tally};
 
@@ -159,7 +160,7 @@ fn openings() {
             root: dirt(root, &mut random),
             ..Lent::default()
         };
-        let call = Call::Open(session(&mut random), (n, t, own), message);
+        let call = Call::Open(sessions::some(&mut random), (n, t, own), message);
         compare(&call, &mut lent, &mut tally).accepted().ok();
     }
     tally.expect("open", &[0, 1, 2, 3, 4, 9]);
@@ -195,7 +196,7 @@ fn paths() {
     let (mut random, mut tally) = (Random::new(4), Tally::default());
     let mut yes = 0;
     for _ in 0..times(4_000) {
-        let (mut session, (n, t)) = (session(&mut random), group(&mut random));
+        let (mut session, (n, t)) = (sessions::some(&mut random), group(&mut random));
         let j = 1 + random.below(n);
         let sharing = Sharing::of(session, n, t, &message(&mut random));
         let mut share = sharing.shares[j - 1].clone();
@@ -214,7 +215,7 @@ fn paths() {
             9 if !path.is_empty() => flip(&mut path, &mut random),
             10 => share.resize(MAX_HASHED - 7 + random.below(8), 3),
             11 => share.clear(),
-            12 => session = other_session(session, &mut random),
+            12 => session = sessions::another(session, &mut random),
             _ => {}
         }
         let call = Call::CheckPath(session, place, share, path, root);

@@ -4,9 +4,10 @@ use cipangohu::{lay_out, HASH, MAX_OUTBOX, MAX_PARTIES, STATE};
 use foreign::commitment;
 use foreign::liars::{flip, Sharing};
 use foreign::random::Random;
+use foreign::sessions;
 
 use crate::call::{Call, Lent};
-use crate::made::{dirt, group, message, odd_group, other_session, session};
+use crate::made::{dirt, group, message, odd_group};
 use crate::reference::AT_STAGE;
 use crate::tally::{compare, Tally};
 use crate::{entries_of, stateless, times};
@@ -27,12 +28,12 @@ fn shared(session: u32, n: usize, t: usize, random: &mut Random) -> (Vec<u8>, Ve
 fn messages_have_the_root_given() {
     let (mut random, mut tally) = (Random::new(12), Tally::default());
     for _ in 0..times(4_000) {
-        let (mut session, (n, t)) = (session(&mut random), group(&mut random));
+        let (mut session, (n, t)) = (sessions::some(&mut random), group(&mut random));
         let (entries, mut root) = shared(session, n, t, &mut random);
         match random.below(10) {
             0 => flip(&mut root, &mut random),
             1 => root.resize(random.pick(&[0, 1, 31, 33, 64]), 7),
-            2 => session = other_session(session, &mut random),
+            2 => session = sessions::another(session, &mut random),
             _ => {}
         }
         let group = match random.once_in(8) {
@@ -54,7 +55,7 @@ fn no_other_message_is_settled_on() {
         let n = 3 + random.below(MAX_PARTIES - 2);
         let t = 1 + random.below((n - 1) / 2);
         let own = 1 + random.below(n);
-        let agreed = Sharing::no_codeword(session(&mut random), n, t, &mut random);
+        let agreed = Sharing::no_codeword(sessions::some(&mut random), n, t, &mut random);
         let missing = random.below(t + 1);
         let missing = random.choice(n, missing);
         let relay = |j: usize| match (missing >> (j - 1)) & 1 {

@@ -12,10 +12,10 @@ use foreign::limits::LONGEST_MESSAGE;
 use foreign::packet::Reading;
 use foreign::party::{Refusal, State};
 use foreign::random::Random;
-use foreign::{commitment, inbox, packet, sha256};
+use foreign::{commitment, inbox, packet, sessions, sha256};
 
 use crate::call::{Answer, Call, Lent};
-use crate::made::{group, message, session, spoil, Play};
+use crate::made::{group, message, spoil, Play};
 use crate::reference::{self, encoded, AT_STAGE};
 use crate::{some_step, times};
 
@@ -210,7 +210,7 @@ fn joined(call: impl FnOnce(&mut [u8]) -> coder::Answer) -> Result<Vec<u8>, Caus
 fn shares_made_and_joined() {
     let (mut random, mut other_roots) = (Random::new(9), 0);
     for _ in 0..times(600) {
-        let (session, (n, t)) = (session(&mut random), group(&mut random));
+        let (session, (n, t)) = (sessions::some(&mut random), group(&mut random));
         let message = message(&mut random);
         let mut made = shares(n, t, &message).expect("a lawful group");
         assert_eq!(made, shares_of(n, n - t, &frame_of(n - t, &message)));

@@ -7,9 +7,10 @@ use cipangohu::{
 use foreign::liars::{flip, Sharing};
 use foreign::message_packet::{self, Reading};
 use foreign::random::Random;
+use foreign::sessions;
 
 use crate::call::{Call, Lent};
-use crate::made::{dirt, group, message, odd_group, put, room, session, ODD};
+use crate::made::{dirt, group, message, odd_group, put, room, ODD};
 use crate::tally::{compare, Tally};
 use crate::{stateless, times};
 
@@ -78,7 +79,7 @@ fn openings_by_a_sender() {
     let (mut random, mut tally) = (Random::new(14), Tally::default());
     let (mut sent, mut received) = (0, 0);
     for _ in 0..times(8_000) {
-        let (session, (group, sender)) = (session(&mut random), numbers(&mut random));
+        let (session, (group, sender)) = (sessions::some(&mut random), numbers(&mut random));
         let bytes = match group.2 == sender {
             true => own_message(&mut random),
             false => came(&mut random),
@@ -165,7 +166,7 @@ fn sends(session: u32, (n, t, own): (usize, usize, usize), message: &[u8]) -> Re
 fn safe_openings_by_a_sender() {
     let (mut random, mut lawful) = (Random::new(16), 0);
     for _ in 0..times(1_500) {
-        let (session, (group, sender)) = (session(&mut random), numbers(&mut random));
+        let (session, (group, sender)) = (sessions::some(&mut random), numbers(&mut random));
         receives(session, group, sender, &came(&mut random));
         lawful += usize::from(sends(session, group, &own_message(&mut random)).is_ok());
     }

@@ -3,8 +3,9 @@
 
 use cipangohu::{entries, lay_out, Hash, Outcome, Party, Stage, MAX_OUTBOX, MAX_PACKET};
 use foreign::random::Random;
+use foreign::sessions::{another, some, EDGES};
 
-use crate::made::{group, message, other_session, session, SESSIONS};
+use crate::made::{group, message};
 use crate::times;
 
 /// One message has as many roots as there are sessions.
@@ -14,11 +15,11 @@ fn a_root_in_each_session() {
     for _ in 0..times(400) {
         let ((n, t), message) = (group(&mut random), message(&mut random));
         let root = |session| Party::open(session, n, t, 1, &message).expect("opened").1;
-        let mut roots = SESSIONS.map(root);
+        let mut roots = EDGES.map(root);
         roots.sort();
         assert!(roots.windows(2).all(|pair| pair[0] != pair[1]));
-        let number = session(&mut random);
-        assert_ne!(root(number), root(other_session(number, &mut random)));
+        let number = some(&mut random);
+        assert_ne!(root(number), root(another(number, &mut random)));
     }
 }
 
@@ -62,8 +63,8 @@ fn a_party_of_another_session() {
     let mut random = Random::new(18);
     for _ in 0..times(300) {
         let n = 3 + random.below(6);
-        let (number, message) = (session(&mut random), message(&mut random));
-        let other = other_session(number, &mut random);
+        let (number, message) = (some(&mut random), message(&mut random));
+        let other = another(number, &mut random);
         let open = |own| {
             let session = if own == n { other } else { number };
             Party::open(session, n, 1, own, &message).expect("opened")
