@@ -6,31 +6,37 @@ use crate::sha256::Hash;
 use crate::tree;
 
 /// The root over the n shares of a message.
-pub fn root(n: usize, t: usize, message: &[u8]) -> Hash {
+pub fn root(session: u32, n: usize, t: usize, message: &[u8]) -> Hash {
     let b = n - t;
-    tree::root(&shares_of(n, b, &frame_of(b, message)))
+    tree::root(session, &shares_of(n, b, &frame_of(b, message)))
 }
 
 /// Writes the message that the entries give, if its root is the given one.
 pub fn rebuild_with_root(
+    session: u32,
     n: usize,
     t: usize,
     root: &[u8],
     entries: &[u8],
     out: &mut [u8],
 ) -> Answer {
-    match message_under(n, t, root, entries) {
+    match message_under(session, (n, t), root, entries) {
         Ok(message) => place(&message, out),
         Err(cause) => Answer::Refused(cause),
     }
 }
 
 /// That message, or the first cause in the order 1, 2, 7, 8, 11, 12, 15.
-fn message_under(n: usize, t: usize, given: &[u8], entries: &[u8]) -> Result<Vec<u8>, u32> {
+fn message_under(
+    session: u32,
+    (n, t): (usize, usize),
+    given: &[u8],
+    entries: &[u8],
+) -> Result<Vec<u8>, u32> {
     bad_parties(n, t).map_or(Ok(()), Err)?;
     let given: Hash = given.try_into().map_err(|_| 7u32)?;
     let message = find_message(n, t, entries)?;
-    match root(n, t, &message) == given {
+    match root(session, n, t, &message) == given {
         true => Ok(message),
         false => Err(15),
     }
@@ -43,19 +49,30 @@ mod tests {
     use crate::liars::Sharing;
     use crate::limits::{LONGEST_MESSAGE, MOST_FAULTS, MOST_PARTIES};
     use crate::random::Random;
+    use crate::sessions::EDGES;
     use crate::sha256::hex;
 
     const LENT: u8 = 0xA5;
 
-    /// The answer, with what was written; no byte behind that is touched.
+    /// The answer under session 0, with what was written; no byte behind that is touched.
     fn rebuilt(
+        group: (usize, usize),
+        root: &[u8],
+        entries: &[u8],
+        room: usize,
+    ) -> (Answer, Vec<u8>) {
+        rebuilt_in(0, group, root, entries, room)
+    }
+
+    fn rebuilt_in(
+        session: u32,
         (n, t): (usize, usize),
         root: &[u8],
         entries: &[u8],
         room: usize,
     ) -> (Answer, Vec<u8>) {
         let mut out = vec![LENT; room];
-        let answer = rebuild_with_root(n, t, root, entries, &mut out);
+        let answer = rebuild_with_root(session, n, t, root, entries, &mut out);
         let written = match answer {
             Answer::Done(length) => length,
             _ => 0,
@@ -67,7 +84,7 @@ mod tests {
 
     #[test]
     fn worked_root() {
-        let given = root(3, 1, b"AB");
+        let given = root(0, 3, 1, b"AB");
         assert_eq!(
             hex(&given),
             "52eff964324cb6ca803184f4e72573046a4c8f21d980c3dd7e2c1a6073b0c2ee"
@@ -76,14 +93,30 @@ mod tests {
         let found = rebuilt((3, 1), &given, &entries, 3);
         assert_eq!(found, (Answer::Done(2), b"AB".to_vec()));
         assert_eq!(rebuilt((3, 1), &given, &entries, 1).0, Answer::Short(2));
-        let other = root(3, 1, b"AC");
+        let other = root(0, 3, 1, b"AC");
         assert_eq!(rebuilt((3, 1), &other, &entries, 2).0, Answer::Refused(15));
+    }
+
+    /// A message has another root in each session, and is rebuilt under that of its own alone.
+    #[test]
+    fn a_root_is_its_own_sessions() {
+        let entries = lay_out(&Sharing::of(0, 5, 2, b"message").shares);
+        for session in EDGES {
+            let given = root(session, 5, 2, b"message");
+            for other in EDGES {
+                let expected = match other == session {
+                    true => (Answer::Done(7), b"message".to_vec()),
+                    false => (Answer::Refused(15), Vec::new()),
+                };
+                assert_eq!(rebuilt_in(other, (5, 2), &given, &entries, 9), expected);
+            }
+        }
     }
 
     /// Each cause with those that come after it in the order.
     #[test]
     fn the_first_cause_is_given() {
-        let right = root(3, 1, b"AB");
+        let right = root(0, 3, 1, b"AB");
         let mut wrong = right;
         wrong[31] ^= 1;
         let good = lay_out(&[&[][..], &[0x82, 0x86], &[0xC3, 0xC4]]);
@@ -116,7 +149,7 @@ mod tests {
 
     #[test]
     fn a_root_that_is_not_32_bytes() {
-        let right = root(1, 0, b"A").to_vec();
+        let right = root(0, 1, 0, b"A").to_vec();
         let entries = [0, 3, 0, 1, 0x41];
         for length in [0, 1, 31, 33, 64, 256 + 32] {
             let mut given = right.clone();
@@ -132,12 +165,15 @@ mod tests {
     fn no_codeword_is_taken() {
         let mut random = Random::new(7);
         for (n, t) in [(3, 1), (5, 2), (9, 4), (MOST_PARTIES, MOST_FAULTS)] {
-            let Sharing { shares, root: tree } = Sharing::no_codeword(n, t, &mut random);
+            let no_codeword = Sharing::no_codeword(0, n, t, &mut random);
+            let Sharing {
+                shares, root: tree, ..
+            } = no_codeword;
             let entries = lay_out(&shares);
             let given = rebuilt((n, t), &tree, &entries, LONGEST_MESSAGE).0;
             assert_eq!(given, Answer::Refused(15));
             let message = find_message(n, t, &entries).expect("a message");
-            let found = rebuilt((n, t), &root(n, t, &message), &entries, message.len());
+            let found = rebuilt((n, t), &root(0, n, t, &message), &entries, message.len());
             assert_eq!(found, (Answer::Done(message.len()), message));
         }
     }

@@ -8,6 +8,7 @@ use crate::limits::{LONGEST_PACKET, LONGEST_SHARE, MOST_PARTIES};
 use crate::message_packet;
 use crate::packet::write;
 use crate::random::Random;
+use crate::sessions;
 use crate::sha256::Hash;
 use crate::tree;
 
@@ -55,13 +56,15 @@ pub enum Lie {
     NumberOutside,
     /// A packet of a whole message, which only a sender's exchange has; the message is the share.
     WholeMessage,
+    /// The demanded number's packet of the same message as another session has it.
+    OtherSession,
     /// More bytes than any packet has.
     Huge,
 }
 
 impl Lie {
     /// Every lie but the huge one, which would make most plans long.
-    pub const SMALL: [Lie; 25] = [
+    pub const SMALL: [Lie; 26] = [
         Lie::Honest,
         Lie::Unnamed,
         Lie::Empty,
@@ -87,44 +90,55 @@ impl Lie {
         Lie::FieldMap,
         Lie::NumberOutside,
         Lie::WholeMessage,
+        Lie::OtherSession,
     ];
 }
 
 /// No lie has more bytes: a huge one may stand behind a good packet.
 pub const LONGEST_LIE: usize = 3 * LONGEST_PACKET;
 
-/// The shares of a message, of any frame or of none, and the root over them.
+/// The shares of a message, of any frame or of none, and the root over them in a session.
 pub struct Sharing {
+    pub session: u32,
     pub shares: Vec<Vec<u8>>,
     pub root: Hash,
 }
 
 impl Sharing {
-    pub fn of(n: usize, t: usize, message: &[u8]) -> Sharing {
-        Sharing::of_frame(n, t, &frame_of(n - t, message))
+    pub fn of(session: u32, n: usize, t: usize, message: &[u8]) -> Sharing {
+        Sharing::of_frame(session, n, t, &frame_of(n - t, message))
     }
 
-    pub fn of_frame(n: usize, t: usize, frame: &[u8]) -> Sharing {
-        Sharing::over(shares_of(n, n - t, frame))
+    pub fn of_frame(session: u32, n: usize, t: usize, frame: &[u8]) -> Sharing {
+        Sharing::over(session, shares_of(n, n - t, frame))
     }
 
-    pub fn over(shares: Vec<Vec<u8>>) -> Sharing {
-        let root = tree::root(&shares);
-        Sharing { shares, root }
+    pub fn over(session: u32, shares: Vec<Vec<u8>>) -> Sharing {
+        let root = tree::root(session, &shares);
+        Sharing {
+            session,
+            shares,
+            root,
+        }
     }
 
     /// Shares that no message has, though any b of them give one: of a message's shares one to t
     /// have their last byte changed, where the frame holds neither its length nor filling. t is
     /// over 0.
-    pub fn no_codeword(n: usize, t: usize, random: &mut Random) -> Sharing {
+    pub fn no_codeword(session: u32, n: usize, t: usize, random: &mut Random) -> Sharing {
         let s = 3 + random.below(4);
-        let mut shares = Sharing::of(n, t, &random.bytes((n - t) * s - 2)).shares;
+        let mut shares = Sharing::of(session, n, t, &random.bytes((n - t) * s - 2)).shares;
         let count = 1 + random.below(t);
         let changed = random.choice(n, count);
         for place in (0..n).filter(|place| changed >> place & 1 == 1) {
             shares[place][s - 1] ^= 1 + random.below(255) as u8;
         }
-        Sharing::over(shares)
+        Sharing::over(session, shares)
+    }
+
+    /// The same shares in another session.
+    pub fn in_session(&self, session: u32) -> Sharing {
+        Sharing::over(session, self.shares.clone())
     }
 
     fn share(&self, j: usize) -> &[u8] {
@@ -132,7 +146,7 @@ impl Sharing {
     }
 
     fn path(&self, j: usize) -> Vec<Hash> {
-        tree::path(&self.shares, j)
+        tree::path(self.session, &self.shares, j)
     }
 
     pub fn packet(&self, j: usize) -> Vec<u8> {
@@ -190,6 +204,10 @@ impl Scene {
             Lie::Honest => agreed.packet(j),
             Lie::OtherMessage => self.other.packet(j),
             Lie::WholeMessage => message_packet::write(agreed.share(j)),
+            Lie::OtherSession => {
+                let session = sessions::another(agreed.session, random);
+                agreed.in_session(session).packet(j)
+            }
             Lie::Replay => agreed.packet(self.another(j, random)),
             Lie::Crossed => agreed.packet(way.sender + way.receiver - j),
             Lie::Renumbered | Lie::OthersShare | Lie::OthersPath => self.mixed(lie, j, random),
@@ -312,7 +330,8 @@ mod tests {
 
     /// Whether what came this way is taken as a valid share.
     fn taken(scene: &Scene, way: Way, packet: &[u8]) -> bool {
-        let standing = classify(scene.n(), way.demanded, scene.agreed.root, packet);
+        let Sharing { session, root, .. } = scene.agreed;
+        let standing = classify(session, scene.n(), way.demanded, root, packet);
         matches!(standing, Ok(Standing::Valid(_)))
     }
 
@@ -320,9 +339,9 @@ mod tests {
     fn only_the_honest_packet_is_taken() {
         let mut random = Random::new(1);
         for n in 2..=MOST_PARTIES {
-            let t = (n - 1) / 2;
-            let agreed = Sharing::of(n, t, &random.bytes(3 * n));
-            let other = Sharing::of(n, t, &random.bytes(3 * n));
+            let (session, t) = (sessions::EDGES[n % 5], (n - 1) / 2);
+            let agreed = Sharing::of(session, n, t, &random.bytes(3 * n));
+            let other = Sharing::of(session, n, t, &random.bytes(3 * n));
             let scene = Scene { agreed, other };
             for lie in Lie::SMALL.into_iter().chain([Lie::Huge]) {
                 for (sender, receiver) in [(1, 2), (2, 1), (n, 1), (1, n)] {
@@ -346,7 +365,7 @@ mod tests {
     fn any_b_shares_of_no_codeword_give_a_message_with_another_root() {
         let mut random = Random::new(2);
         for (n, t) in [(3, 1), (4, 1), (5, 2), (7, 3), (9, 4), (12, 1)] {
-            let sharing = Sharing::no_codeword(n, t, &mut random);
+            let sharing = Sharing::no_codeword(0, n, t, &mut random);
             for map in (0..1u32 << n).filter(|map| map.count_ones() as usize == n - t) {
                 let kept = (0..n).map(|place| match map >> place & 1 {
                     1 => &sharing.shares[place][..],
@@ -354,7 +373,7 @@ mod tests {
                 });
                 let message = find_message(n, t, &lay_out(&kept.collect::<Vec<_>>()));
                 let message = message.expect("a message");
-                assert_ne!(commitment::root(n, t, &message), sharing.root);
+                assert_ne!(commitment::root(0, n, t, &message), sharing.root);
             }
         }
     }

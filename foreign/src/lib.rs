@@ -15,6 +15,7 @@ pub mod party;
 pub mod plans;
 pub mod random;
 pub mod rehearsal;
+pub mod sessions;
 pub mod sha256;
 pub mod tally;
 pub mod tree;

@@ -126,7 +126,13 @@ fn hashes(bytes: &[u8]) -> Vec<Hash> {
 
 /// The packet's standing for a party that demands number j under the root, or the lowest
 /// cause against n and j.
-pub fn classify(n: usize, j: usize, root: Hash, bytes: &[u8]) -> Result<Standing, u32> {
+pub fn classify(
+    session: u32,
+    n: usize,
+    j: usize,
+    root: Hash,
+    bytes: &[u8],
+) -> Result<Standing, u32> {
     let reading = read(n, bytes);
     if reading == Reading::Refused(1) {
         return Err(1);
@@ -140,7 +146,7 @@ pub fn classify(n: usize, j: usize, root: Hash, bytes: &[u8]) -> Result<Standing
             number,
             share,
             path,
-        } if number == j && check(n, j, &share, &path, root) => Standing::Valid(share),
+        } if number == j && check(session, n, j, &share, &path, root) => Standing::Valid(share),
         _ => Standing::Faulty,
     })
 }
@@ -148,6 +154,7 @@ pub fn classify(n: usize, j: usize, root: Hash, bytes: &[u8]) -> Result<Standing
 /// The standing of a share that is said to lie at a place of the bytes. It is faulty if it is longer
 /// than a share may be, or if it or its path runs past the end.
 pub fn classify_at(
+    session: u32,
     (n, j): (usize, usize),
     root: Hash,
     bytes: &[u8],
@@ -160,7 +167,7 @@ pub fn classify_at(
         return Err(3);
     }
     Ok(match lying(bytes, place) {
-        Some((share, path)) if place.number == j && check(n, j, share, &path, root) => {
+        Some((share, path)) if place.number == j && check(session, n, j, share, &path, root) => {
             Standing::Valid(share.to_vec())
         }
         _ => Standing::Faulty,
@@ -192,13 +199,13 @@ mod tests {
         for n in 1..=MOST_PARTIES {
             for length in [1, 2, 255, 256, LONGEST_SHARE] {
                 let shares = some_shares(n, length);
-                let root = tree::root(&shares);
+                let root = tree::root(0, &shares);
                 for number in 1..=n {
                     let share = shares[number - 1].clone();
-                    let path = tree::path(&shares, number);
+                    let path = tree::path(0, &shares, number);
                     let packet = write(number, &share, &path);
                     let valid = Standing::Valid(share.clone());
-                    assert_eq!(classify(n, number, root, &packet), Ok(valid));
+                    assert_eq!(classify(0, n, number, root, &packet), Ok(valid));
                     let expected = Reading::Share {
                         number,
                         share,
@@ -268,19 +275,43 @@ mod tests {
         for bytes in [&[][..], &[0]] {
             let most = MOST_PARTIES;
             assert_eq!(read(most, bytes), Reading::Silence);
-            assert_eq!(classify(most, most, root, bytes), Ok(Standing::Silent));
-            assert_eq!(classify(most, most + 1, root, bytes), Err(3));
-            assert_eq!(classify(most, 0, root, bytes), Err(3));
+            assert_eq!(classify(0, most, most, root, bytes), Ok(Standing::Silent));
+            assert_eq!(classify(0, most, most + 1, root, bytes), Err(3));
+            assert_eq!(classify(0, most, 0, root, bytes), Err(3));
             for n in [0, most + 1] {
                 assert_eq!(read(n, bytes), Reading::Refused(1));
-                assert_eq!(classify(n, 0, root, bytes), Err(1));
+                assert_eq!(classify(0, n, 0, root, bytes), Err(1));
             }
         }
         let packet = [7, 1, 0, 1, 9];
-        assert_eq!(classify(1, 1, root, &packet), Ok(Standing::Valid(vec![9])));
-        assert_eq!(classify(1, 1, [0; 32], &packet), Ok(Standing::Faulty));
-        assert_eq!(classify(1, 1, root, &packet[1..]), Ok(Standing::Faulty));
-        assert_eq!(classify(2, 1, root, &packet), Ok(Standing::Faulty));
+        assert_eq!(
+            classify(0, 1, 1, root, &packet),
+            Ok(Standing::Valid(vec![9]))
+        );
+        assert_eq!(classify(0, 1, 1, [0; 32], &packet), Ok(Standing::Faulty));
+        assert_eq!(classify(0, 1, 1, root, &packet[1..]), Ok(Standing::Faulty));
+        assert_eq!(classify(0, 2, 1, root, &packet), Ok(Standing::Faulty));
+    }
+
+    #[test]
+    fn a_packet_of_another_session_is_faulty() {
+        let root = hash(&[0, 0, 0, 1, 0, 1, 9]);
+        let packet = write(1, &[9], &[]);
+        let valid = Ok(Standing::Valid(vec![9]));
+        for (session, expected) in [
+            (256, valid),
+            (0, Ok(Standing::Faulty)),
+            (1, Ok(Standing::Faulty)),
+        ] {
+            assert_eq!(classify(session, 1, 1, root, &packet), expected);
+            let place = Place {
+                number: 1,
+                from: HEADER,
+                length: 1,
+                hashes: 0,
+            };
+            assert_eq!(classify_at(session, (1, 1), root, &packet, place), expected);
+        }
     }
 
     #[test]
@@ -309,7 +340,7 @@ mod tests {
             length: 1,
             hashes: 0,
         };
-        let stands = |bytes: &[u8], place| classify_at((1, 1), root, bytes, place);
+        let stands = |bytes: &[u8], place| classify_at(0, (1, 1), root, bytes, place);
         assert_eq!(stands(&[5, 5, 9], place), Ok(Standing::Valid(vec![9])));
         assert_eq!(stands(&[5, 5], place), Ok(Standing::Faulty));
         assert_eq!(stands(&[5, 5, 8], place), Ok(Standing::Faulty));
@@ -321,8 +352,8 @@ mod tests {
         }
         let other = Place { number: 2, ..place };
         assert_eq!(stands(&[5, 5, 9], other), Ok(Standing::Faulty));
-        assert_eq!(classify_at((1, 2), root, &[5, 5, 9], place), Err(3));
-        assert_eq!(classify_at((0, 1), root, &[5, 5, 9], place), Err(1));
+        assert_eq!(classify_at(0, (1, 2), root, &[5, 5, 9], place), Err(3));
+        assert_eq!(classify_at(0, (0, 1), root, &[5, 5, 9], place), Err(1));
     }
 
     #[test]

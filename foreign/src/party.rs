@@ -41,6 +41,8 @@ pub enum Rebuilt {
 /// The state that a caller keeps between the steps; anything at all may stand in it.
 #[derive(Clone, Debug, PartialEq, Eq)]
 pub struct State {
+    /// The session's number; any is lawful.
+    pub session: u32,
     pub n: u64,
     pub t: u64,
     pub own: u64,
@@ -78,6 +80,7 @@ impl From<u32> for Refusal {
 
 /// The values of a state that breaks no limit; what lies past a length is left out.
 struct Party {
+    session: u32,
     n: usize,
     t: usize,
     own: usize,
@@ -124,6 +127,7 @@ impl State {
     /// The state that a refused opening gives.
     pub fn blank() -> State {
         State {
+            session: 0,
             n: 0,
             t: 0,
             own: 0,
@@ -137,11 +141,12 @@ impl State {
     }
 
     /// Step 1; the answer is the root that goes to the agreement.
-    pub fn open(n: u64, t: u64, own: u64, message: &[u8]) -> Given<Hash> {
+    pub fn open(session: u32, n: u64, t: u64, own: u64, message: &[u8]) -> Given<Hash> {
         let opened = group(n, t, own).and_then(|(n, t, own)| {
             let fits = message.len() <= LONGEST_MESSAGE;
             let message = fits.then(|| message.to_vec()).ok_or(4u32)?;
             Ok(Party {
+                session,
                 n,
                 t,
                 own,
@@ -160,6 +165,7 @@ impl State {
     /// packet which goes to all others. Each of these is handed the packet that came, and opens with
     /// the empty message where it reads none.
     pub fn open_by_sender(
+        session: u32,
         (n, t): (u64, u64),
         own: u64,
         sender: u64,
@@ -172,7 +178,7 @@ impl State {
             (false, _) => Vec::new(),
         };
         let numbers = group(n, t, own).and_then(|_| group(n, t, sender));
-        let (state, opened) = State::open(n, t, own, &message);
+        let (state, opened) = State::open(session, n, t, own, &message);
         let begun = numbers.map_err(Refusal::from).and_then(|_| {
             let root = opened?;
             let packet = match own == sender && n > 1 {
@@ -325,6 +331,7 @@ impl State {
             first(&self.message, length)?;
         }
         Some(Party {
+            session: self.session,
             n,
             t,
             own,
@@ -342,7 +349,12 @@ impl Party {
     }
 
     fn own_root(&self) -> Hash {
-        commitment::root(self.n, self.t, &self.message)
+        self.root_of(&self.message)
+    }
+
+    /// The root of a message in this party's session.
+    fn root_of(&self, message: &[u8]) -> Hash {
+        commitment::root(self.session, self.n, self.t, message)
     }
 
     fn happy(&self) -> bool {
@@ -352,12 +364,12 @@ impl Party {
     /// Share j of the party's own message, with its path.
     fn packet(&self, j: usize) -> Vec<u8> {
         let shares = self.shares();
-        packet::write(j, &shares[j - 1], &tree::path(&shares, j))
+        packet::write(j, &shares[j - 1], &tree::path(self.session, &shares, j))
     }
 
     /// The share in a packet that bears number j and passes the check.
     fn valid(&self, j: usize, packet: &[u8]) -> Option<Vec<u8>> {
-        match classify(self.n, j, self.root, packet) {
+        match classify(self.session, self.n, j, self.root, packet) {
             Ok(Standing::Valid(share)) => Some(share),
             _ => None,
         }
@@ -386,9 +398,7 @@ impl Party {
     fn rebuilt(&self, senders: &[&[u8]]) -> Rebuilt {
         let entries = lay_out(&self.gathered(senders));
         match find_message(self.n, self.t, &entries) {
-            Ok(message) if commitment::root(self.n, self.t, &message) == self.root => {
-                Rebuilt::Message(message)
-            }
+            Ok(message) if self.root_of(&message) == self.root => Rebuilt::Message(message),
             Ok(message) => Rebuilt::OtherRoot(message),
             Err(cause @ (11 | 12)) => Rebuilt::Refused(cause),
             Err(other) => panic!("a lawful rebuild has cause {other}"),
@@ -398,6 +408,7 @@ impl Party {
     /// The state at a stage before the end. Root and share are zero where they are not had.
     fn awaiting(&self, stage: Stage) -> State {
         State {
+            session: self.session,
             n: self.n as u64,
             t: self.t as u64,
             own: self.own as u64,
@@ -439,6 +450,7 @@ impl Party {
             None => Outcome::Nothing,
         };
         State {
+            session: self.session,
             n: self.n as u64,
             t: self.t as u64,
             own: self.own as u64,
@@ -455,6 +467,7 @@ mod tests {
     use crate::liars::Sharing;
     use crate::limits::{LONGEST_OUTBOX, MOST_FAULTS};
     use crate::random::Random;
+    use crate::sessions::EDGES;
     use std::collections::BTreeSet;
 
     const LENT: u8 = 0xA5;
@@ -481,10 +494,10 @@ mod tests {
     /// The states of the good parties before the first inbox, and the packets that each sends.
     /// The agreements settle on the first party's root and bit.
     fn after_agreement(n: u64, t: u64, messages: &[&[u8]]) -> Vec<(State, Vec<Vec<u8>>)> {
-        let root = State::open(n, t, 1, messages[0]).1.expect("opened");
+        let root = State::open(0, n, t, 1, messages[0]).1.expect("opened");
         let mut agreed = Vec::new();
         for (own, message) in (1..).zip(messages) {
-            let (state, bit) = State::open(n, t, own, message).0.agree_root(&root);
+            let (state, bit) = State::open(0, n, t, own, message).0.agree_root(&root);
             assert_eq!(bit, Ok(*message == messages[0]));
             let (state, outbox) = wrote(|out| state.agree_bit(1, out));
             let packets = entries(n as usize, &outbox).expect("an outbox");
@@ -541,11 +554,51 @@ mod tests {
         assert_eq!(session(1, 0, &[b""]), (vec![Some(Vec::new())], 0));
     }
 
+    /// The number goes from the opening through every step, and takes part in no other answer.
+    #[test]
+    fn a_session_is_kept_to_the_end() {
+        for session in EDGES {
+            let (state, root) = State::open(session, 3, 1, 2, b"AB");
+            assert_eq!(root, Ok(Sharing::of(session, 3, 1, b"AB").root));
+            let (state, happy) = state.agree_root(&root.unwrap());
+            assert_eq!((state.session, happy), (session, Ok(true)));
+            let (state, outbox) = wrote(|out| state.agree_bit(1, out));
+            let packets = entries(3, &outbox).expect("an outbox");
+            assert_eq!(packets[2], Sharing::of(session, 3, 1, b"AB").packet(3));
+            let (state, _) = wrote(|out| state.take_shares(&[0; 6], out));
+            assert_eq!(state.session, session);
+            let (state, _) = state.take_relays(&[0; 6], &mut [0; 2]);
+            assert_eq!(state.session, session);
+            let (state, again) = state.take_relays(&[], &mut [0; 2]);
+            assert_eq!((state.session, again), (session, Ok(Some(2))));
+        }
+        let refused = State::open(7, 3, 1, 4, b"AB");
+        assert_eq!((refused.0, refused.1.is_ok()), (State::blank(), false));
+    }
+
+    /// Shares, relays and the root of what is rebuilt are all held to the party's own session.
+    #[test]
+    fn packets_of_another_session_do_not_count() {
+        let (agreed, other) = (Sharing::of(7, 3, 1, b"A"), Sharing::of(8, 3, 1, b"A"));
+        for (session, from, taken) in [(7, &agreed, true), (7, &other, false), (8, &agreed, false)]
+        {
+            let (state, _) = State::open(session, 3, 1, 2, b"no");
+            let state = state.agree_root(&agreed.root).0;
+            let (state, _) = wrote(|out| state.agree_bit(1, out));
+            let inbox = lay_out(&[from.packet(2), Vec::new(), Vec::new()]);
+            let (state, relay) = wrote(|out| state.take_shares(&inbox, out));
+            assert_eq!(relay.is_empty(), !taken);
+            let inbox = lay_out(&[from.packet(1), Vec::new(), from.packet(3)]);
+            let found = taken.then(|| b"A".to_vec());
+            assert_eq!(result(state, &inbox), found);
+        }
+    }
+
     #[test]
     fn bit_zero_ends_with_nothing() {
         for (own, message) in [(1, b"A"), (2, b"B")] {
-            let (_, root) = State::open(3, 1, 1, b"A");
-            let (state, _) = State::open(3, 1, own, message);
+            let (_, root) = State::open(0, 3, 1, 1, b"A");
+            let (state, _) = State::open(0, 3, 1, own, message);
             let (state, bit) = state.agree_root(&root.unwrap());
             assert_eq!(bit, Ok(own == 1));
             let (state, out) = wrote(|out| state.agree_bit(0, out));
@@ -566,7 +619,7 @@ mod tests {
     fn an_opening_is_refused_by_its_lowest_cause() {
         let long = vec![7; LONGEST_MESSAGE + 1];
         let (most, half) = (MOST_PARTIES as u64, MOST_FAULTS as u64);
-        assert!(State::open(most, half, most, &long[1..]).1.is_ok());
+        assert!(State::open(0, most, half, most, &long[1..]).1.is_ok());
         for (n, t, own, want) in [
             (0, 0, 0, 1),
             (most + 1, half + 2, most + 2, 1),
@@ -577,7 +630,7 @@ mod tests {
             (most, half, 0, 3),
             (most, half, most, 4),
         ] {
-            let given = State::open(n, t, own, &long);
+            let given = State::open(0, n, t, own, &long);
             assert_eq!(given.0, State::blank());
             assert_eq!(cause(given), want, "n {n}, t {t}, own {own}");
         }
@@ -590,7 +643,7 @@ mod tests {
         message: &[u8],
         written: usize,
     ) -> Given<Begun> {
-        let (state, root) = State::open(n, t, own, message);
+        let (state, root) = State::open(0, n, t, own, message);
         (state, root.map(|root| Begun { root, written }))
     }
 
@@ -600,18 +653,18 @@ mod tests {
         for message in [&b""[..], b"A", b"AB", &[7; LONGEST_MESSAGE]] {
             let packet = [&[8][..], &lay_out(&[message])].concat();
             let mut out = vec![LENT; packet.len() + 2];
-            let given = State::open_by_sender(group, 2, 2, message, &mut out);
+            let given = State::open_by_sender(0, group, 2, 2, message, &mut out);
             assert_eq!(given, like_the_ordinary(group, 2, message, packet.len()));
             assert_eq!(out, [&packet[..], &[LENT; 2]].concat());
             for own in [1, 3] {
-                let given = State::open_by_sender(group, own, 2, &packet, &mut []);
+                let given = State::open_by_sender(0, group, own, 2, &packet, &mut []);
                 assert_eq!(given, like_the_ordinary(group, own, message, 0));
             }
         }
         let mut out = [LENT; 9];
-        let alone = State::open_by_sender((1, 0), 1, 1, b"AB", &mut out);
+        let alone = State::open_by_sender(0, (1, 0), 1, 1, b"AB", &mut out);
         assert_eq!(alone, like_the_ordinary((1, 0), 1, b"AB", 0));
-        let alone = State::open_by_sender((1, 0), 1, 1, b"AB", &mut []);
+        let alone = State::open_by_sender(0, (1, 0), 1, 1, b"AB", &mut []);
         assert_eq!(alone, like_the_ordinary((1, 0), 1, b"AB", 0));
         assert_eq!(out, [LENT; 9]);
     }
@@ -619,7 +672,7 @@ mod tests {
     #[test]
     fn what_is_not_read_is_the_empty_message() {
         let long = [&[8][..], &lay_out(&[[7; LONGEST_MESSAGE + 1]])].concat();
-        let share = Sharing::of(3, 1, b"AB").packet(2);
+        let share = Sharing::of(0, 3, 1, b"AB").packet(2);
         let came: [&[u8]; 10] = [
             &[],
             &[0],
@@ -634,7 +687,7 @@ mod tests {
         ];
         for bytes in came {
             let mut out = [LENT; 5];
-            let given = State::open_by_sender((3, 1), 2, 1, bytes, &mut out);
+            let given = State::open_by_sender(0, (3, 1), 2, 1, bytes, &mut out);
             assert_eq!(given, like_the_ordinary((3, 1), 2, b"", 0));
             assert_eq!(out, [LENT; 5]);
         }
@@ -660,7 +713,7 @@ mod tests {
             (most, half, most, most, (4, 0)),
             (1, 0, 1, 1, (4, 0)),
         ] {
-            let given = State::open_by_sender((n, t), own, sender, &long, &mut out);
+            let given = State::open_by_sender(0, (n, t), own, sender, &long, &mut out);
             assert_eq!(given.0, State::blank());
             assert_eq!(
                 short(given),
@@ -669,7 +722,7 @@ mod tests {
             );
         }
         for (bytes, needed) in [(&b"AB"[..], 5), (&long[1..], 3 + LONGEST_MESSAGE)] {
-            let given = State::open_by_sender((2, 0), 2, 2, bytes, &mut out);
+            let given = State::open_by_sender(0, (2, 0), 2, 2, bytes, &mut out);
             assert_eq!(given.0, State::blank());
             assert_eq!(short(given), (9, needed));
         }
@@ -678,7 +731,7 @@ mod tests {
 
     #[test]
     fn a_refused_step_keeps_the_state_and_the_buffer() {
-        let (fresh, root) = State::open(2, 0, 1, b"A");
+        let (fresh, root) = State::open(0, 2, 0, 1, b"A");
         let root = root.unwrap();
         assert_eq!(cause(fresh.clone().agree_root(&root[1..])), 7);
         assert_eq!(cause(fresh.clone().agree_bit(9, &mut [])), 6);
@@ -799,12 +852,15 @@ mod tests {
     /// own entry holds never counts.
     #[test]
     fn the_lowest_valid_sender_is_taken() {
-        let (sender, root) = State::open(3, 1, 1, b"AB");
+        let (sender, root) = State::open(0, 3, 1, 1, b"AB");
         let sender = sender.agree_root(&root.unwrap()).0;
         let (_, outbox) = wrote(|out| sender.agree_bit(1, out));
         let packet = entries(3, &outbox).unwrap()[1].to_vec();
         let unhappy = || {
-            let state = State::open(3, 1, 2, b"no").0.agree_root(&root.unwrap()).0;
+            let state = State::open(0, 3, 1, 2, b"no")
+                .0
+                .agree_root(&root.unwrap())
+                .0;
             wrote(|out| state.agree_bit(1, out)).0
         };
         let none: &[u8] = &[];
@@ -824,7 +880,7 @@ mod tests {
 
     /// An unhappy party before step 5, which the next one has sent its share.
     fn unhappy((n, t): (usize, usize), own: usize, agreed: &Sharing) -> State {
-        let (state, _) = State::open(n as u64, t as u64, own as u64, b"no");
+        let (state, _) = State::open(0, n as u64, t as u64, own as u64, b"no");
         let (state, bit) = state.agree_root(&agreed.root);
         assert_eq!(bit, Ok(false));
         let (state, _) = wrote(|out| state.agree_bit(1, out));
@@ -853,7 +909,7 @@ mod tests {
     #[test]
     fn a_message_is_rebuilt_under_its_root() {
         for group in [(2, 0), (3, 1), (5, 2), (6, 2)] {
-            let agreed = Sharing::of(group.0, group.1, b"message");
+            let agreed = Sharing::of(0, group.0, group.1, b"message");
             for (state, inbox) in before_step_5(group, &agreed) {
                 let message = Rebuilt::Message(b"message".to_vec());
                 assert_eq!(state.rebuilt(&inbox), Some(message));
@@ -870,7 +926,7 @@ mod tests {
     fn a_message_with_another_root_is_not_taken() {
         let mut random = Random::new(5);
         for group in [(3, 1), (4, 1), (5, 2), (6, 2)] {
-            let agreed = Sharing::no_codeword(group.0, group.1, &mut random);
+            let agreed = Sharing::no_codeword(0, group.0, group.1, &mut random);
             let mut messages = BTreeSet::new();
             for (state, inbox) in before_step_5(group, &agreed) {
                 let Some(Rebuilt::OtherRoot(message)) = state.rebuilt(&inbox) else {
@@ -893,13 +949,13 @@ mod tests {
     /// Fewer relays than are needed, and shares of no frame.
     #[test]
     fn what_gives_no_message_is_told() {
-        let agreed = Sharing::of_frame(5, 2, &[0; 9]);
+        let agreed = Sharing::of_frame(0, 5, 2, &[0; 9]);
         for (state, inbox) in before_step_5((5, 2), &agreed) {
             assert_eq!(state.rebuilt(&inbox), Some(Rebuilt::Refused(12)));
             assert_eq!(state.rebuilt(&[0; 10]), Some(Rebuilt::Refused(11)));
             assert_eq!(result(state, &inbox), None);
         }
-        let (state, root) = State::open(3, 1, 1, b"A");
+        let (state, root) = State::open(0, 3, 1, 1, b"A");
         let happy = state.agree_root(&root.unwrap()).0;
         assert_eq!(happy.rebuilt(&[0; 6]), None);
     }

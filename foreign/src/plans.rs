@@ -1,6 +1,6 @@
 //! Random plans for the rehearsal, plan k from the number k alone: about two thirds of them
 //! valid, with liars of every kind, the rest damaged in one way or two. Some two in five name a
-//! sender, which is bad more often than good.
+//! sender, which is bad more often than good, and as many give the session's number.
 //!
 //! Where the agreed bit is 1, good parties end with the agreed message whatever the bad ones
 //! send. A program that takes a lie shows it only where a good party is unhappy and the liar
@@ -16,7 +16,8 @@ use crate::liars::{flip, Lie, Scene, Sharing, Way, LONGEST_LIE};
 use crate::limits::{INSIDE, LONGEST_ENTRY, LONGEST_MESSAGE, LONGEST_PLAN};
 use crate::limits::{MOST_NAMED, MOST_PARTIES};
 use crate::random::Random;
-use crate::rehearsal::{BIT_GIVEN, ROOT_GIVEN, SENDER_GIVEN};
+use crate::rehearsal::{BIT_GIVEN, ROOT_GIVEN, SENDER_GIVEN, SESSION_GIVEN};
+use crate::sessions;
 use crate::sha256::Hash;
 
 /// A plan, and what was put into it.
@@ -116,6 +117,8 @@ struct Draft {
     root: Option<Hash>,
     bit: Option<u8>,
     source: Option<Source>,
+    /// The session's number as it is written.
+    session: Option<u32>,
     good: BTreeSet<usize>,
     bad: Vec<usize>,
     /// What the good parties open with.
@@ -189,15 +192,19 @@ impl Draft {
     }
 
     fn bytes(&self) -> Vec<u8> {
-        let root_given = if self.root.is_some() { ROOT_GIVEN } else { 0 };
-        let bit_given = if self.bit.is_some() { BIT_GIVEN } else { 0 };
         let sender = self.source.as_ref().map(|it| it.number as u8);
-        let sender_given = if sender.is_some() { SENDER_GIVEN } else { 0 };
-        let options = self.turned_options ^ (root_given | bit_given | sender_given);
-        let mut bytes = [&self.head[..], &[options]].concat();
+        let given = [
+            (self.root.is_some(), ROOT_GIVEN),
+            (self.bit.is_some(), BIT_GIVEN),
+            (sender.is_some(), SENDER_GIVEN),
+            (self.session.is_some(), SESSION_GIVEN),
+        ];
+        let options: u8 = given.iter().filter(|it| it.0).map(|it| it.1).sum();
+        let mut bytes = [&self.head[..], &[self.turned_options ^ options]].concat();
         bytes.extend(self.root.iter().flatten());
         bytes.extend(self.bit);
         bytes.extend(sender);
+        bytes.extend(self.session.iter().flat_map(|it| it.to_be_bytes()));
         bytes.extend(map_of(&self.good));
         for message in self.listed() {
             bytes.extend(two_bytes(message.len()));
@@ -245,6 +252,7 @@ impl Draft {
             root: None,
             bit: None,
             source: None,
+            session: None,
             good: Vec::into_iter(good).collect(),
             bad,
             messages: Vec::new(),
@@ -257,6 +265,7 @@ impl Draft {
 
     fn new(size: Size, damages: &[Damage], random: &mut Random) -> Draft {
         let mut draft = Draft::group(size, damages, random);
+        draft.session = (random.below(5) < 2).then(|| sessions::some(random));
         draft.name_sender(damages, random);
         match draft.source {
             Some(_) => draft.hand_out(size, random),
@@ -357,26 +366,41 @@ impl Draft {
         other
     }
 
+    /// The number of the plan's session.
+    fn session_number(&self) -> u32 {
+        self.session.unwrap_or(0)
+    }
+
+    /// The shares of a message in that session.
+    fn sharing(&self, message: &[u8]) -> Sharing {
+        Sharing::of(self.session_number(), self.n, self.t, message)
+    }
+
     fn roots(&self) -> Vec<Hash> {
-        let root = |message: &Vec<u8>| Sharing::of(self.n, self.t, message).root;
+        let root = |message: &Vec<u8>| self.sharing(message).root;
         self.messages.iter().map(root).collect()
     }
 
     /// A root that no good party puts in.
     fn strange_root(&self, random: &mut Random) -> Hash {
         let mut root = [0; 32];
-        match random.below(4) {
+        match random.below(5) {
             0 => root.copy_from_slice(&random.bytes(32)),
             1 if !self.messages.is_empty() => {
-                root = Sharing::of(self.n, self.t, &self.messages[0]).root;
+                root = self.sharing(&self.messages[0]).root;
                 flip(&mut root, random);
             }
-            // A frame of three rows is well made only by rare luck.
-            2 => {
-                let frame = random.bytes(3 * (self.n - self.t));
-                root = Sharing::of_frame(self.n, self.t, &frame).root;
+            // A good party's in another session.
+            2 if !self.messages.is_empty() => {
+                let session = sessions::another(self.session_number(), random);
+                root = self.sharing(&self.messages[0]).in_session(session).root;
             }
-            _ => root = Sharing::of(self.n, self.t, &random.bytes(45)).root,
+            // A frame of three rows is well made only by rare luck.
+            3 => {
+                let frame = random.bytes(3 * (self.n - self.t));
+                root = Sharing::of_frame(self.session_number(), self.n, self.t, &frame).root;
+            }
+            _ => root = self.sharing(&random.bytes(45)).root,
         }
         root
     }
@@ -417,8 +441,8 @@ impl Draft {
             _ => self.other_message(&one, LONGEST_MESSAGE.min(one.len() + 1), random),
         };
         Scene {
-            agreed: Sharing::of(self.n, self.t, &one),
-            other: Sharing::of(self.n, self.t, &other),
+            agreed: self.sharing(&one),
+            other: self.sharing(&other),
         }
     }
 }
@@ -582,7 +606,7 @@ impl Draft {
                 let above = least + random.below(240) as u8;
                 self.head[1] = random.pick(&[least, least, least + 1, 127, 128, 129, 255, above]);
             }
-            Damage::Options => self.turned_options |= random.pick(&[4, 8, 16, 32, 64, 128, 248]),
+            Damage::Options => self.turned_options |= random.pick(&[4, 8, 16, 32, 64, 128, 240]),
             Damage::GoodBeyond => self.name_beyond(random),
             Damage::Receiver => self.name_not_good(random),
             Damage::Oversize => {

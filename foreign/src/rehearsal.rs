@@ -8,6 +8,8 @@
 
 #[cfg(test)]
 mod senders;
+#[cfg(test)]
+mod sessions;
 
 use std::collections::BTreeMap;
 
@@ -17,10 +19,14 @@ use crate::limits::{MOST_NAMED, MOST_PARTIES};
 use crate::party::{Given, Outcome, Rebuilt, Stage, State};
 use crate::sha256::{hex, Hash};
 
-/// The option that a root is given, the option that a bit is, and the one that a sender is named.
+/// The option that a root is given, the option that a bit is, the one that a sender is named, and the
+/// one that the session's number is given.
 pub const ROOT_GIVEN: u8 = 1;
 pub const BIT_GIVEN: u8 = 2;
 pub const SENDER_GIVEN: u8 = 4;
+pub const SESSION_GIVEN: u8 = 8;
+
+const OPTIONS: u8 = ROOT_GIVEN | BIT_GIVEN | SENDER_GIVEN | SESSION_GIVEN;
 
 /// What one party sends in one exchange: for each receiver a packet, or none where nothing is sent.
 pub type Row = Vec<Option<Vec<u8>>>;
@@ -36,6 +42,8 @@ pub struct Plan {
     pub root: Option<Hash>,
     pub bit: Option<u8>,
     pub sender: Option<Sender>,
+    /// The session's number as it is written; a plan without one is of session 0.
+    pub session: Option<u32>,
     pub good: Vec<usize>,
     pub messages: BTreeMap<usize, Vec<u8>>,
     pub first: Exchange,
@@ -47,6 +55,13 @@ pub struct Plan {
 pub struct Sender {
     pub number: usize,
     pub row: Row,
+}
+
+impl Plan {
+    /// The number of the session that it tells.
+    pub fn session_number(&self) -> u32 {
+        self.session.unwrap_or(0)
+    }
 }
 
 /// An exchange: that of the sender, and the two of every session.
@@ -104,6 +119,7 @@ pub enum Part {
     Root,
     Bit,
     Sender,
+    Session,
     Good,
     Message(usize),
     Receivers {
@@ -279,12 +295,13 @@ impl<'a> Rest<'a> {
     fn plan(&mut self) -> Option<Plan> {
         let (n, t) = (self.one()?.into(), self.one()?.into());
         let options = self.part(Part::Options).one()?;
-        if options & !(ROOT_GIVEN | BIT_GIVEN | SENDER_GIVEN) != 0 {
+        if options & !OPTIONS != 0 {
             return None;
         }
         let root = self.optional(options & ROOT_GIVEN, Part::Root, Self::root)?;
         let bit = self.optional(options & BIT_GIVEN, Part::Bit, Self::one)?;
         let sender = self.optional(options & SENDER_GIVEN, Part::Sender, Self::one)?;
+        let session = self.optional(options & SESSION_GIVEN, Part::Session, Self::four)?;
         let good = self.part(Part::Good).parties()?;
         if good.iter().any(|&party| party > n) {
             return None;
@@ -304,6 +321,7 @@ impl<'a> Rest<'a> {
             root,
             bit,
             sender,
+            session,
             good,
             messages,
             first,
@@ -345,6 +363,10 @@ impl<'a> Rest<'a> {
     fn two(&mut self) -> Option<u16> {
         let bytes = self.take(2)?;
         Some(u16::from_be_bytes([bytes[0], bytes[1]]))
+    }
+
+    fn four(&mut self) -> Option<u32> {
+        Some(u32::from_be_bytes(self.take(4)?.try_into().ok()?))
     }
 
     fn root(&mut self) -> Option<Hash> {
@@ -440,16 +462,16 @@ fn agreed(mut plan: Plan) -> Option<(Vec<State>, Session)> {
 /// Step 1 of each good party: with its message, or by the sender, of which a good one hands its packet
 /// to all others first.
 fn opened(plan: &mut Plan) -> Option<(Vec<State>, Vec<Hash>)> {
-    let (n, t) = (plan.n as u64, plan.t as u64);
+    let (session, n, t) = (plan.session_number(), plan.n as u64, plan.t as u64);
     let Some(sender) = &mut plan.sender else {
         let books = plan.messages.iter().collect();
         return each(books, |(&own, message)| {
-            State::open(n, t, own as u64, message)
+            State::open(session, n, t, own as u64, message)
         });
     };
     let number = sender.number;
     let open = |own: usize, bytes: &[u8], out: &mut [u8]| {
-        State::open_by_sender((n, t), own as u64, number as u64, bytes, out)
+        State::open_by_sender(session, (n, t), own as u64, number as u64, bytes, out)
     };
     let own_message = plan.messages.get(&number).map(Vec::as_slice);
     if let Some(message) = own_message {
@@ -596,7 +618,7 @@ mod tests {
     }
 
     fn root_of(own: u64, message: &[u8]) -> Hash {
-        State::open(3, 1, own, message).1.expect("opened")
+        State::open(0, 3, 1, own, message).1.expect("opened")
     }
 
     #[test]
@@ -704,7 +726,7 @@ mod tests {
         let behind: [Vec<u8>; 8] = [
             vec![],
             vec![4],
-            vec![8],
+            vec![16],
             vec![4, 0, 0, 0],
             vec![0; LONGEST_PLAN - 2],
             vec![0; LONGEST_PLAN - 1],
@@ -733,7 +755,7 @@ mod tests {
         for more in [&[0][..], &[1], &[0, 0], SILENT] {
             assert_eq!(cause(&[&sound, more].concat()), 13);
         }
-        for option in 3..8 {
+        for option in 4..8 {
             assert_eq!(cause(&of_three(&[1 << option], [b"AB", b"AB"])), 13);
         }
         for beyond in 3..MOST_NAMED {
@@ -805,7 +827,7 @@ mod tests {
             // The layout is read to its end before the length is judged.
             assert_eq!(cause(&refused[..refused.len() - 1]), 13);
             assert_eq!(cause(&[&refused[..], &[0]].concat()), 13);
-            assert_eq!(cause(&of_three(&[8], [b"A", long])), 13);
+            assert_eq!(cause(&of_three(&[16], [b"A", long])), 13);
             assert_eq!(
                 cause(&plan(&[3, 1, 0], 3, &[b"A", long], &[0, 4, 0, 0])),
                 13
@@ -850,13 +872,13 @@ mod tests {
         assert_eq!(cause(&refused), 14);
         assert_eq!(cause(&[&refused[..], &[0]].concat()), 13);
         assert_eq!(cause(&refused[..refused.len() - 1]), 13);
-        assert_eq!(cause(&of_three(&[10, 2], [b"A", b"B"])), 13);
+        assert_eq!(cause(&of_three(&[18, 2], [b"A", b"B"])), 13);
     }
 
     /// Party 1 lies to party 3 and is honest to party 4; both are unhappy.
     #[test]
     fn what_was_taken_is_kept() {
-        let packet = |number| Sharing::of(5, 2, b"A").packet(number);
+        let packet = |number| Sharing::of(0, 5, 2, b"A").packet(number);
         let first = [&[0, 12][..], &lay_out(&[packet(2), packet(4)])].concat();
         let books: [&[u8]; 4] = [b"A", b"B", b"C", b"A"];
         let bytes = plan(&[5, 2, 0], 0x1E, &books, &[&first[..], &[0, 0]].concat());
@@ -966,7 +988,7 @@ mod tests {
         let mut changed = sound.clone();
         changed[15] = 4;
         assert_eq!(misfit(&changed), Some((14, receivers(Round::First), 0)));
-        changed[2] = 8;
+        changed[2] = 16;
         assert_eq!(misfit(&changed), Some((2, Part::Options, 0)));
     }
 }

@@ -4,10 +4,16 @@
 use crate::limits::{LONGEST_STRING, MOST_HASHES, MOST_PARTIES};
 use crate::sha256::{hash, Hash};
 
-/// 0x00, the number in one byte, the share.
-pub fn leaf_string(j: usize, share: &[u8]) -> Vec<u8> {
+/// 0x00, the session's number (document 02: sitting number) in four bytes unless it is 0, the share's
+/// number in one byte, the share.
+pub fn leaf_string(session: u32, j: usize, share: &[u8]) -> Vec<u8> {
     assert!((1..=MOST_PARTIES).contains(&j));
-    [&[0x00, j as u8], share].concat()
+    let number = session.to_be_bytes();
+    let number = match session {
+        0 => &[],
+        _ => &number[..],
+    };
+    [&[0x00], number, &[j as u8], share].concat()
 }
 
 /// The hash of 0x01, left, right.
@@ -16,8 +22,8 @@ pub fn node(left: Hash, right: Hash) -> Hash {
 }
 
 /// The hashes of the leaf strings of shares 1, 2 and so on.
-pub fn leaves(shares: &[Vec<u8>]) -> Vec<Hash> {
-    let leaf = |(j, share): (usize, &Vec<u8>)| hash(&leaf_string(j, share));
+pub fn leaves(session: u32, shares: &[Vec<u8>]) -> Vec<Hash> {
+    let leaf = |(j, share): (usize, &Vec<u8>)| hash(&leaf_string(session, j, share));
     (1..).zip(shares).map(leaf).collect()
 }
 
@@ -31,8 +37,8 @@ pub fn split(n: usize) -> usize {
     k
 }
 
-pub fn root(shares: &[Vec<u8>]) -> Hash {
-    root_of(&leaves(shares))
+pub fn root(session: u32, shares: &[Vec<u8>]) -> Hash {
+    root_of(&leaves(session, shares))
 }
 
 /// The root over hashed leaves, at least one.
@@ -44,8 +50,8 @@ pub fn root_of(leaves: &[Hash]) -> Hash {
     node(root_of(left), root_of(right))
 }
 
-pub fn path(shares: &[Vec<u8>], j: usize) -> Vec<Hash> {
-    path_of(&leaves(shares), j)
+pub fn path(session: u32, shares: &[Vec<u8>], j: usize) -> Vec<Hash> {
+    path_of(&leaves(session, shares), j)
 }
 
 /// The path of leaf j over hashed leaves: that within its half, then the other half's root.
@@ -95,14 +101,15 @@ fn fold(n: usize, j: usize, leaf: Hash, path: &[Hash]) -> Option<Hash> {
 }
 
 /// Whether the path has the right length for n and j and leads from the share to the root.
-pub fn check(n: usize, j: usize, share: &[u8], path: &[Hash], root: Hash) -> bool {
+pub fn check(session: u32, n: usize, j: usize, share: &[u8], path: &[Hash], root: Hash) -> bool {
     assert!((1..=n).contains(&j));
-    fold(n, j, hash(&leaf_string(j, share)), path) == Some(root)
+    fold(n, j, hash(&leaf_string(session, j, share)), path) == Some(root)
 }
 
 /// The check with any arguments: the lowest cause that applies, or its answer. Hashes past
 /// the count are ignored, and a count over the room is no path's length.
 pub fn judge(
+    session: u32,
     (n, j): (usize, usize),
     share: &[u8],
     path: &[Hash; MOST_HASHES],
@@ -115,17 +122,18 @@ pub fn judge(
     if !(1..=n).contains(&j) {
         return Err(3);
     }
-    if 2 + share.len() > LONGEST_STRING {
+    if leaf_string(session, j, share).len() > LONGEST_STRING {
         return Err(4);
     }
     let root: Hash = root.try_into().map_err(|_| 7u32)?;
     let counted = path.get(..count);
-    Ok(counted.is_some_and(|hashes| check(n, j, share, hashes, root)))
+    Ok(counted.is_some_and(|hashes| check(session, n, j, share, hashes, root)))
 }
 
 #[cfg(test)]
 mod tests {
     use super::*;
+    use crate::sessions::EDGES;
     use crate::sha256::hex;
 
     fn lengths(n: usize) -> Vec<usize> {
@@ -148,17 +156,23 @@ mod tests {
 
     #[test]
     fn strings() {
-        assert_eq!(leaf_string(16, &[5, 6]), [0, 16, 5, 6]);
+        assert_eq!(leaf_string(0, 16, &[5, 6]), [0, 16, 5, 6]);
+        assert_eq!(leaf_string(7, 16, &[5, 6]), [0, 0, 0, 0, 7, 16, 5, 6]);
+        assert_eq!(leaf_string(0x0102_0304, 5, &[]), [0, 1, 2, 3, 4, 5]);
         let node_string = [vec![1], vec![2; 32], vec![3; 32]].concat();
         assert_eq!(node([2; 32], [3; 32]), hash(&node_string));
         let share = vec![vec![9, 8]];
-        assert_eq!(root(&share), hash(&[0, 1, 9, 8]));
+        assert_eq!(root(0, &share), hash(&[0, 1, 9, 8]));
+        assert_eq!(
+            root(u32::MAX, &share),
+            hash(&[0, 255, 255, 255, 255, 1, 9, 8])
+        );
     }
 
     /// The tree of seven leaves that RFC 6962, section 2.1.3, draws.
     #[test]
     fn drawn_paths() {
-        let d = leaves(&some_shares(7));
+        let d = leaves(0, &some_shares(7));
         let [a, b, c, e, f, j] = [d[0], d[1], d[2], d[4], d[5], d[6]];
         let (g, h, i) = (node(a, b), node(c, d[3]), node(e, f));
         let (k, l) = (node(g, h), node(i, j));
@@ -207,13 +221,13 @@ mod tests {
     fn every_path_passes_and_no_other_number_does() {
         for n in 1..=MOST_PARTIES {
             let shares = some_shares(n);
-            let root = root(&shares);
+            let root = root(0, &shares);
             for j in 1..=n {
-                let path = path(&shares, j);
+                let path = path(0, &shares, j);
                 assert_eq!(path.len(), path_length(n, j));
                 assert!(path.len() <= MOST_HASHES);
                 for other in 1..=n {
-                    let passes = check(n, other, &shares[j - 1], &path, root);
+                    let passes = check(0, n, other, &shares[j - 1], &path, root);
                     assert_eq!(passes, other == j);
                 }
             }
@@ -221,19 +235,46 @@ mod tests {
     }
 
     #[test]
+    fn a_path_passes_under_its_own_session_alone() {
+        for n in 1..=MOST_PARTIES {
+            let shares = some_shares(n);
+            for session in EDGES {
+                let root = root(session, &shares);
+                let path = path(session, &shares, n);
+                for other in EDGES {
+                    let passes = check(other, n, n, &shares[n - 1], &path, root);
+                    assert_eq!(passes, other == session, "n {n}, {session} and {other}");
+                }
+            }
+        }
+    }
+
+    /// It is one message whose roots differ by the session: these are the shares of two, each alone.
+    #[test]
+    fn two_messages_of_two_sessions_may_have_one_leaf_string() {
+        let short = leaf_string(0x0100_047F, 1, &[0, 0]);
+        assert_eq!(short, leaf_string(0, 1, &[0, 4, 0x7F, 1, 0, 0]));
+    }
+
+    #[test]
     fn lowest_cause_first() {
         let none = [[0; 32]; MOST_HASHES];
         let long = vec![0; LONGEST_STRING - 1];
         let root = hash(&[0, 1, 5]);
-        assert_eq!(judge((1, 1), &[5], &none, 0, &root), Ok(true));
-        assert_eq!(judge((1, 1), &[5], &none, 1, &root), Ok(false));
-        assert_eq!(judge((1, 1), &[5], &none, 255, &root), Ok(false));
-        assert_eq!(judge((1, 1), &long[1..], &none, 0, &root), Ok(false));
-        assert_eq!(judge((0, 0), &long, &none, 0, b""), Err(1));
+        assert_eq!(judge(0, (1, 1), &[5], &none, 0, &root), Ok(true));
+        assert_eq!(judge(0, (1, 1), &[5], &none, 1, &root), Ok(false));
+        assert_eq!(judge(0, (1, 1), &[5], &none, 255, &root), Ok(false));
+        assert_eq!(judge(0, (1, 1), &long[1..], &none, 0, &root), Ok(false));
+        for session in [1, u32::MAX] {
+            let call = |share| judge(session, (1, 1), share, &none, 0, &root);
+            assert_eq!(call(&long[5..]), Ok(false));
+            assert_eq!(call(&long[4..]), Err(4));
+        }
+        assert_eq!(judge(0, (0, 0), &long, &none, 0, b""), Err(1));
         let (most, over) = (MOST_PARTIES, MOST_PARTIES + 1);
-        assert_eq!(judge((over, over + 1), &long, &none, 0, b""), Err(1));
-        assert_eq!(judge((most, over), &long, &none, 0, b""), Err(3));
-        assert_eq!(judge((most, most), &long, &none, 0, b""), Err(4));
-        assert_eq!(judge((most, most), &[5], &none, 9, &root[1..]), Err(7));
+        assert_eq!(judge(0, (over, over + 1), &long, &none, 0, b""), Err(1));
+        assert_eq!(judge(0, (most, over), &long, &none, 0, b""), Err(3));
+        assert_eq!(judge(0, (most, most), &long, &none, 0, b""), Err(4));
+        assert_eq!(judge(0, (most, most), &[5], &none, 9, &root[1..]), Err(7));
     }
 }

@@ -92,6 +92,11 @@ impl Part {
         self.number(value as u64, 4)
     }
 
+    /// The number of a session, which the calls that hash leaves are told first.
+    pub fn session(self, session: u32) -> Part {
+        self.number(session.into(), 4)
+    }
+
     pub fn eight(self, value: u64) -> Part {
         self.number(value, 8)
     }

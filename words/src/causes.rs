@@ -68,6 +68,7 @@ fn named(part: Part) -> String {
         Part::Root => "the root".to_string(),
         Part::Bit => "the bit".to_string(),
         Part::Sender => "the sender's number".to_string(),
+        Part::Session => "the sitting number".to_string(),
         Part::Good => "the map of good boxes".to_string(),
         Part::Message(number) => format!("box {number}'s book or its length"),
         Part::Receivers { round, sender } => {

@@ -153,7 +153,7 @@ mod tests {
 
     fn offer(n: usize, lengths: [usize; 2], random: &mut Random) -> Offer {
         let [one, other] = lengths.map(|length| random.bytes(length));
-        let shares = Sharing::of(n, (n - 1) / 2, &one);
+        let shares = Sharing::of(0, n, (n - 1) / 2, &one);
         Offer { one, other, shares }
     }
 

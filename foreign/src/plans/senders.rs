@@ -2,7 +2,6 @@
 
 use super::{longest, Damage, Draft, Manner, Size, Source};
 use crate::liars::senders::{Offer, SenderLie};
-use crate::liars::Sharing;
 use crate::message_packet::{read, Reading};
 use crate::random::Random;
 
@@ -79,7 +78,7 @@ impl Draft {
         let one = self.some_message(most, random);
         Offer {
             other: self.other_message(&one, most, random),
-            shares: Sharing::of(self.n, self.t, &one),
+            shares: self.sharing(&one),
             one,
         }
     }

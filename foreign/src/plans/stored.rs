@@ -2,16 +2,18 @@
 //! chance may leave out, made one by one.
 
 mod senders;
+mod sessions;
 
 use std::collections::BTreeSet;
 
+use self::sessions::written;
 use super::{plan, Block, Damage, Draft, Made, Size, Source};
 use crate::liars::{flip, Lie, Scene, Sharing, Way};
 use crate::limits::{INSIDE, LONGEST_MESSAGE, LONGEST_PLAN, MOST_PARTIES};
 use crate::random::Random;
 
 /// The plans that a person can run.
-const KEPT: [&[u8]; 9] = [
+const KEPT: [&[u8]; 10] = [
     include_bytes!("../../../plans/worked-1.plan"),
     include_bytes!("../../../plans/worked-2.plan"),
     include_bytes!("../../../plans/worked-3.plan"),
@@ -21,6 +23,7 @@ const KEPT: [&[u8]; 9] = [
     include_bytes!("../../../plans/sender.plan"),
     include_bytes!("../../../plans/two-books.plan"),
     include_bytes!("../../../plans/silent-sender.plan"),
+    include_bytes!("../../../plans/sitting.plan"),
 ];
 
 /// So many random plans from this number on; without a count, the stored plans.
@@ -34,13 +37,14 @@ pub fn chosen(count: Option<u64>, first: u64) -> Box<dyn Iterator<Item = Made>> 
 pub fn stored() -> impl Iterator<Item = Made> {
     let mut lies = lies().cycle();
     random()
-        .chain(groups().map(all_good))
-        .chain(groups().map(move |group| liars(group, &mut lies)))
+        .chain(groups().zip(written(0)).map(all_good))
+        .chain(groups().zip(written(1)).map(move |it| liars(it, &mut lies)))
         .chain(KEPT.map(|bytes| laid_out(bytes.to_vec(), vec![])))
         .chain(longest())
         .chain(lengths())
         .chain(no_codewords())
         .chain(senders::stored())
+        .chain(sessions::stored())
         .chain(small().map(|bytes| laid_out(bytes, vec![])))
         .chain(small().into_iter().flat_map(damaged))
 }
@@ -59,9 +63,13 @@ fn groups() -> impl Iterator<Item = (usize, usize)> {
     (1..=MOST_PARTIES).flat_map(|n| (0..n.div_ceil(2)).map(move |t| (n, t)))
 }
 
+/// n and t, and what is written of the session's number.
+type Group = ((usize, usize), Option<u32>);
+
 /// Nobody is bad. The lowest party has the longest message, the others have the empty one.
-fn all_good((n, t): (usize, usize)) -> Made {
+fn all_good(((n, t), session): Group) -> Made {
     let mut draft = Draft::of(n, t, 0);
+    draft.session = session;
     draft.messages = vec![Vec::new(); n];
     draft.messages[0] = seeded(n, t).bytes(LONGEST_MESSAGE);
     draft.divided = n > 1;
@@ -81,15 +89,16 @@ fn lies() -> impl Iterator<Item = Lie> + Clone {
 
 /// As many are bad as may be, with the lowest numbers, so that their packets are looked at
 /// first. Root and bit are given, and of the good parties only the lowest is happy.
-fn liars((n, t): (usize, usize), lies: &mut impl Iterator<Item = Lie>) -> Made {
+fn liars(((n, t), session): Group, lies: &mut impl Iterator<Item = Lie>) -> Made {
     let mut random = seeded(n, t);
     let mut draft = Draft::of(n, t, (1 << t) - 1);
+    draft.session = session;
     let one = random.bytes(n);
     let mut other = one.clone();
     flip(&mut other, &mut random);
     let scene = Scene {
-        agreed: Sharing::of(n, t, &one),
-        other: Sharing::of(n, t, &other),
+        agreed: draft.sharing(&one),
+        other: draft.sharing(&other),
     };
     draft.messages = vec![other; n - t];
     draft.messages[0] = one;
@@ -237,7 +246,7 @@ fn no_codewords() -> impl Iterator<Item = Made> {
 
 fn no_codeword((n, t): (usize, usize), bit: Option<u8>) -> Draft {
     let mut random = seeded(n, t);
-    let sharing = Sharing::no_codeword(n, t, &mut random);
+    let sharing = Sharing::no_codeword(0, n, t, &mut random);
     let mut draft = Draft::of(n, t, (1 << t) - 1);
     draft.messages = (0..n - t).map(|_| random.bytes(5)).collect();
     draft.root = Some(sharing.root);
@@ -258,10 +267,10 @@ fn no_codeword((n, t): (usize, usize), bit: Option<u8>) -> Draft {
 }
 
 /// The sound plans that are damaged in every way: the first worked one, one with root and bit,
-/// one whose bad party sends the packets that a good one would send, one with a good sender, and one
-/// with a bad sender that gives two messages.
-fn small() -> [Vec<u8>; 5] {
-    let agreed = Sharing::of(3, 1, b"A");
+/// one whose bad party sends the packets that a good one would send, one with a good sender, one with
+/// a bad sender that gives two messages, and one with a session's number.
+fn small() -> [Vec<u8>; 6] {
+    let agreed = Sharing::of(0, 3, 1, b"A");
     let mut given = of_three(3);
     given.root = Some(agreed.root);
     given.bit = Some(1);
@@ -276,6 +285,7 @@ fn small() -> [Vec<u8>; 5] {
         sending.bytes(),
         senders::small_good().bytes(),
         senders::small_bad().bytes(),
+        sessions::small().bytes(),
     ]
 }
 
@@ -299,8 +309,11 @@ fn damaged(plan: Vec<u8>) -> Vec<Made> {
 mod tests {
     use super::*;
     use crate::liars::senders::SenderLie;
-    use crate::rehearsal::{play, rehearse, Session, BIT_GIVEN, ROOT_GIVEN, SENDER_GIVEN};
+    use crate::rehearsal::{play, rehearse, Session};
+    use crate::rehearsal::{BIT_GIVEN, ROOT_GIVEN, SENDER_GIVEN, SESSION_GIVEN};
+    use crate::sessions::EDGES;
     use crate::tally::{outcome, Tally};
+    use std::collections::BTreeMap;
 
     /// What is counted here is what is run: the stored plans, no others.
     #[test]
@@ -332,7 +345,7 @@ mod tests {
     }
 
     /// The stored plans that are accepted, played.
-    fn sessions() -> impl Iterator<Item = (Made, Session)> {
+    fn played() -> impl Iterator<Item = (Made, Session)> {
         stored().filter_map(|made| play(&made.bytes).ok().map(|session| (made, session)))
     }
 
@@ -341,7 +354,7 @@ mod tests {
     #[test]
     fn every_group_is_accepted() {
         let mut seen = BTreeSet::new();
-        for (made, session) in sessions() {
+        for (made, session) in played() {
             let plan = session.plan;
             let lied = lies().any(|lie| made.lies.contains(&lie));
             seen.insert((plan.n, plan.t, plan.n - plan.good.len(), lied));
@@ -357,7 +370,7 @@ mod tests {
     #[test]
     fn every_field_is_accepted() {
         let (mut given, mut lengths, mut equal) = (BTreeSet::new(), BTreeSet::new(), [0; 2]);
-        for (_, session) in sessions() {
+        for (_, session) in played() {
             let plan = session.plan;
             given.insert((plan.root.is_some(), plan.bit));
             lengths.extend(session.results.into_iter().flatten().map(|it| it.len()));
@@ -368,6 +381,24 @@ mod tests {
         let edges = [0, LONGEST_MESSAGE - 1, LONGEST_MESSAGE];
         assert!(edges.iter().chain(&INSIDE).all(|it| lengths.contains(it)));
         assert!(equal.iter().all(|count| *count >= 100));
+    }
+
+    /// Every edge among the numbers, 0 too, and many others; and in plans of all sizes.
+    #[test]
+    fn every_session_is_accepted_amply() {
+        let (mut numbers, mut groups) = (BTreeMap::new(), BTreeSet::new());
+        for (_, session) in played() {
+            let plan = session.plan;
+            *numbers.entry(plan.session).or_insert(0) += 1;
+            if plan.session_number() > 0 {
+                groups.insert((plan.n, plan.t));
+            }
+        }
+        for number in EDGES {
+            assert!(numbers[&Some(number)] >= 60, "number {number}");
+        }
+        assert!(numbers[&None] >= 1_000 && numbers.len() > 200);
+        assert_eq!(groups.len(), 72);
     }
 
     #[test]
@@ -420,7 +451,8 @@ mod tests {
     fn kept_and_damaged_plans_are_stored() {
         let stored: BTreeSet<Vec<u8>> = stored().map(|made| made.bytes).collect();
         assert!(KEPT.iter().all(|plan| stored.contains(*plan)));
-        let options = [0, ROOT_GIVEN | BIT_GIVEN, 0, SENDER_GIVEN, SENDER_GIVEN];
+        let (agreed, numbered) = (ROOT_GIVEN | BIT_GIVEN, ROOT_GIVEN | SESSION_GIVEN);
+        let options = [0, agreed, 0, SENDER_GIVEN, SENDER_GIVEN, numbered];
         for (plan, options) in small().iter().zip(options) {
             assert!(stored.contains(plan) && play(plan).is_ok() && plan[2] == options);
             assert!((0..plan.len()).all(|length| stored.contains(&plan[..length])));

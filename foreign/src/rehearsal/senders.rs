@@ -99,7 +99,7 @@ fn a_bad_sender_gives_two_messages() {
     assert_eq!(session.messages, [b"A".to_vec(), b"BC".to_vec()]);
     assert_eq!(session.report(), "1 = 41\n2 = 41\nsent 388\n");
     assert_eq!(printed(&by_bad(&[6, 0, 3], &block)), "1 -\n2 -\nsent 0\n");
-    let other = State::open(3, 1, 2, b"BC").1.expect("opened");
+    let other = State::open(0, 3, 1, 2, b"BC").1.expect("opened");
     let given = [&[7][..], &other, &[1, 3]].concat();
     assert!(printed(&by_bad(&given, &block)).starts_with("1 = 4243\n2 = 4243\nsent "));
 }
@@ -144,7 +144,7 @@ fn silence_to_one_alone() {
 /// The rule of the short agreement is over the roots of what the parties opened with.
 #[test]
 fn the_rule_is_over_what_was_opened_with() {
-    let root_of = |message| State::open(3, 1, 1, message).1.expect("opened");
+    let root_of = |message| State::open(0, 3, 1, 1, message).1.expect("opened");
     let (ours, empty) = (root_of(b"A"), root_of(b""));
     let rooted = |root: Hash, sender: u8| [&[5][..], &root, &[sender]].concat();
     assert_eq!(cause(&by_good(&rooted(ours, 1), b"A")), 0);
@@ -185,7 +185,7 @@ fn bad_layout() {
         13
     );
     assert_eq!(cause(&plan(&[3, 1, 4, 3], 3, &[], SILENT)), 13);
-    for option in [8, 16, 32, 64, 128] {
+    for option in [16, 32, 64, 128] {
         assert_eq!(cause(&by_good(&[4 | option, 1], b"A")), 13);
     }
 }

@@ -1,7 +1,8 @@
 //! Rebuilding with a root.
 //!
-//! - Rebuild with root: n (2 bytes), t (2), the length of the buffer lent (4), the length of the root
-//!   (2), the root, the entries. The answer, and the buffer, as of rebuilding without a root.
+//! - Rebuild with root: the session's number (4 bytes), n (2), t (2), the length of the buffer lent
+//!   (4), the length of the root (2), the root, the entries. The answer, and the buffer, as of
+//!   rebuilding without a root.
 //!
 //! The causes come in the order 1, 2, 7, 8, 11, 12, 15, 9.
 
@@ -10,10 +11,12 @@ use std::collections::BTreeMap;
 use super::coder::{coded, framed, join, keep, pairs, Shares, MOST_INPUT, MOST_ROOM};
 use super::{lent, Case, Kind, Part, FAR, GREATEST, UNTOUCHED};
 use crate::coder::{find_message, shares_of, Answer, Answer::*};
-use crate::commitment::{rebuild_with_root, root};
+use crate::commitment::{self, rebuild_with_root};
 use crate::liars::{flip, Sharing};
 use crate::limits::{INSIDE, LONGEST_MESSAGE, MOST_FAULTS, MOST_PARTIES};
 use crate::random::Random;
+use crate::sessions::{another, in_place, EDGES};
+use crate::sha256::Hash;
 use crate::tree;
 
 type Group = (usize, usize);
@@ -21,15 +24,38 @@ type Group = (usize, usize);
 /// Lengths that no root has: too short and too long, of two roots, and one whose last byte is 32.
 const LENGTHS: [usize; 7] = [0, 1, 16, 31, 33, 64, 256 + 32];
 
-/// The cases so far, how often they had each answer, whatever its length, and the source of
-/// randomness.
+/// The cases so far, how often they had each answer, whatever its length, the source of randomness, the
+/// session in which calls are made, and how many there were.
 struct File {
     out: Vec<Case>,
     answers: BTreeMap<String, usize>,
     random: Random,
+    session: u32,
+    sessions: usize,
 }
 
 impl File {
+    /// From here on calls are made in the next session.
+    fn next_session(&mut self) {
+        self.sessions += 1;
+        self.session = in_place(self.sessions);
+    }
+
+    /// Another one than that of the calls.
+    fn other_session(&mut self) -> u32 {
+        another(self.session, &mut self.random)
+    }
+
+    /// The root of a message in the session.
+    fn root(&self, n: usize, t: usize, message: &[u8]) -> Hash {
+        commitment::root(self.session, n, t, message)
+    }
+
+    /// The root over shares in the session.
+    fn root_over(&self, shares: &Shares) -> Hash {
+        tree::root(self.session, shares)
+    }
+
     /// Runs one call and writes it as a case; gives the answer and what was written.
     fn case(
         &mut self,
@@ -40,8 +66,9 @@ impl File {
     ) -> (Answer, Vec<u8>) {
         assert!(entries.len() <= MOST_INPUT && room <= MOST_ROOM);
         let mut out = vec![UNTOUCHED; room];
-        let answer = rebuild_with_root(n, t, root, entries, &mut out);
-        let front = Part::new().two(n).two(t).four(room).two(root.len());
+        let answer = rebuild_with_root(self.session, n, t, root, entries, &mut out);
+        let numbers = Part::new().session(self.session).two(n).two(t);
+        let front = numbers.four(room).two(root.len());
         self.out.push(Case {
             kind: Kind::RebuildWithRoot,
             given: front.bytes(root).bytes(entries),
@@ -82,7 +109,7 @@ impl File {
 
     /// The message if this is its root, else cause 15.
     fn held_to(&mut self, group: Group, given: &[u8], entries: &[u8], message: &[u8]) {
-        if root(group.0, group.1, message)[..] == *given {
+        if self.root(group.0, group.1, message)[..] == *given {
             self.found(group, given, entries, message);
         } else {
             self.refused(group, given, entries, 15);
@@ -107,23 +134,29 @@ impl File {
 /// message.
 fn worked(file: &mut File) {
     let entries = [0, 0, 0, 2, 0x82, 0x86, 0, 2, 0xC3, 0xC4];
-    file.found((3, 1), &root(3, 1, b"AB"), &entries, b"AB");
-    file.refused((3, 1), &root(3, 1, b"AC"), &entries, 15);
-    file.found((3, 1), &root(3, 1, b""), &[0, 1, 0, 0, 1, 0, 0, 0], b"");
+    let given = file.root(3, 1, b"AB");
+    file.found((3, 1), &given, &entries, b"AB");
+    let given = file.root(3, 1, b"AC");
+    file.refused((3, 1), &given, &entries, 15);
+    let given = file.root(3, 1, b"");
+    file.found((3, 1), &given, &[0, 1, 0, 0, 1, 0, 0, 0], b"");
 }
 
 /// Every n and t, from the shares with the lowest numbers, the highest, and others.
 fn right(file: &mut File) {
     for (n, t) in pairs(1, MOST_PARTIES) {
+        file.next_session();
         let all = (1 << n) - 1;
         let any = file.random.choice(n, n - t);
         for map in [all, all >> t, all & all << t, any] {
             let message = file.message();
             let entries = join(&keep(&coded((n, t), &message), map));
-            file.found((n, t), &root(n, t, &message), &entries, &message);
+            let given = file.root(n, t, &message);
+            file.found((n, t), &given, &entries, &message);
         }
         let entries = join(&coded((n, t), b""));
-        file.found((n, t), &root(n, t, b""), &entries, b"");
+        let given = file.root(n, t, b"");
+        file.found((n, t), &given, &entries, b"");
     }
 }
 
@@ -134,12 +167,13 @@ fn long(file: &mut File) {
         .chain([LONGEST_MESSAGE - 1, LONGEST_MESSAGE]);
     for length in lengths {
         for (n, t) in [(1, 0), (3, 1), (MOST_PARTIES, 0), GREATEST] {
+            file.next_session();
             let message = file.random.bytes(length);
             let map = file.random.choice(n, n - t);
             let entries = join(&keep(&coded((n, t), &message), map));
-            let right = root(n, t, &message);
+            let right = file.root(n, t, &message);
             file.found((n, t), &right, &entries, &message);
-            let other = root(n, t, &message[1..]);
+            let other = file.root(n, t, &message[1..]);
             file.refused((n, t), &other, &entries, 15);
         }
     }
@@ -148,6 +182,7 @@ fn long(file: &mut File) {
 /// What is handed in beyond the b lowest shares does not count: the root is that of the message.
 fn ignored(file: &mut File) {
     for (n, t) in pairs(3, MOST_PARTIES).into_iter().filter(|it| it.1 > 0) {
+        file.next_session();
         let message = file.message();
         let mut shares = coded((n, t), &message);
         for share in &mut shares[n - t..] {
@@ -155,14 +190,17 @@ fn ignored(file: &mut File) {
             *share = file.random.bytes(length);
         }
         let entries = join(&shares);
-        file.found((n, t), &root(n, t, &message), &entries, &message);
-        file.held_to((n, t), &tree::root(&shares), &entries, &message);
+        let given = file.root(n, t, &message);
+        file.found((n, t), &given, &entries, &message);
+        let given = file.root_over(&shares);
+        file.held_to((n, t), &given, &entries, &message);
     }
 }
 
 /// Roots of other messages, and what is no message's root though it stands in the tree.
 fn other_roots(file: &mut File) {
     for (n, t) in pairs(1, MOST_PARTIES) {
+        file.next_session();
         let length = 1 + file.random.below(60);
         let message = file.random.bytes(length);
         let shares = coded((n, t), &message);
@@ -172,9 +210,10 @@ fn other_roots(file: &mut File) {
         let same_length = file.random.bytes(length);
         let longer = [&message[..], &[0]].concat();
         for other in [&near, &same_length, &longer, &message[1..].to_vec()] {
-            file.held_to((n, t), &root(n, t, other), &entries, &message);
+            let given = file.root(n, t, other);
+            file.held_to((n, t), &given, &entries, &message);
         }
-        let leaf = tree::leaves(&shares)[n - 1];
+        let leaf = tree::leaves(file.session, &shares)[n - 1];
         for other in [[0; 32], leaf] {
             file.held_to((n, t), &other, &entries, &message);
         }
@@ -190,25 +229,48 @@ fn other_groups(file: &mut File) {
         let beside = all.iter().filter(|it| it.0.abs_diff(n) == 1);
         let others: [Vec<_>; 2] = [within.collect(), beside.collect()];
         for others in others.iter().filter(|it| !it.is_empty()) {
+            file.next_session();
             for length in [0, 2, 30] {
                 let message = file.random.bytes(length);
                 let shares = coded((n, t), &message);
                 let entries = join(&file.some_of(&shares, n - t));
                 let &(other_n, other_t) = file.random.pick(others);
-                let given = root(other_n, other_t, &message);
+                let given = file.root(other_n, other_t, &message);
                 file.held_to((n, t), &given, &entries, &message);
             }
         }
     }
 }
 
+/// The root that the message has in another session: every group, and every two of the edges.
+fn other_sessions(file: &mut File) {
+    for group in pairs(1, MOST_PARTIES) {
+        file.next_session();
+        let other = file.other_session();
+        of_session(file, group, other);
+    }
+    for (session, other) in EDGES.into_iter().flat_map(|it| EDGES.map(|to| (it, to))) {
+        file.session = session;
+        of_session(file, (3, 1), other);
+    }
+}
+
+/// The root that a message has in this session.
+fn of_session(file: &mut File, (n, t): Group, session: u32) {
+    let message = file.message();
+    let entries = join(&file.some_of(&coded((n, t), &message), n - t));
+    let given = commitment::root(session, n, t, &message);
+    file.held_to((n, t), &given, &entries, &message);
+}
+
 /// The root with one bit flipped, in each byte.
 fn near_roots(file: &mut File) {
     for (n, t) in [(1, 0), (3, 1), GREATEST] {
+        file.next_session();
         let message = file.random.bytes(20);
         let shares = coded((n, t), &message);
         let entries = join(&file.some_of(&shares, n - t));
-        let right = root(n, t, &message);
+        let right = file.root(n, t, &message);
         for place in 0..right.len() {
             let mut near = right;
             near[place] ^= 1 << file.random.below(8);
@@ -221,11 +283,12 @@ fn near_roots(file: &mut File) {
 /// Cause 7: the root cut short, or with bytes behind it.
 fn root_lengths(file: &mut File) {
     for (n, t) in [(1, 0), (2, 0), (3, 1), GREATEST] {
+        file.next_session();
         let message = file.random.bytes(20);
         let shares = coded((n, t), &message);
         let entries = join(&file.some_of(&shares, n - t));
         for length in LENGTHS {
-            let mut given = root(n, t, &message).repeat(2);
+            let mut given = file.root(n, t, &message).repeat(2);
             given.resize(length, 0);
             file.refused((n, t), &given, &entries, 7);
             let noise = file.random.bytes(length);
@@ -239,12 +302,16 @@ fn root_lengths(file: &mut File) {
 fn no_codewords(file: &mut File) {
     for (n, t) in pairs(3, MOST_PARTIES).into_iter().filter(|it| it.1 > 0) {
         for _ in 0..3 {
-            let Sharing { shares, root: tree } = Sharing::no_codeword(n, t, &mut file.random);
+            file.next_session();
+            let Sharing {
+                shares, root: tree, ..
+            } = Sharing::no_codeword(file.session, n, t, &mut file.random);
             for kept in [file.some_of(&shares, n - t), shares] {
                 let entries = join(&kept);
                 let message = find_message(n, t, &entries).expect("a message");
                 file.refused((n, t), &tree, &entries, 15);
-                file.found((n, t), &root(n, t, &message), &entries, &message);
+                let given = file.root(n, t, &message);
+                file.found((n, t), &given, &entries, &message);
             }
         }
     }
@@ -254,24 +321,29 @@ fn no_codewords(file: &mut File) {
 /// its own.
 fn mixed(file: &mut File) {
     for (n, t) in pairs(3, MOST_PARTIES).into_iter().filter(|it| it.1 > 0) {
+        file.next_session();
         let messages = [20, 20].map(|length| file.random.bytes(length));
         let [first, second] = [0, 1].map(|place| coded((n, t), &messages[place]));
         let shares = [&first[..n - t], &second[n - t..]].concat();
         let entries = join(&shares);
-        file.refused((n, t), &tree::root(&shares), &entries, 15);
-        file.refused((n, t), &root(n, t, &messages[1]), &entries, 15);
-        file.found((n, t), &root(n, t, &messages[0]), &entries, &messages[0]);
+        let given = file.root_over(&shares);
+        file.refused((n, t), &given, &entries, 15);
+        let given = file.root(n, t, &messages[1]);
+        file.refused((n, t), &given, &entries, 15);
+        let given = file.root(n, t, &messages[0]);
+        file.found((n, t), &given, &entries, &messages[0]);
     }
 }
 
 /// Causes 8 and 11 before any root: entries that run short or over, and too few shares.
 fn before_the_root(file: &mut File) {
     for (n, t) in pairs(1, MOST_PARTIES) {
+        file.next_session();
         let message = file.random.bytes(10);
         let shares = coded((n, t), &message);
         let entries = join(&file.some_of(&shares, n - t));
         let few = join(&keep(&shares, file.random.choice(n, n - t - 1)));
-        for given in [root(n, t, &message), [0; 32]] {
+        for given in [file.root(n, t, &message), [0; 32]] {
             file.refused((n, t), &given, &entries[..entries.len() - 1], 8);
             file.refused((n, t), &given, &[&entries[..], &[0]].concat(), 8);
             file.refused((n, t), &given, &few[..few.len() - 1], 8);
@@ -284,6 +356,7 @@ fn before_the_root(file: &mut File) {
 /// that of the shares, the filling is not zero, or a share is longer than the others.
 fn no_frames(file: &mut File) {
     for (n, t) in pairs(1, MOST_PARTIES) {
+        file.next_session();
         let b = n - t;
         let message = file.random.bytes(3 * b - 1);
         let over = framed(LONGEST_MESSAGE + 1, &message, 4 * b);
@@ -298,8 +371,10 @@ fn no_frames(file: &mut File) {
         }
         for shares in sharings {
             let entries = join(&shares);
-            file.refused((n, t), &tree::root(&shares), &entries, 12);
-            file.refused((n, t), &root(n, t, &message), &entries, 12);
+            let given = file.root_over(&shares);
+            file.refused((n, t), &given, &entries, 12);
+            let given = file.root(n, t, &message);
+            file.refused((n, t), &given, &entries, 12);
         }
     }
 }
@@ -350,6 +425,7 @@ fn every_fault(file: &mut File) {
 /// A call with these faults. The root is that over the shares, though they may come from no frame.
 fn faulty(file: &mut File, (n, t): Group, faults: Faults) {
     let b = n - t;
+    file.next_session();
     let length = 3 * b - 1;
     let mut frame = framed(length, &file.random.bytes(length), 4 * b);
     if faults.has(Fault::NoFrame) {
@@ -365,9 +441,12 @@ fn faulty(file: &mut File, (n, t): Group, faults: Faults) {
         let end = entries.len();
         entries.resize(file.random.pick(&[end - 1, end + 1, end + 2]), 0);
     }
-    let mut given = tree::root(&shares).to_vec();
+    let mut given = file.root_over(&shares).to_vec();
     if faults.has(Fault::OtherRoot) {
-        flip(&mut given, &mut file.random);
+        match file.random.once_in(2) {
+            true => flip(&mut given, &mut file.random),
+            false => given = tree::root(file.other_session(), &shares).to_vec(),
+        }
     }
     if faults.has(Fault::RootLength) {
         given.resize(file.random.pick(&LENGTHS), 0);
@@ -397,7 +476,8 @@ fn misnumbered(file: &mut File, (n, t): Group, faults: Faults) -> Group {
 /// n and t at the edges of their ranges, with a right root and one that is none.
 fn groups(file: &mut File) {
     let (most, half) = GREATEST;
-    let right = root(most, half, b"AB");
+    file.next_session();
+    let right = file.root(most, half, b"AB");
     let entries = join(&coded(GREATEST, b"AB"));
     file.found(GREATEST, &right, &entries, b"AB");
     for given in [&right[..], &right[1..], &[]] {
@@ -417,14 +497,15 @@ fn groups(file: &mut File) {
 fn random(file: &mut File) {
     let all = pairs(1, MOST_PARTIES);
     for round in 0..400 {
+        file.next_session();
         let (n, t) = all[file.random.below(all.len())];
         let message = file.message();
         let shares = coded((n, t), &message);
         let kept = file.some_of(&shares, n - t);
         let mut entries = join(&kept);
         let mut given = match round % 4 {
-            0 => tree::root(&kept).to_vec(),
-            _ => root(n, t, &message).to_vec(),
+            0 => file.root_over(&kept).to_vec(),
+            _ => file.root(n, t, &message).to_vec(),
         };
         match round % 7 {
             0..=2 => flip(&mut entries, &mut file.random),
@@ -442,13 +523,14 @@ fn random(file: &mut File) {
 }
 
 /// The parts, in order.
-const PARTS: [fn(&mut File); 15] = [
+const PARTS: [fn(&mut File); 16] = [
     worked,
     right,
     long,
     ignored,
     other_roots,
     other_groups,
+    other_sessions,
     near_roots,
     root_lengths,
     no_codewords,
@@ -466,6 +548,8 @@ pub fn cases() -> Vec<Case> {
         out: Vec::new(),
         answers: BTreeMap::new(),
         random: Random::new(0x4007),
+        session: 0,
+        sessions: 0,
     };
     for part in PARTS {
         part(&mut file);

@@ -163,7 +163,7 @@ fn stated_lengths(file: &mut File) {
 fn other_packets(file: &mut File) {
     for n in 1..=MOST_PARTIES {
         let message = file.random.bytes(n);
-        let mut packet = Sharing::of(n, (n - 1) / 2, &message).packet(n);
+        let mut packet = Sharing::of(0, n, (n - 1) / 2, &message).packet(n);
         file.read(&packet, UNREADABLE);
         packet[0] = MAP;
         file.read(&packet, UNREADABLE);

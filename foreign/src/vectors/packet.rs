@@ -4,9 +4,9 @@
 //!   end, and of that of the entry at the offset: each the answer (0 silence, 1 a share), and the
 //!   share's number, offset and length and the count of hashes (8 each, 0 without a share). Then the
 //!   next entry's offset (8).
-//! - Judgements: n (2), j (2), the root (32), what was read (1: 0 silence, 1 a share, 2 no packet)
-//!   with the share's number, offset and length and the count of hashes (8 each), the bytes. The
-//!   answer: 0 for a silent, 1 for a valid and 2 for a faulty packet.
+//! - Judgements: the session's number (4), n (2), j (2), the root (32), what was read (1: 0 silence,
+//!   1 a share, 2 no packet) with the share's number, offset and length and the count of hashes (8
+//!   each), the bytes. The answer: 0 for a silent, 1 for a valid and 2 for a faulty packet.
 //! - Inboxes: n (1), the inbox. 1 if it is laid out well, else 0 (1).
 //! - Writes: n (2), the number (2), the count of hashes (1), the length of the buffer lent (2), the
 //!   first [`MOST_HASHES`] hashes, those that are not there of bytes 0xEE, the share. The answer,
@@ -24,6 +24,7 @@ use crate::limits::{INSIDE, LONGEST_PACKET, LONGEST_SHARE, MOST_HASHES, MOST_PAR
 use crate::packet::{self, classify, classify_at, read_entry, write_into};
 use crate::packet::{Place, Reading, Standing, HEADER};
 use crate::random::Random;
+use crate::sessions::{another, in_place, EDGES};
 use crate::sha256::{hash, Hash};
 use crate::tree::{self, leaf_string, node, path_length};
 
@@ -68,6 +69,7 @@ fn ends(n: usize) -> Vec<usize> {
 /// A good packet, what it was made of, and the root it passes under.
 #[derive(Clone)]
 struct Good {
+    session: u32,
     n: usize,
     j: usize,
     root: Hash,
@@ -118,10 +120,11 @@ impl Call {
     }
 }
 
-/// The cases so far, and the source of randomness.
+/// The cases so far, the source of randomness, and how many sessions there were.
 struct File {
     out: Vec<Case>,
     random: Random,
+    sessions: usize,
 }
 
 /// A share's number, its place and length, and the count of hashes.
@@ -160,14 +163,22 @@ fn answered(standing: Result<Standing, u32>) -> Answer {
 }
 
 impl File {
-    /// Packet j of n over random shares of this length.
+    /// The next session's number; the first is 0.
+    fn session(&mut self) -> u32 {
+        self.sessions += 1;
+        in_place(self.sessions - 1)
+    }
+
+    /// Packet j of n over random shares of this length, in the next session.
     fn good(&mut self, n: usize, j: usize, length: usize) -> Good {
+        let session = self.session();
         let shares: Vec<Vec<u8>> = (0..n).map(|_| self.random.bytes(length)).collect();
-        let path = tree::path(&shares, j);
+        let path = tree::path(session, &shares, j);
         Good {
+            session,
             n,
             j,
-            root: tree::root(&shares),
+            root: tree::root(session, &shares),
             bytes: packet::write(j, &shares[j - 1], &path),
             share: shares[j - 1].clone(),
             path,
@@ -210,13 +221,15 @@ impl File {
     /// Writes the judgement of what was read of the bytes as a case.
     fn judgement(
         &mut self,
+        session: u32,
         (n, j): (usize, usize),
         root: Hash,
         (read, share): (usize, [usize; 4]),
         bytes: &[u8],
         answer: Answer,
     ) {
-        let demand = Part::new().two(n).two(j).bytes(&root).one(read);
+        let numbers = Part::new().session(session).two(n).two(j);
+        let demand = numbers.bytes(&root).one(read);
         self.out.push(Case {
             kind: Kind::Judgements,
             given: numbers_of(demand, share).bytes(bytes),
@@ -225,42 +238,51 @@ impl File {
     }
 
     /// Finds the standing of the bytes and writes it as a case; gives the answer.
-    fn stood(&mut self, n: usize, j: usize, root: Hash, bytes: &[u8]) -> Answer {
-        let answer = answered(classify(n, j, root, bytes));
+    fn stood(&mut self, session: u32, n: usize, j: usize, root: Hash, bytes: &[u8]) -> Answer {
+        let answer = answered(classify(session, n, j, root, bytes));
         let read = match placed(packet::read(n, bytes), bytes, 0) {
             (SILENCE, share) => (0, share),
             (SHARE, share) => (1, share),
             (_, share) => (2, share),
         };
-        self.judgement((n, j), root, read, bytes, answer);
+        self.judgement(session, (n, j), root, read, bytes, answer);
         answer
     }
 
     /// The standing of a share that is said to lie at a place, which is known beforehand.
     fn stands_at(
         &mut self,
+        session: u32,
         (n, j): (usize, usize),
         root: Hash,
         bytes: &[u8],
         place: Place,
         answer: Answer,
     ) {
-        let found = answered(classify_at((n, j), root, bytes, place));
+        let found = answered(classify_at(session, (n, j), root, bytes, place));
         assert_eq!(found, answer, "n {n}, j {j}, {place:?}");
         let share = [place.number, place.from, place.length, place.hashes];
-        self.judgement((n, j), root, (1, share), bytes, answer);
+        self.judgement(session, (n, j), root, (1, share), bytes, answer);
     }
 
     /// A standing that is known beforehand.
-    fn stands(&mut self, n: usize, j: usize, root: Hash, bytes: &[u8], answer: Answer) {
-        let found = self.stood(n, j, root, bytes);
+    fn stands(
+        &mut self,
+        session: u32,
+        n: usize,
+        j: usize,
+        root: Hash,
+        bytes: &[u8],
+        answer: Answer,
+    ) {
+        let found = self.stood(session, n, j, root, bytes);
         assert_eq!(found, answer, "n {n}, j {j}, bytes {bytes:?}");
     }
 
     /// Bytes that came instead of a good packet, read and then held against its number.
     fn instead(&mut self, good: &Good, bytes: &[u8], reading: Answer, standing: Answer) {
         self.read(good.n, bytes, reading);
-        self.stands(good.n, good.j, good.root, bytes, standing);
+        self.stands(good.session, good.n, good.j, good.root, bytes, standing);
     }
 
     /// Bytes that cannot be read, in place of a good packet.
@@ -345,15 +367,15 @@ fn good_packets(file: &mut File) {
 /// Paths that belong to no tree of shares: the check asks only whether they fold.
 fn made_up_paths(file: &mut File) {
     for n in CHOSEN {
-        let share = file.random.bytes(3);
+        let (session, share) = (file.session(), file.random.bytes(3));
         let path: Vec<Hash> = (0..path_length(n, 1)).map(|_| file.random_hash()).collect();
-        let leaf = hash(&leaf_string(1, &share));
+        let leaf = hash(&leaf_string(session, 1, &share));
         let root = path.iter().fold(leaf, |below, &right| node(below, right));
         let bytes = packet::write(1, &share, &path);
-        file.stands(n, 1, root, &bytes, VALID);
+        file.stands(session, n, 1, root, &bytes, VALID);
         if n > 1 {
             let turned = path.iter().fold(leaf, |below, &left| node(left, below));
-            file.stands(n, 1, turned, &bytes, FAULTY);
+            file.stands(session, n, 1, turned, &bytes, FAULTY);
         }
     }
 }
@@ -370,7 +392,7 @@ fn cuts(file: &mut File) {
             file.read(n, bytes, UNREADABLE);
             let missing = whole - length;
             if good.path.len() < 3 || length <= HEADER + 2 || [0, 1, 31].contains(&(missing % 32)) {
-                file.stands(n, j, good.root, bytes, FAULTY);
+                file.stands(good.session, n, j, good.root, bytes, FAULTY);
             }
         }
         file.unreadable(&good, &good.bytes[1..]);
@@ -424,7 +446,7 @@ fn maps(file: &mut File) {
         file.read(3, &[&[map], rest].concat(), reading);
     }
     for map in [1, 2, 3, 4, 5, 6, 7, 8, 128, 255] {
-        file.stands(1, 1, one.root, &[map], FAULTY);
+        file.stands(one.session, 1, 1, one.root, &[map], FAULTY);
         file.read(MOST_PARTIES, &[map], UNREADABLE);
     }
 }
@@ -526,7 +548,7 @@ fn other_sizes(file: &mut File) {
             let good = file.good(n, j, 1);
             for m in [n - 1, n + 1] {
                 let (reading, ..) = file.tried_at(m, &good.bytes, 0);
-                let standing = file.stood(m, j, good.root, &good.bytes);
+                let standing = file.stood(good.session, m, j, good.root, &good.bytes);
                 let allowed = (1..=MOST_PARTIES).contains(&m);
                 let readable = allowed && j <= m && path_length(m, j) == good.path.len();
                 assert_eq!(reading == SHARE, readable);
@@ -547,7 +569,7 @@ fn bad_sizes(file: &mut File) {
             }
             for (j, bytes) in [(1, &good.bytes[..]), (0, b""), (bad + place, &[0])] {
                 let j = j.min(FAR);
-                file.stands(bad, j, good.root, bytes, Answer::Refused(1));
+                file.stands(good.session, bad, j, good.root, bytes, Answer::Refused(1));
             }
         }
     }
@@ -560,16 +582,17 @@ fn demands(file: &mut File) {
             let good = file.good(n, number, 1 + n % 3);
             for j in 1..=n {
                 let standing = if j == number { VALID } else { FAULTY };
-                file.stands(n, j, good.root, &good.bytes, standing);
+                file.stands(good.session, n, j, good.root, &good.bytes, standing);
             }
             for j in [0, n + 1, 255, 256, 256 + number, FAR] {
-                file.stands(n, j, good.root, &good.bytes, Answer::Refused(3));
+                let refused = Answer::Refused(3);
+                file.stands(good.session, n, j, good.root, &good.bytes, refused);
             }
         }
-        let root = file.random_hash();
+        let (session, root) = (file.session(), file.random_hash());
         for j in [0, n + 1, FAR] {
             for bytes in [&b""[..], &[0], &[0, 0], &[7]] {
-                file.stands(n, j, root, bytes, Answer::Refused(3));
+                file.stands(session, n, j, root, bytes, Answer::Refused(3));
             }
         }
     }
@@ -581,7 +604,7 @@ fn other_roots(file: &mut File) {
         for j in ends(n) {
             let good = file.good(n, j, 2);
             let mut roots = vec![file.random_hash(), [0; 32], [0xFF; 32]];
-            roots.push(hash(&leaf_string(j, &good.share)));
+            roots.push(hash(&leaf_string(good.session, j, &good.share)));
             for place in [0, 1, 15, 16, 30, 31] {
                 let mut root = good.root;
                 root[place] ^= 1 << file.random.below(8);
@@ -589,9 +612,29 @@ fn other_roots(file: &mut File) {
             }
             for root in roots {
                 let standing = if root == good.root { VALID } else { FAULTY };
-                file.stands(n, j, root, &good.bytes, standing);
+                file.stands(good.session, n, j, root, &good.bytes, standing);
             }
-            file.stands(n, j, good.root, &good.bytes, VALID);
+            file.stands(good.session, n, j, good.root, &good.bytes, VALID);
+        }
+    }
+}
+
+/// A good packet in another session, and at its place in an inbox.
+fn other_sessions(file: &mut File) {
+    for n in CHOSEN {
+        for j in ends(n) {
+            let good = file.good(n, j, 2);
+            let near = another(good.session, &mut file.random);
+            for session in EDGES.into_iter().chain([near]) {
+                let standing = if session == good.session {
+                    VALID
+                } else {
+                    FAULTY
+                };
+                file.stands(session, n, j, good.root, &good.bytes, standing);
+            }
+            let bytes = lay_out(&[&good.bytes]);
+            file.stands_at(near, (n, j), good.root, &bytes, good.place(2), FAULTY);
         }
     }
 }
@@ -621,13 +664,19 @@ fn walks(file: &mut File) {
 
 /// A good packet judged at a place, and there under another root and another number.
 fn judged_there(file: &mut File, good: &Good, bytes: &[u8], at: usize) {
-    let Good { n, j, root, .. } = *good;
+    let Good {
+        session,
+        n,
+        j,
+        root,
+        ..
+    } = *good;
     let place = good.place(at);
-    file.stands_at((n, j), root, bytes, place, VALID);
+    file.stands_at(session, (n, j), root, bytes, place, VALID);
     let other = file.random_hash();
-    file.stands_at((n, j), other, bytes, place, FAULTY);
+    file.stands_at(session, (n, j), other, bytes, place, FAULTY);
     if n > 1 {
-        file.stands_at((n, j % n + 1), root, bytes, place, FAULTY);
+        file.stands_at(session, (n, j % n + 1), root, bytes, place, FAULTY);
     }
 }
 
@@ -703,18 +752,19 @@ fn packets_behind(file: &mut File) {
 fn false_places(file: &mut File) {
     for (n, j) in PAIRS {
         let good = file.good(n, j, 4);
+        let Good { session, root, .. } = good;
         let bytes = [&[9; 5][..], &good.bytes, &[9]].concat();
         let (place, end) = (good.place(5), bytes.len() - 1);
         for length in [end + 1, end] {
-            file.stands_at((n, j), good.root, &bytes[..length], place, VALID);
+            file.stands_at(session, (n, j), root, &bytes[..length], place, VALID);
         }
         for length in [end - 1, end - 4, 9, 5, 0] {
-            file.stands_at((n, j), good.root, &bytes[..length], place, FAULTY);
+            file.stands_at(session, (n, j), root, &bytes[..length], place, FAULTY);
         }
         let near = [1, 2, 32, 256, usize::MAX - 8, usize::MAX - 3];
         for change in near.into_iter().chain(PAST_ALL) {
             for place in changed(place, change) {
-                file.stands_at((n, j), good.root, &bytes, place, FAULTY);
+                file.stands_at(session, (n, j), root, &bytes, place, FAULTY);
             }
         }
     }
@@ -738,17 +788,18 @@ fn changed(place: Place, change: usize) -> [Place; 4] {
 fn false_lengths(file: &mut File) {
     let lengths = [0, 1, LONGEST_SHARE, LONGEST_SHARE + 1];
     for (length, answer) in lengths.into_iter().zip([VALID, VALID, VALID, FAULTY]) {
-        let bytes = file.random.bytes(2 + length);
-        let root = hash(&leaf_string(1, &bytes[2..]));
+        let (session, bytes) = (file.session(), file.random.bytes(2 + length));
+        let root = hash(&leaf_string(session, 1, &bytes[2..]));
         let place = Place {
             number: 1,
             from: 2,
             length,
             hashes: 0,
         };
-        file.stands_at((1, 1), root, &bytes, place, answer);
+        file.stands_at(session, (1, 1), root, &bytes, place, answer);
         for (n, j, cause) in [(0, 1, 1), (17, 0, 1), (1, 0, 3), (1, 2, 3), (1, 65_535, 3)] {
-            file.stands_at((n, j), root, &bytes, place, Answer::Refused(cause));
+            let refused = Answer::Refused(cause);
+            file.stands_at(session, (n, j), root, &bytes, place, refused);
         }
     }
 }
@@ -985,6 +1036,7 @@ fn packet_cases(file: &mut File) {
     bad_sizes(file);
     demands(file);
     other_roots(file);
+    other_sessions(file);
 }
 
 /// All cases of entries one behind the other, and of places.
@@ -1001,6 +1053,7 @@ pub fn cases() -> Vec<Case> {
     let mut file = File {
         out: Vec::new(),
         random: Random::new(180),
+        sessions: 0,
     };
     packet_cases(&mut file);
     good_inboxes(&mut file);

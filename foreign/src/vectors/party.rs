@@ -4,24 +4,26 @@
 //! call takes the state that the last one gave back, so that the calls from one opening to the
 //! next are a list.
 //!
-//! - Openings: n, t and own (8 bytes each), the message. The verdict, and the root (32, zero if
-//!   refused).
-//! - Openings by a sender: n, t, own and the sender's number (8 each), the length of the buffer lent
-//!   (2), the sender's own message or the packet that came. The verdict, the root as before, and how
-//!   many bytes were written, or are needed with cause 9 (8, zero with other causes).
+//! - Openings: the session's number (4 bytes), n, t and own (8 each), the message. The verdict, and the
+//!   root (32, zero if refused).
+//! - Openings by a sender: the session's number (4), n, t, own and the sender's number (8 each), the
+//!   length of the buffer lent (2), the sender's own message or the packet that came. The verdict, the
+//!   root as before, and how many bytes were written, or are needed with cause 9 (8, zero with other
+//!   causes).
 //! - Agreed roots, step 2: the root. The verdict.
 //! - Agreed bits, step 3: the bit (2), the length of the buffer lent (2). The verdict.
 //! - First and second inboxes, steps 4 and 5: how many bytes of the inbox are handed in (2), the
 //!   length of the buffer lent (2). The verdict.
-//! - Numbers changed: where (1: 0 n, 1 t, 2 own, 3 len, 4 held), the number (8). Nothing.
+//! - Numbers changed: where (1: 0 n, 1 t, 2 own, 3 len, 4 held, 5 the session's), the number (8).
+//!   Nothing.
 //! - Stages changed: which (1: 0 root, 1 bit, 2 first, 3 second, 4 ended with nothing, 5 with a
 //!   message), that message's length (8). Nothing.
 //! - Bytes changed: where (1: 0 message, 1 root, 2 share, 3 the inbox), from which offset (2), the
 //!   bytes. Nothing.
 //!
 //! The verdict: the answer, and SHA-256 (32) of the state with SHA-256 of the out buffer behind it,
-//! which is empty where none is lent. The state's bytes: n, t, own (8 each), stage as above (9),
-//! len, held (8 each), root, message, share.
+//! which is empty where none is lent. The state's bytes: the session's number (4), n, t, own (8 each),
+//! stage as above (9), len, held (8 each), root, message, share.
 //!
 //! Messages handed in have at most two bytes more than may be, inboxes and the buffer twice as many
 //! as an outbox.
@@ -38,6 +40,7 @@ use crate::limits::{INSIDE, LONGEST_MESSAGE, LONGEST_OUTBOX, LONGEST_SHARE, MOST
 use crate::packet;
 use crate::party::{Given, Outcome, Rebuilt, Refusal, Stage, State};
 use crate::random::Random;
+use crate::sessions::{another, in_place, EDGES};
 use crate::sha256::{hash, Hash};
 use crate::tree;
 
@@ -66,6 +69,7 @@ enum Number {
     Own,
     Len,
     Held,
+    Session,
 }
 
 /// Where bytes are put.
@@ -101,7 +105,7 @@ fn turn(stage: Stage) -> u8 {
 
 fn digest(state: &State, out: &[u8]) -> Hash {
     let (stage, length) = stage_number(state.stage);
-    let mut text = Vec::new();
+    let mut text = state.session.to_be_bytes().to_vec();
     text.extend([state.n, state.t, state.own].map(u64::to_be_bytes).concat());
     text.push(stage);
     text.extend(
@@ -140,12 +144,13 @@ fn valueless(answer: Answer) -> Answer {
 type Tally = BTreeMap<(Kind, Answer), usize>;
 
 /// The cases so far, their calls counted, those on ended states by themselves as well, the source
-/// of randomness, and what the reader carries.
+/// of randomness, how many sessions there were, and what the reader carries.
 struct File {
     out: Vec<Case>,
     answers: Tally,
     at_the_end: Tally,
     random: Random,
+    sessions: usize,
     state: State,
     inbox: Vec<u8>,
     damages: usize,
@@ -159,6 +164,7 @@ impl File {
             answers: Tally::new(),
             at_the_end: Tally::new(),
             random: Random::new(0x9A47),
+            sessions: 0,
             state: State::blank(),
             inbox: vec![0; LARGEST_INBOX],
             damages: 0,
@@ -186,14 +192,15 @@ impl File {
         });
     }
 
-    fn open(&mut self, n: u64, t: u64, own: u64, message: &[u8]) {
-        let (state, answer) = State::open(n, t, own, message);
+    fn open(&mut self, session: u32, n: u64, t: u64, own: u64, message: &[u8]) {
+        let (state, answer) = State::open(session, n, t, own, message);
         let (answer, root) = match answer {
             Ok(root) => (Done(0), root),
             Err(refusal) => (Refused(refusal.cause), [0; 32]),
         };
         self.state = state;
-        let given = Part::new().eight(n).eight(t).eight(own).bytes(message);
+        let numbers = Part::new().session(session).eight(n).eight(t).eight(own);
+        let given = numbers.bytes(message);
         self.called(Kind::Openings, given, answer, &[], &root);
     }
 
@@ -266,21 +273,22 @@ impl File {
         self.change(Kind::BytesChanged, given);
     }
 
-    fn number(&mut self, number: Number) -> &mut u64 {
-        match number {
+    /// Sets a number of the state, and gives the one that stood there.
+    fn set(&mut self, number: Number, value: u64) -> u64 {
+        let given = Part::new().one(number as usize).eight(value);
+        self.change(Kind::NumbersChanged, given);
+        let place = match number {
             Number::N => &mut self.state.n,
             Number::T => &mut self.state.t,
             Number::Own => &mut self.state.own,
             Number::Len => &mut self.state.len,
             Number::Held => &mut self.state.held,
-        }
-    }
-
-    /// Sets a number of the state, and gives the one that stood there.
-    fn set(&mut self, number: Number, value: u64) -> u64 {
-        let given = Part::new().one(number as usize).eight(value);
-        self.change(Kind::NumbersChanged, given);
-        std::mem::replace(self.number(number), value)
+            Number::Session => {
+                let session = value.try_into().expect("a number in four bytes");
+                return std::mem::replace(&mut self.state.session, session).into();
+            }
+        };
+        std::mem::replace(place, value)
     }
 
     fn set_stage(&mut self, stage: Stage) {
@@ -293,6 +301,12 @@ impl File {
 
 /// Choices, and calls in several ways.
 impl File {
+    /// The next session's number; the first is 0.
+    fn session(&mut self) -> u32 {
+        self.sessions += 1;
+        in_place(self.sessions - 1)
+    }
+
     /// Yes once in so many times.
     fn once_in(&mut self, times: usize) -> bool {
         self.random.below(times) == 0
@@ -439,7 +453,7 @@ impl File {
         let n = sharing.shares.len();
         let good = sharing.packet(j);
         let share = &sharing.shares[j - 1];
-        let path = tree::path(&sharing.shares, j);
+        let path = tree::path(sharing.session, &sharing.shares, j);
         let behind = 4 + share.len();
         let flip = |place: usize| {
             let mut bytes = good.clone();
@@ -447,7 +461,7 @@ impl File {
             bytes
         };
         self.damages += 1;
-        match self.damages % 16 {
+        match self.damages % 17 {
             0 => sharing.packet(j % n + 1),
             1 => vec![0],
             2 => flip(0),
@@ -461,11 +475,16 @@ impl File {
             10 if n > 1 => flip(behind),
             11 => {
                 let other = j % n + 1;
-                packet::write(other, share, &tree::path(&sharing.shares, other))
+                let theirs = tree::path(sharing.session, &sharing.shares, other);
+                packet::write(other, share, &theirs)
             }
             12 => self.random.bytes(37),
             13 => packet::write(j, &sharing.shares[j % n], &path),
             14 => flip(3),
+            15 => {
+                let session = another(sharing.session, &mut self.random);
+                sharing.in_session(session).packet(j)
+            }
             _ => Vec::new(),
         }
     }
@@ -549,7 +568,8 @@ enum Making {
 }
 
 impl File {
-    /// Shares of n parties, b of which are to give a message of this length, if it is honest.
+    /// Shares of n parties in the next session, b of which are to give a message of this length, if it
+    /// is honest.
     fn sharing(&mut self, n: usize, b: usize, length: usize, making: Making) -> Sharing {
         let mut frame = frame_of(b, &self.random.bytes(length));
         match making {
@@ -572,7 +592,7 @@ impl File {
             Making::SpoiltLast => shares[n - 1][0] ^= 1,
             _ => {}
         }
-        Sharing::over(shares)
+        Sharing::over(self.session(), shares)
     }
 
     /// A set of this many of the other parties, or of all there are.
@@ -622,7 +642,8 @@ fn bearing_theirs(_: usize, sender: usize) -> usize {
 
 /// One list: all steps in turn, with refused calls and changes of the state before each.
 fn play(file: &mut File, plan: &Plan) {
-    file.open(plan.n as u64, plan.t as u64, plan.own as u64, &plan.message);
+    let [n, t, own] = [plan.n, plan.t, plan.own].map(|number| number as u64);
+    file.open(plan.agreed.session, n, t, own, &plan.message);
     file.meanwhile();
     let wrong = file.some_call(2, false);
     file.call(&wrong, 0);
@@ -678,8 +699,9 @@ fn forge(file: &mut File, plan: &Plan) {
 
 /// Agreed roots that differ from the own one in a single bit, each byte's turn: not happy.
 fn near_roots(file: &mut File) {
-    file.open(3, 1, 2, b"AB");
-    let own = Sharing::of(3, 1, b"AB").root;
+    let session = file.session();
+    file.open(session, 3, 1, 2, b"AB");
+    let own = Sharing::of(session, 3, 1, b"AB").root;
     for place in 0..own.len() {
         let mut root = own;
         root[place] ^= 1 << file.random.below(8);
@@ -700,9 +722,10 @@ const READER: (usize, usize, usize) = (3, 1, 2);
 fn end_with(file: &mut File, length: Option<usize>, bit: u8) {
     let (n, t, own) = READER;
     let message = file.random.bytes(length.unwrap_or(4));
-    file.open(n as u64, t as u64, own as u64, &message);
+    let session = file.session();
+    file.open(session, n as u64, t as u64, own as u64, &message);
     let root = match length {
-        Some(_) => Sharing::of(n, t, &message).root,
+        Some(_) => Sharing::of(session, n, t, &message).root,
         None => [7; 32],
     };
     file.call(&Call::Root(root.to_vec()), 0);
@@ -760,7 +783,8 @@ fn soil(file: &mut File, stale: Stale, other: &Sharing) {
         }
         Stale::Happy => {
             let length = (result + 3).min(LONGEST_MESSAGE - 1);
-            let root = Sharing::of(n, t, &file.state.message[..length]).root;
+            let session = file.state.session;
+            let root = Sharing::of(session, n, t, &file.state.message[..length]).root;
             file.put(Place::Root, 0, &root);
             file.set(Number::Len, length as u64);
         }
@@ -861,7 +885,7 @@ fn happy(file: &mut File) {
     for (place, (n, t)) in groups().enumerate() {
         let length = some_length(file, n - t);
         let message = file.random.bytes(length);
-        let agreed = Sharing::of(n, t, &message);
+        let agreed = Sharing::of(file.session(), n, t, &message);
         let own = 1 + file.random.below(n);
         let few = file.random.below(3);
         let plan = Plan {
@@ -972,7 +996,7 @@ fn before_relays(
     more: usize,
 ) -> Vec<u8> {
     let own = 1 + file.random.below(n);
-    file.open(n as u64, t as u64, own as u64, b"no");
+    file.open(agreed.session, n as u64, t as u64, own as u64, b"no");
     file.call(&Call::Root(agreed.root.to_vec()), 0);
     file.short_then_enough(&Call::Bit(1));
     let map = file.others(n, own, senders);
@@ -989,7 +1013,8 @@ fn before_relays(
 fn other_root(file: &mut File) {
     for (place, (n, t)) in groups().filter(|it| it.1 > 0).enumerate() {
         for round in 0..4 {
-            let agreed = Sharing::no_codeword(n, t, &mut file.random);
+            let session = file.session();
+            let agreed = Sharing::no_codeword(session, n, t, &mut file.random);
             let (senders, more) = [(1, 0), (0, 0), (2, 1), (1, n)][(place + round) % 4];
             let inbox = before_relays(file, (n, t), &agreed, senders, more);
             let Some(Rebuilt::OtherRoot(message)) = file.state.rebuilt(&inbox) else {
@@ -1007,9 +1032,9 @@ fn other_root(file: &mut File) {
 /// A party whose agreed root is changed before step 5 by a bit, in each byte: the share that it holds
 /// still counts, and is enough with n 1 alone, where what it gives has another root.
 fn changed_root(file: &mut File) {
-    let agreed = Sharing::of(1, 0, b"AB");
-    for place in 0..agreed.root.len() {
-        file.open(1, 0, 1, b"no");
+    for place in 0..32 {
+        let agreed = Sharing::of(file.session(), 1, 0, b"AB");
+        file.open(agreed.session, 1, 0, 1, b"no");
         file.call(&Call::Root(agreed.root.to_vec()), 0);
         file.call(&Call::Bit(1), 2);
         file.call(&Call::Shares(vec![0, 0]), 0);
@@ -1023,13 +1048,57 @@ fn changed_root(file: &mut File) {
     }
 }
 
+/// A party alone whose session is changed before step 5: the share that it holds gives the message,
+/// which has the agreed root in the former session alone.
+fn changed_session(file: &mut File) {
+    for (session, other) in EDGES.into_iter().flat_map(|it| EDGES.map(|to| (it, to))) {
+        let agreed = Sharing::of(session, 1, 0, b"AB");
+        file.open(session, 1, 0, 1, b"no");
+        file.call(&Call::Root(agreed.root.to_vec()), 0);
+        file.call(&Call::Bit(1), 2);
+        file.call(&Call::Shares(vec![0, 0]), 0);
+        file.put(Place::Share, 0, &agreed.shares[0]);
+        file.set(Number::Held, agreed.shares[0].len() as u64);
+        file.set(Number::Session, other.into());
+        file.short_then_enough(&Call::Relays(vec![0, 0]));
+        let outcome = match other == session {
+            true => Outcome::Message(2),
+            false => Outcome::Nothing,
+        };
+        assert_eq!(file.state.stage, Stage::Ended(outcome));
+    }
+}
+
+/// Parties that get every packet, all of them made in another session: under a root of their own
+/// session, and under that of the packets, where not even who has the message is happy.
+fn other_session(file: &mut File) {
+    let groups = [(2, 0), (3, 1), (5, 2), (9, 4), GREATEST];
+    for (n, t) in groups.into_iter().flat_map(|group| [group; 4]) {
+        let session = file.session();
+        let own = Sharing::of(session, n, t, b"AB");
+        let theirs = own.in_session(another(session, &mut file.random));
+        for (message, root) in [(&b"no"[..], own.root), (b"AB", theirs.root)] {
+            let number = 1 + file.random.below(n);
+            file.open(session, n as u64, t as u64, number as u64, message);
+            file.call(&Call::Root(root.to_vec()), 0);
+            file.short_then_enough(&Call::Bit(1));
+            let first = lay_out(&vec![theirs.packet(number); n]);
+            file.short_then_enough(&Call::Shares(first));
+            assert_eq!(file.state.held, 0);
+            let second: Vec<Vec<u8>> = (1..=n).map(|j| theirs.packet(j)).collect();
+            file.short_then_enough(&Call::Relays(lay_out(&second)));
+            assert_eq!(file.state.stage, Stage::Ended(Outcome::Nothing));
+        }
+    }
+}
+
 /// Packets that are good, but bear another number than is demanded: those that senders are to
 /// relay in the first inbox, and one another's in the second. None of them counts.
 fn swapped(file: &mut File) {
     for (n, t) in [(2, 0), (3, 1), (4, 0), (5, 2), (9, 4), GREATEST] {
         let agreed = file.sharing(n, n - t, 5, Making::Honest);
         let own = 1 + file.random.below(n);
-        file.open(n as u64, t as u64, own as u64, b"other");
+        file.open(agreed.session, n as u64, t as u64, own as u64, b"other");
         file.call(&Call::Root(agreed.root.to_vec()), 0);
         file.short_then_enough(&Call::Bit(1));
         let theirs: Vec<Vec<u8>> = (1..=n).map(|j| agreed.packet(j)).collect();
@@ -1077,11 +1146,11 @@ fn alone(file: &mut File) {
         &[],
         &longest,
     ] {
-        let right = Sharing::over(vec![share.to_vec()]).root;
-        let mut near = right;
+        let Sharing { session, root, .. } = Sharing::over(file.session(), vec![share.to_vec()]);
+        let mut near = root;
         near[31] ^= 1;
-        for root in [right, near] {
-            file.open(1, 0, 1, b"no");
+        for root in [root, near] {
+            file.open(session, 1, 0, 1, b"no");
             file.put(Place::Root, 0, &root);
             file.put(Place::Share, 0, share);
             file.set(Number::Held, share.len() as u64);
@@ -1140,7 +1209,8 @@ fn openings(file: &mut File) {
 
 /// An opening and two calls on what it gave.
 fn opened(file: &mut File, n: u64, t: u64, own: u64, message: &[u8]) {
-    file.open(n, t, own, message);
+    let session = file.session();
+    file.open(session, n, t, own, message);
     file.two_calls();
 }
 
@@ -1158,7 +1228,8 @@ fn lengths(file: &mut File) {
             (Number::Held, [inside[1] + 2, wide, WIDE]),
         ] {
             for value in values {
-                file.open(3, 1, 2, b"AB");
+                let session = file.session();
+                file.open(session, 3, 1, 2, b"AB");
                 file.put(Place::Root, 0, &[7; 32]);
                 file.set_stage(stage);
                 file.set(number, value);
@@ -1169,7 +1240,8 @@ fn lengths(file: &mut File) {
         }
     }
     for length in [inside[1], longest, LONG] {
-        file.open(3, 1, 2, b"AB");
+        let session = file.session();
+        file.open(session, 3, 1, 2, b"AB");
         file.set_stage(Stage::Ended(Outcome::Message(length)));
         file.short_then_enough(&Call::Relays(Vec::new()));
     }
@@ -1187,11 +1259,11 @@ fn wander(file: &mut File) {
         let length = file.random.below(12);
         let message = file.random.bytes(length);
         let own = 1 + file.random.below(n);
-        file.open(n as u64, t as u64, own as u64, &message);
         let sharing = match file.once_in(2) {
-            true => Sharing::of(n, t, &message),
+            true => Sharing::of(file.session(), n, t, &message),
             false => file.sharing(n, n - t, 7, Making::Honest),
         };
+        file.open(sharing.session, n as u64, t as u64, own as u64, &message);
         let count = file.random.below(n + 1);
         let map = file.random.choice(n, count);
         let first = lay_out(&file.packets(&sharing, own, map, bearing_own));
@@ -1230,15 +1302,20 @@ fn wander_once(file: &mut File, sharing: &Sharing, first: &[u8], second: &[u8]) 
         2 => file.dirt(),
         3 => file.broken(),
         4 => file.put(Place::Root, 0, &sharing.root),
+        5 => {
+            let other = another(sharing.session, &mut file.random);
+            let session = file.pick(&[sharing.session, sharing.session, other]);
+            file.set(Number::Session, session.into());
+        }
         _ => file.short_then_enough(&call),
     }
 }
 
 /// The worked cases: two of three parties, whose third is silent, and a party alone.
 fn worked(file: &mut File) {
-    let lowest = Sharing::of(3, 1, b"A");
-    for (own, message) in [(1, b"A"), (2, b"B")] {
-        file.open(3, 1, own, message);
+    for (session, own, message) in [(0, 1, b"A"), (0, 2, b"B"), (7, 1, b"A"), (7, 2, b"B")] {
+        let lowest = Sharing::of(session, 3, 1, b"A");
+        file.open(session, 3, 1, own, message);
         file.call(&Call::Root(lowest.root.to_vec()), 0);
         file.short_then_enough(&Call::Bit(1));
         let first = [lowest.packet(own as usize), Vec::new(), Vec::new()];
@@ -1248,8 +1325,8 @@ fn worked(file: &mut File) {
         file.short_then_enough(&Call::Relays(Vec::new()));
     }
     for message in [&b"AB"[..], b"", &[9; LONGEST_MESSAGE]] {
-        file.open(1, 0, 1, message);
-        let root = Sharing::of(1, 0, message).root;
+        file.open(0, 1, 0, 1, message);
+        let root = Sharing::of(0, 1, 0, message).root;
         file.call(&Call::Root(root.to_vec()), 0);
         file.short_then_enough(&Call::Bit(1));
         file.short_then_enough(&Call::Shares(vec![0, 0]));
@@ -1325,6 +1402,8 @@ pub fn cases() -> Vec<Case> {
     no_message(&mut file);
     other_root(&mut file);
     changed_root(&mut file);
+    changed_session(&mut file);
+    other_session(&mut file);
     swapped(&mut file);
     forged(&mut file);
     ended(&mut file);

@@ -1,11 +1,12 @@
 //! The hash and the tree.
 //!
 //! - Hashes: the string. The cause (1 byte: 0 or 4) and the digest (32, zero if refused).
-//! - Trees: n (1), the n shares. The cause (1), the root (32), and for each leaf 1 to n the answer
-//!   to its path's length, and the path as [`MOST_HASHES`] hashes, those past its length zero.
-//! - Checks: n (2), j (2), the count told to the check (1), the root's length (1), the path as
-//!   [`MOST_HASHES`] hashes, those that are not stored of bytes 0xEE, the root, the share. The
-//!   answer: 0 no, 1 yes.
+//! - Trees: the session's number (4), n (1), the n shares. The cause (1), the root (32), and for each
+//!   leaf 1 to n the answer to its path's length, and the path as [`MOST_HASHES`] hashes, those past
+//!   its length zero.
+//! - Checks: the session's number (4), n (2), j (2), the count told to the check (1), the root's
+//!   length (1), the path as [`MOST_HASHES`] hashes, those that are not stored of bytes 0xEE, the root,
+//!   the share. The answer: 0 no, 1 yes.
 //! - Path lengths: n (1). The answer for each leaf 1 to n.
 //!
 //! Strings have at most a byte more than may be hashed, and so have the leaf strings of checks;
@@ -14,8 +15,9 @@
 use super::{Answer, Case, Kind, Part, FAR};
 use crate::limits::{LONGEST_SHARE, LONGEST_STRING, MOST_HASHES, MOST_PARTIES};
 use crate::random::Random;
+use crate::sessions::{another, in_place, EDGES};
 use crate::sha256::{hash, Hash};
-use crate::tree::{self, judge};
+use crate::tree::{self, judge, leaf_string};
 
 const UNSTORED: Hash = [0xEE; 32];
 const NO: Answer = Answer::Done(0);
@@ -29,6 +31,7 @@ type Shares = Vec<Vec<u8>>;
 /// What a check is called with; the path holds the stored hashes.
 #[derive(Clone)]
 struct Call {
+    session: u32,
     n: usize,
     j: usize,
     share: Vec<u8>,
@@ -37,23 +40,25 @@ struct Call {
     root: Vec<u8>,
 }
 
-/// The right call for leaf j of the tree over `shares`.
-fn right(shares: &Shares, j: usize) -> Call {
-    let path = tree::path(shares, j);
+/// The right call for leaf j of the tree over `shares` in a session.
+fn right(session: u32, shares: &Shares, j: usize) -> Call {
+    let path = tree::path(session, shares, j);
     Call {
+        session,
         n: shares.len(),
         j,
         share: shares[j - 1].clone(),
         count: path.len(),
         path,
-        root: tree::root(shares).to_vec(),
+        root: tree::root(session, shares).to_vec(),
     }
 }
 
-/// The cases so far, and the source of randomness.
+/// The cases so far, the source of randomness, and how many sessions there were.
 struct File {
     out: Vec<Case>,
     random: Random,
+    sessions: usize,
 }
 
 impl File {
@@ -69,17 +74,26 @@ impl File {
         });
     }
 
-    fn tree(&mut self, shares: &Shares) {
-        let mut expected = Part::new().one(0).bytes(&tree::root(shares));
+    /// The next session's number; the first is 0.
+    fn session(&mut self) -> u32 {
+        self.sessions += 1;
+        in_place(self.sessions - 1)
+    }
+
+    fn tree(&mut self, session: u32, shares: &Shares) {
+        let mut expected = Part::new().one(0).bytes(&tree::root(session, shares));
         for j in 1..=shares.len() {
-            let mut path = tree::path(shares, j);
+            let mut path = tree::path(session, shares, j);
             expected = expected.answer(Answer::Done(path.len()));
             path.resize(MOST_HASHES, [0; 32]);
             expected = expected.bytes(&path.concat());
         }
         self.out.push(Case {
             kind: Kind::Trees,
-            given: Part::new().one(shares.len()).bytes(&shares.concat()),
+            given: Part::new()
+                .session(session)
+                .one(shares.len())
+                .bytes(&shares.concat()),
             expected,
         });
     }
@@ -88,13 +102,14 @@ impl File {
     fn tried(&mut self, call: &Call) -> Answer {
         let mut path = [UNSTORED; MOST_HASHES];
         path[..call.path.len()].copy_from_slice(&call.path);
-        let parties = (call.n, call.j);
-        let answer = match judge(parties, &call.share, &path, call.count, &call.root) {
+        let (session, parties) = (call.session, (call.n, call.j));
+        let answer = match judge(session, parties, &call.share, &path, call.count, &call.root) {
             Ok(passes) => Answer::Done(passes.into()),
             Err(cause) => Answer::Refused(cause),
         };
-        let numbers = Part::new().two(call.n).two(call.j).one(call.count);
-        let root = numbers.one(call.root.len()).bytes(&path.concat());
+        let numbers = Part::new().session(session).two(call.n).two(call.j);
+        let counts = numbers.one(call.count).one(call.root.len());
+        let root = counts.bytes(&path.concat());
         self.out.push(Case {
             kind: Kind::Checks,
             given: root.bytes(&call.root).bytes(&call.share),
@@ -165,12 +180,15 @@ fn tree_cases(file: &mut File) {
     }
     for n in 1..=MOST_PARTIES {
         for length in [1, 2, 31, 65] {
-            let shares = file.shares(n, length);
-            file.tree(&shares);
+            let (session, shares) = (file.session(), file.shares(n, length));
+            file.tree(session, &shares);
         }
     }
-    file.tree(&vec![vec![0x41, 0x40], vec![0x82, 0x86], vec![0xC3, 0xC4]]);
-    file.tree(&vec![vec![0]; 3]);
+    for session in EDGES {
+        let worked = vec![vec![0x41, 0x40], vec![0x82, 0x86], vec![0xC3, 0xC4]];
+        file.tree(session, &worked);
+    }
+    file.tree(0, &vec![vec![0]; 3]);
 }
 
 /// For every leaf of the chosen trees, the right call and what differs a little from it.
@@ -179,17 +197,41 @@ fn leaf_checks(file: &mut File) {
         let length = 1 + file.random.below(9);
         let shares = file.shares(n, length);
         for j in 1..=n {
-            let good = right(&shares, j);
+            let good = right(file.session(), &shares, j);
             file.check(&good, YES);
+            other_session(file, &good);
             damaged(file, &good);
             past_the_count(file, &good);
             wrong_counts(file, &good);
-            folding_counts(file, &good, &tree::leaves(&shares));
+            folding_counts(file, &good, &tree::leaves(good.session, &shares));
             if n > 1 {
                 mixed_leaves(file, &good, &shares);
             }
             other_sizes(file, &good);
         }
+    }
+}
+
+/// The right call in another session.
+fn other_session(file: &mut File, good: &Call) {
+    let session = another(good.session, &mut file.random);
+    let call = Call {
+        session,
+        ..good.clone()
+    };
+    file.check(&call, NO);
+}
+
+/// A path that is made in one session and checked in one, for every two of the edges.
+fn two_sessions(file: &mut File) {
+    let pairs = EDGES.into_iter().flat_map(|it| EDGES.map(|to| (it, to)));
+    for (made, checked) in pairs {
+        let shares = file.shares(2, 3);
+        let call = Call {
+            session: checked,
+            ..right(made, &shares, 1)
+        };
+        file.check(&call, if made == checked { YES } else { NO });
     }
 }
 
@@ -278,7 +320,7 @@ fn mixed_leaves(file: &mut File, good: &Call, shares: &Shares) {
         let call = Call { j, ..good.clone() };
         file.check(&call, NO);
     }
-    let other = right(shares, file.other(n, j));
+    let other = right(good.session, shares, file.other(n, j));
     let mut call = good.clone();
     call.path = other.path;
     call.count = other.count;
@@ -303,7 +345,7 @@ fn other_sizes(file: &mut File, good: &Call) {
 /// One bit flipped in each byte of share, path and root in turn.
 fn every_byte(file: &mut File) {
     let shares = file.shares(2, 20);
-    for good in [right(&shares, 1), right(&shares, 2)] {
+    for good in [right(0, &shares, 1), right(u32::MAX, &shares, 2)] {
         for place in 0..20 {
             let mut call = good.clone();
             file.damage(&mut call.share[place..=place]);
@@ -320,26 +362,36 @@ fn every_byte(file: &mut File) {
     }
 }
 
-/// Shares of other lengths, the empty one and the longest included.
+/// Shares of other lengths, the empty one and the longest included, and about those at which the hash
+/// takes one block of the leaf string more.
 fn share_lengths(file: &mut File) {
     let greatest = (MOST_PARTIES, MOST_PARTIES, LONGEST_SHARE);
     for (n, j, length) in [(1, 1, 0), (3, 3, 0), (5, 2, 65), greatest] {
-        let shares = file.shares(n, length);
-        file.check(&right(&shares, j), YES);
+        let (session, shares) = (file.session(), file.shares(n, length));
+        file.check(&right(session, &shares, j), YES);
     }
-    for length in [51, 52, 53, 54, 61, 62, 63, 115, 118, 125, 126] {
-        let shares = file.shares(3, length);
-        file.check(&right(&shares, 2), YES);
+    for string in [53, 54, 55, 56, 63, 64, 65, 117, 120, 127, 128] {
+        for session in [0, 0x0100_0000] {
+            let shares = file.shares(3, string - front(session));
+            file.check(&right(session, &shares, 2), YES);
+        }
     }
-    let shares = file.shares(1, LONGEST_STRING - 2);
-    file.check(&right(&shares, 1), YES);
+    for session in [0, 1] {
+        let shares = file.shares(1, LONGEST_STRING - front(session));
+        file.check(&right(session, &shares, 1), YES);
+    }
+}
+
+/// How long a leaf string is without its share.
+fn front(session: u32) -> usize {
+    leaf_string(session, 1, &[]).len()
 }
 
 /// Each cause alone, the rest of the call being right.
 fn refusals(file: &mut File) {
     for n in [1, 3, 8, MOST_PARTIES] {
         let shares = file.shares(n, 3);
-        let good = right(&shares, n);
+        let good = right(file.session(), &shares, n);
         for j in [0, n + 1, 255, 256, 256 + n, FAR] {
             file.check(&Call { j, ..good.clone() }, Answer::Refused(3));
         }
@@ -355,18 +407,20 @@ fn refusals(file: &mut File) {
         file.check(&call, Answer::Refused(7));
     }
     let shares = file.shares(3, 3);
-    let good = right(&shares, 2);
+    let good = right(file.session(), &shares, 2);
     for n in [MOST_PARTIES + 1, MOST_PARTIES + 2, 255, 256, 256 + 3, FAR] {
         file.check(&Call { n, ..good.clone() }, Answer::Refused(1));
     }
-    let shares = file.shares(1, LONGEST_STRING - 1);
-    file.check(&right(&shares, 1), Answer::Refused(4));
+    for session in [0, 0xFF] {
+        let shares = file.shares(1, LONGEST_STRING + 1 - front(session));
+        file.check(&right(session, &shares, 1), Answer::Refused(4));
+    }
 }
 
 /// Several causes at once; the lowest is given.
 fn several(file: &mut File) {
     let shares = file.shares(3, 3);
-    let good = right(&shares, 2);
+    let good = right(file.session(), &shares, 2);
     let with = |n, j, root: &[u8]| Call {
         n,
         j,
@@ -387,8 +441,8 @@ fn several(file: &mut File) {
         file.check(&with(3, j, &whole[1..]), Answer::Refused(3));
         file.check(&with(3, j, b""), Answer::Refused(3));
     }
-    let shares = file.shares(1, LONGEST_STRING - 1);
-    let mut call = right(&shares, 1);
+    let shares = file.shares(1, LONGEST_STRING + 1 - front(u32::MAX));
+    let mut call = right(u32::MAX, &shares, 1);
     call.j = 2;
     file.check(&call, Answer::Refused(3));
     call.j = 1;
@@ -400,10 +454,12 @@ pub fn cases() -> Vec<Case> {
     let mut file = File {
         out: Vec::new(),
         random: Random::new(6962),
+        sessions: 0,
     };
     hash_cases(&mut file);
     tree_cases(&mut file);
     leaf_checks(&mut file);
+    two_sessions(&mut file);
     every_byte(&mut file);
     share_lengths(&mut file);
     refusals(&mut file);

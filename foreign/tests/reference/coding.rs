@@ -83,7 +83,7 @@ pub fn rebuilt(example: &Example) -> Told {
     }
     let mut out = vec![0; room.unwrap_or(LONGEST_MESSAGE)];
     let answer = match root {
-        Some(root) => rebuild_with_root(n, t, &root, &entries, &mut out),
+        Some(root) => rebuild_with_root(0, n, t, &root, &entries, &mut out),
         None => coder::rebuild(n, t, &entries, &mut out),
     };
     answered(answer, "book", &out, &mut told);
@@ -141,7 +141,7 @@ pub fn calls(example: &Example) -> Told {
             "shares" => coder::encode(number("n"), number("t"), &bytes("book"), &mut out),
             "rebuild_with_root" => {
                 let (root, entries) = (bytes("root"), bytes("entries"));
-                rebuild_with_root(number("n"), number("t"), &root, &entries, &mut out)
+                rebuild_with_root(0, number("n"), number("t"), &root, &entries, &mut out)
             }
             "hash" => hashed(&bytes("string"), &mut out),
             "read_message" => {
@@ -197,9 +197,9 @@ pub fn tree(example: &Example) -> Told {
     let (n, t, book) = handed(example, &mut told);
     let shares = shares_of(n, n - t, &frame_of(n - t, &book));
     for (j, share) in (1..).zip(&shares) {
-        told.bytes(format!("leaf string {j}"), &leaf_string(j, share));
+        told.bytes(format!("leaf string {j}"), &leaf_string(0, j, share));
     }
-    let leaves = leaves(&shares);
+    let leaves = leaves(0, &shares);
     for (j, leaf) in (1..).zip(&leaves) {
         told.bytes(format!("hash {j}"), leaf);
     }
@@ -222,7 +222,7 @@ pub fn paths(example: &Example) -> Told {
     let n = example.number("n");
     told.add("n", n);
     let shares: Vec<Vec<u8>> = (0..n).map(|j| vec![j as u8]).collect();
-    let leaves = leaves(&shares);
+    let leaves = leaves(0, &shares);
     for j in 1..=n {
         told.add(format!("path {j}"), named(&leaves, &path_of(&leaves, j)));
     }
@@ -244,7 +244,7 @@ pub fn checked(example: &Example) -> Told {
         hash[..bytes.len()].copy_from_slice(bytes);
     }
     let whole = path.len() % 32 == 0;
-    match judge((n, j), &share, &hashes, path.len() / 32, &root) {
+    match judge(0, (n, j), &share, &hashes, path.len() / 32, &root) {
         Ok(passes) if passes && whole => told.add("passes", "yes"),
         Ok(_) => told.add("passes", "no"),
         Err(cause) => {

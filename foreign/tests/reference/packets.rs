@@ -87,7 +87,7 @@ pub fn outbox(example: &Example) -> Told {
     }
     told.bytes("book", &book);
     let [n, t, own] = group.map(|number| number as u64);
-    let (state, root) = State::open(n, t, own, &book);
+    let (state, root) = State::open(0, n, t, own, &book);
     let (state, bit) = state.agree_root(&root.expect("opened"));
     assert_eq!(bit, Ok(true));
     let mut out = vec![0; LONGEST_OUTBOX];

@@ -42,7 +42,7 @@ fn in_rooms<T>(call: &Field, given: Given<T>, needed: &[usize]) -> Given<T> {
 fn opened(call: &Field) -> Given<[u8; 32]> {
     let argument = |name| call.number(name).expect("a number") as u64;
     let book = call.bytes("book").expect("a book");
-    let given = State::open(argument("n"), argument("t"), argument("own"), &book);
+    let given = State::open(0, argument("n"), argument("t"), argument("own"), &book);
     in_rooms(call, given, &[limit("STATE"), limit("ROOT")])
 }
 
@@ -55,7 +55,7 @@ fn opened_by_sender(call: &Field) -> (Given<[u8; 32]>, Vec<u8>) {
     let bytes = call.bytes(if is_sender { "book" } else { "packet" });
     let mut out = vec![0; LONGEST_MESSAGE_PACKET];
     let bytes = bytes.expect("a sender's book, or another's packet");
-    let given = State::open_by_sender((n, t), own, sender, &bytes, &mut out);
+    let given = State::open_by_sender(0, (n, t), own, sender, &bytes, &mut out);
     let written = given.1.map_or(0, |begun| begun.written);
     let needed = [limit("STATE"), limit("ROOT"), written];
     let (state, begun) = in_rooms(call, given, &needed);
@@ -247,6 +247,7 @@ fn decoded(bytes: &[u8]) -> Option<State> {
     let ends = [Outcome::Nothing, Outcome::Message(length)].map(Stage::Ended);
     let stage = *stages.iter().chain(&ends).nth(stage.into())?;
     (version == VERSION).then_some(State {
+        session: 0,
         n: n.into(),
         t: t.into(),
         own: own.into(),

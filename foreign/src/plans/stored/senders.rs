@@ -1,8 +1,9 @@
 //! The stored plans that name a sender.
 
-use super::{groups, lies, of_three, seeded};
+use super::sessions::written;
+use super::{groups, lies, of_three, seeded, Group};
 use crate::liars::senders::{Offer, SenderLie};
-use crate::liars::{Lie, Scene, Sharing};
+use crate::liars::{Lie, Scene};
 use crate::limits::{LONGEST_MESSAGE, LONGEST_PLAN, MOST_PARTIES};
 use crate::message_packet::write;
 use crate::plans::{Block, Damage, Draft, Made, Size, Source};
@@ -13,8 +14,13 @@ pub(super) fn stored() -> impl Iterator<Item = Made> {
     let [mut first, mut second] = [(); 2].map(|()| lies().cycle());
     let mut own = sender_lies().skip(1).cycle();
     groups()
+        .zip(written(0))
         .map(move |group| good(group, &mut first))
-        .chain(groups().map(move |group| bad(group, &mut own, &mut second)))
+        .chain(
+            groups()
+                .zip(written(3))
+                .map(move |group| bad(group, &mut own, &mut second)),
+        )
         .chain(each_lie())
         .chain(alone())
         .chain(numbers())
@@ -28,30 +34,30 @@ fn sender_lies() -> impl Iterator<Item = SenderLie> + Clone {
     SenderLie::SMALL.into_iter().chain(SenderLie::LARGE)
 }
 
-/// Two messages of different lengths.
-fn offer((n, t): (usize, usize), random: &mut Random) -> Offer {
-    let [one, other] = [n, n + 3].map(|length| random.bytes(length));
+/// Two messages of different lengths for a plan.
+fn offer(draft: &Draft, random: &mut Random) -> Offer {
+    let [one, other] = [draft.n, draft.n + 3].map(|length| random.bytes(length));
     Offer {
-        shares: Sharing::of(n, t, &one),
+        shares: draft.sharing(&one),
         one,
         other,
     }
 }
 
-fn scene((n, t): (usize, usize), offer: &Offer) -> Scene {
-    let [agreed, other] = [&offer.one, &offer.other].map(|message| Sharing::of(n, t, message));
+fn scene(draft: &Draft, offer: &Offer) -> Scene {
+    let [agreed, other] = [&offer.one, &offer.other].map(|message| draft.sharing(message));
     Scene { agreed, other }
 }
 
 /// A good party sends. As many are bad as may be, with the lowest numbers, and lie in the exchanges.
-fn good(group: (usize, usize), lies: &mut impl Iterator<Item = Lie>) -> Made {
-    let (n, t) = group;
+fn good(((n, t), session): Group, lies: &mut impl Iterator<Item = Lie>) -> Made {
     let mut random = seeded(n, t);
     let mut draft = Draft::of(n, t, (1 << t) - 1);
+    draft.session = session;
     draft.source = Some(Source::new(t + 1 + random.below(n - t)));
-    let offer = offer(group, &mut random);
+    let offer = offer(&draft, &mut random);
     draft.messages = vec![offer.one.clone(); n - t];
-    draft.lie_in_turn(&scene(group, &offer), lies, &mut random);
+    draft.lie_in_turn(&scene(&draft, &offer), lies, &mut random);
     draft.made(Size::Small, vec![])
 }
 
@@ -59,16 +65,16 @@ fn good(group: (usize, usize), lies: &mut impl Iterator<Item = Lie>) -> Made {
 /// bad, and lie in the exchanges too. The root is that of the honest packet, and the bit is 1. With t 0
 /// that is one bad party too many.
 fn bad(
-    group: (usize, usize),
+    ((n, t), session): Group,
     own: &mut impl Iterator<Item = SenderLie>,
     lies: &mut impl Iterator<Item = Lie>,
 ) -> Made {
-    let (n, t) = group;
     let mut random = seeded(n, t);
     let count = t.max(1);
     let mut draft = Draft::of(n, t, (1 << count) - 1);
+    draft.session = session;
     draft.source = Some(Source::new(1 + random.below(count)));
-    let offer = offer(group, &mut random);
+    let offer = offer(&draft, &mut random);
     let lie = own.next().expect("they go round");
     for (place, receiver) in draft.good.clone().into_iter().enumerate() {
         let lie = [SenderLie::Honest, lie][place % 2];
@@ -77,7 +83,7 @@ fn bad(
     draft.root = Some(offer.shares.root);
     draft.bit = Some(1);
     draft.divided = t > 0;
-    draft.lie_in_turn(&scene(group, &offer), lies, &mut random);
+    draft.lie_in_turn(&scene(&draft, &offer), lies, &mut random);
     let damages = match t {
         0 => vec![Damage::TooMany],
         _ => vec![],
@@ -94,12 +100,11 @@ fn each_lie() -> impl Iterator<Item = Made> {
             .flat_map(move |it| [(it, lie, 0), (it, lie, 1), (it, lie, 2)])
     };
     sender_lies().flat_map(places).map(|(number, lie, way)| {
-        let group = (4, 1);
         let mut random = seeded(number, lie as usize);
         let mut draft = Draft::of(4, 1, 1 << (number - 1));
         draft.source = Some(Source::new(number));
         draft.exchanges = [(); 2].map(|()| vec![Block::default()]);
-        let offer = offer(group, &mut random);
+        let offer = offer(&draft, &mut random);
         for (place, receiver) in draft.good.clone().into_iter().enumerate() {
             let lies = [true, place > 0, place == 0][way];
             let told = if lies { lie } else { SenderLie::Honest };
@@ -141,9 +146,10 @@ fn numbers() -> impl Iterator<Item = Made> {
         })
 }
 
-/// A plan as long as may be, for a packet that the sender hands to one party.
+/// A plan as long as may be, for a packet that the sender hands to one party, in the greatest session.
 fn huge() -> Made {
     let mut draft = small_bad();
+    draft.session = Some(u32::MAX);
     let rest = draft.bytes().len() - write(b"B").len();
     let source = draft.bad_sender_mut().expect("a bad one");
     source.block.packets.insert(2, vec![8; LONGEST_PLAN - rest]);
@@ -180,7 +186,7 @@ const WRONGS: [Wrong; 13] = [
         draft.head[0] = MOST_PARTIES as u8 + 1
     }),
     (2, Damage::Faults, |draft| draft.head[1] = 2),
-    (13, Damage::Options, |draft| draft.turned_options = 8),
+    (13, Damage::Options, |draft| draft.turned_options = 16),
     (13, Damage::Options, |draft| {
         draft.turned_options = SENDER_GIVEN
     }),
@@ -268,7 +274,7 @@ mod tests {
     #[test]
     fn a_good_senders_message_is_settled() {
         let mut lies = lies().cycle();
-        for group in groups() {
+        for group in groups().zip(written(0)) {
             let session = play(&good(group, &mut lies).bytes).expect("a sound plan");
             let number = session.plan.sender.expect("a sender").number;
             let message = &session.plan.messages[&number];

@@ -23,11 +23,12 @@ fn seats(n: u64, t: u64, own: u64, sender: u64) -> Seats {
 }
 
 impl File {
-    /// The opening with so much room, and two calls on what it gave; the answer.
+    /// The opening in the next session with so much room, and two calls on what it gave; the answer.
     fn open_by_sender(&mut self, seats: Seats, bytes: &[u8], room: usize) -> Answer {
         let Seats { n, t, own, sender } = seats;
+        let session = self.session();
         let mut out = vec![UNTOUCHED; room];
-        let given = State::open_by_sender((n, t), own, sender, bytes, &mut out);
+        let given = State::open_by_sender(session, (n, t), own, sender, bytes, &mut out);
         let root = given.1.as_ref().map_or([0; 32], |begun| begun.root);
         let (state, answer) = told(given, |begun| Answer::Done(begun.written));
         let value = match answer {
@@ -35,8 +36,8 @@ impl File {
             _ => 0,
         };
         self.state = state;
-        let numbers = Part::new().eight(n).eight(t).eight(own).eight(sender);
-        let given = numbers.two(room).bytes(bytes);
+        let numbers = Part::new().session(session).eight(n).eight(t).eight(own);
+        let given = numbers.eight(sender).two(room).bytes(bytes);
         let more = [&root[..], &value.to_be_bytes()].concat();
         self.called(Kind::SenderOpenings, given, answer, &out, &more);
         self.two_calls();
@@ -105,7 +106,7 @@ fn came(file: &mut File) {
 fn lied(file: &mut File) {
     for (n, t) in [(2, 0), (3, 1), GREATEST] {
         let [one, other] = [5, 9].map(|length| file.random.bytes(length));
-        let shares = Sharing::of(n, t, &one);
+        let shares = Sharing::of(0, n, t, &one);
         let offer = Offer { one, other, shares };
         for lie in SenderLie::SMALL.into_iter().chain(SenderLie::LARGE) {
             let told = offer.told(lie, 1, &mut file.random).unwrap_or_default();
