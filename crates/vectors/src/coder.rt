@@ -4,8 +4,8 @@
 // 2, inverses: nothing. The 256 inverses of 0 to 255.
 // 3, powers: a (1), k (8). The power (1).
 // 4, encode, and 5, rebuild: n (2), t (2), the length of the buffer lent (4), the bytes. The answer, and the buffer.
-// 6, rebuild with root: n (2), t (2), the length of the buffer lent (4), the root's length (2), the root, the bytes. The answer, and the
-// buffer.
+// 6, rebuild with root: the session's number (4), n (2), t (2), the length of the buffer lent (4), the root's length (2), the root, the bytes.
+// The answer, and the buffer.
 use crate::KINDS;
 use crate::answer;
 use crate::answer::ANSWER;
@@ -22,7 +22,7 @@ const MAX_ROOM: usize = 4 * (MAX_SHARE + MAX_PARTIES);
 // The bytes in front of what is encoded or rebuilt, and of a root.
 const FRONT: usize = 8;
 
-const AT_ROOT: usize = 10;
+const AT_ROOT: usize = 14;
 
 pub(crate) fn run(kind: usize, input: &[u8], out: &mut [u8]) -> usize {
     if kind == 1 {
@@ -114,14 +114,14 @@ fn call(encodes: bool, n: usize, t: usize, input: &[u8], out: &mut [u8]) -> Writ
 
 // A rebuilding with a root.
 fn rooted(input: &[u8], out: &mut [u8]) -> usize {
-    let wide = number_at(input, 8, 2);
+    let wide = number_at(input, 12, 2);
     if input.len() < AT_ROOT {
         return MALFORMED;
     }
     if input.len() - AT_ROOT < wide {
         return MALFORMED;
     }
-    let room = number_at(input, 4, 4);
+    let room = number_at(input, 8, 4);
     if MAX_ROOM < room {
         return MALFORMED;
     }
@@ -130,10 +130,18 @@ fn rooted(input: &[u8], out: &mut [u8]) -> usize {
         return MALFORMED;
     }
     let behind = AT_ROOT + wide;
-    let n = number_at(input, 0, 2);
-    let t = number_at(input, 2, 2);
+    let session = buffer::number_at(input, 0);
+    let n = number_at(input, 4, 2);
+    let t = number_at(input, 6, 2);
     let root = &input[AT_ROOT..behind];
-    let got = commitment::rebuild_with_root(n, t, root, &input[behind..], &mut out[ANSWER..end]);
+    let got = commitment::rebuild_with_root(
+        session,
+        n,
+        t,
+        root,
+        &input[behind..],
+        &mut out[ANSWER..end],
+    );
     answer::put(out, 0, answer::written(got));
     end
 }

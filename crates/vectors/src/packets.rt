@@ -3,8 +3,9 @@
 // 1, reads: n (2 bytes), a place (8), the bytes. What is read of the packet from the place to the end, and of that of the entry at the place:
 // each the answer (done with 1 for a share and 0 for silence), and the share's number, place and length and the count of hashes (8 each, 0
 // where there is no share). Then the place of the next entry (8).
-// 2, judgements: n (2), j (2), the root (32), what was read (1: 0 for silence, 1 for a share, 2 for no packet) with the share's number, place
-// and length and the count of hashes (8 each), the bytes. The answer (done with 0 for a silent, 1 for a valid and 2 for a faulty packet).
+// 2, judgements: the session's number (4), n (2), j (2), the root (32), what was read (1: 0 for silence, 1 for a share, 2 for no packet) with the
+// share's number, place and length and the count of hashes (8 each), the bytes. The answer (done with 0 for a silent, 1 for a valid and 2 for a
+// faulty packet).
 // 3, inboxes: n (1), the inbox. 1 if it is well laid out, else 0 (1).
 // 4, writes: n (2), the number (2), the count of hashes (1), the length of the buffer lent (2), the path's four hashes, the share. The
 // answer, and the buffer; then the same of the packet's entry, for which the buffer has two bytes more.
@@ -28,8 +29,10 @@ const TOLD: usize = ANSWER + 32;
 // The bytes of a reading in front of those that are read.
 const READ: usize = 10;
 
-// The bytes of a judgement in front of what was read, and of the bytes that it was read from.
-const DEMAND: usize = 36;
+// The bytes of a judgement in front of the root, of what was read, and of the bytes that it was read from.
+const NUMBERS: usize = 8;
+
+const DEMAND: usize = NUMBERS + 32;
 
 const JUDGED: usize = DEMAND + 33;
 
@@ -121,10 +124,18 @@ fn judgement(input: &[u8], out: &mut [u8]) -> usize {
     if input.len() < JUDGED {
         return MALFORMED;
     }
-    let n = number_at(input, 0, 2);
-    let j = number_at(input, 2, 2);
+    let session = buffer::number_at(input, 0);
+    let n = number_at(input, 4, 2);
+    let j = number_at(input, 6, 2);
     let found = found_in(&input[DEMAND..JUDGED]);
-    let got = packet::judge(n, j, &input[4..DEMAND], &input[JUDGED..], found);
+    let got = packet::judge(
+        session,
+        n,
+        j,
+        &input[NUMBERS..DEMAND],
+        &input[JUDGED..],
+        found,
+    );
     answer::put(out, 0, judged(got));
     ANSWER
 }

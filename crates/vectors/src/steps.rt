@@ -1,20 +1,21 @@
 // One party, call after call.
 //
 // The party and an inbox are carried from case to case, each call taking the state that the last one gave back.
-// 1, openings: n, t and own (8 bytes each), the message. The verdict, and the root (32, zero if refused).
-// 2, openings by a sender: n, t, own and the sender's number (8 each), the length of the buffer lent (2), the sender's own message or the
-// packet that came. The verdict, the root as before, and how many bytes were written, or are needed with cause 9 (8, zero with other causes).
+// 1, openings: the session's number (4 bytes), n, t and own (8 each), the message. The verdict, and the root (32, zero if refused).
+// 2, openings by a sender: the session's number (4), n, t, own and the sender's number (8 each), the length of the buffer lent (2), the sender's
+// own message or the packet that came. The verdict, the root as before, and how many bytes were written, or are needed with cause 9 (8, zero
+// with other causes).
 // 3, agreed roots, step 2: the root. The verdict.
 // 4, agreed bits, step 3: the bit (2), the length of the buffer lent (2). The verdict.
 // 5, first inboxes, step 4, and 6, second inboxes, step 5: how many bytes of the inbox are handed in (2), the length of the buffer lent
 // (2). The verdict.
-// 7, numbers changed: where (1: 0 n, 1 t, 2 own, 3 len, 4 held), the number (8). Nothing.
+// 7, numbers changed: where (1: 0 n, 1 t, 2 own, 3 len, 4 held, 5 the session's), the number (8). Nothing.
 // 8, stages changed: which (1: 0 root, 1 bit, 2 first, 3 second, 4 ended with nothing, 5 with a message), that message's length (8).
 // Nothing.
 // 9, bytes changed: where (1: 0 message, 1 root, 2 share, 3 the inbox), from which place (2), the bytes. Nothing.
 // The verdict: the answer, and SHA-256 (32) of the state given back with SHA-256 of the buffer behind it, which is empty where none is
-// lent. The state for it: n, t, own (8 each), the stage as in 8 (1) with its message's length or 0 (8), len, held (8 each), the root,
-// the message's MAX_MESSAGE bytes and the share's MAX_SHARE.
+// lent. The state for it: the session's number (4), n, t, own (8 each), the stage as in 8 (1) with its message's length or 0 (8), len, held (8
+// each), the root, the message's MAX_MESSAGE bytes and the share's MAX_SHARE.
 use crate::KINDS;
 use crate::answer;
 use crate::answer::ANSWER;
@@ -23,13 +24,13 @@ use crate::answer::MALFORMED;
 use crate::answer::number_at;
 use crate::answer::spelled;
 use commitment::MAX_OUTBOX;
+use commitment::Seat;
 use limits::MAX_MESSAGE;
 use limits::MAX_SHARE;
 use party::Opened;
 use party::OpenedBySender;
 use party::Party;
 use party::Reply;
-use party::Seat;
 use party::Stage;
 use stream::Tally;
 
@@ -45,10 +46,10 @@ const VERDICT: usize = ANSWER + 32;
 const BEGUN: usize = VERDICT + 40;
 
 // The bytes of an opening by a sender in front of what the party is handed.
-const AT_BYTES: usize = 34;
+const AT_BYTES: usize = 38;
 
 // The length of the numbers at the start of what a digest is taken of, the places of what follows the root, and the whole length.
-const NUMBERS: usize = 49;
+const NUMBERS: usize = 53;
 
 const AT_MESSAGE: usize = NUMBERS + 32;
 
@@ -80,7 +81,12 @@ struct Called {
 pub(crate) fn blank() -> World {
     World {
         state: Party {
-            seat: Seat { n: 0, t: 0, own: 0 },
+            seat: Seat {
+                session: 0,
+                n: 0,
+                t: 0,
+                own: 0,
+            },
             stage: Stage::Root,
             message: [0; MAX_MESSAGE],
             len: 0,
@@ -124,7 +130,7 @@ fn call(kind: usize, state: Party, inbox: &[u8], input: &[u8], out: &mut [u8]) -
         return lent(kind, state, inbox, input, out);
     }
     if kind == 7 {
-        return new_number(state, number_at(input, 0, 1), number_at(input, 1, 8));
+        return new_number(state, number_at(input, 0, 1), input);
     }
     if kind == 8 {
         return new_stage(state, number_at(input, 0, 1), number_at(input, 1, 8));
@@ -140,13 +146,14 @@ fn malformed(state: Party) -> Called {
 }
 
 fn opening(before: Party, input: &[u8], out: &mut [u8]) -> Called {
-    if input.len() < 24 {
+    if input.len() < 28 {
         return malformed(before);
     }
-    let n = number_at(input, 0, 8);
-    let t = number_at(input, 8, 8);
-    let own = number_at(input, 16, 8);
-    let Opened { state, cause, root } = Party::open(n, t, own, &input[24..]);
+    let session = buffer::number_at(input, 0);
+    let n = number_at(input, 4, 8);
+    let t = number_at(input, 12, 8);
+    let own = number_at(input, 20, 8);
+    let Opened { state, cause, root } = Party::open(session, n, t, own, &input[28..]);
     buffer::put(out, VERDICT, &root);
     buffer::put(out, 0, &verdict(state, opened(cause), b""));
     Called {
@@ -167,7 +174,7 @@ fn opening_by_sender(before: Party, input: &[u8], out: &mut [u8]) -> Called {
     if input.len() < AT_BYTES {
         return malformed(before);
     }
-    let room = number_at(input, 32, 2);
+    let room = number_at(input, 36, 2);
     if MAX_ROOM < room {
         return malformed(before);
     }
@@ -175,11 +182,13 @@ fn opening_by_sender(before: Party, input: &[u8], out: &mut [u8]) -> Called {
     if out.len() < end {
         return malformed(before);
     }
-    let n = number_at(input, 0, 8);
-    let t = number_at(input, 8, 8);
-    let own = number_at(input, 16, 8);
-    let sender = number_at(input, 24, 8);
+    let session = buffer::number_at(input, 0);
+    let n = number_at(input, 4, 8);
+    let t = number_at(input, 12, 8);
+    let own = number_at(input, 20, 8);
+    let sender = number_at(input, 28, 8);
     let OpenedBySender { opened, len } = Party::open_by_sender(
+        session,
         n,
         t,
         own,
@@ -301,12 +310,13 @@ fn text_of(state: Party) -> [u8; DIGESTED] {
 fn numbers(state: Party) -> [u8; NUMBERS] {
     let mut bytes = [0u8; NUMBERS];
     let stage = state.stage;
-    buffer::put(&mut bytes, 0, &spelled(state.seat.n));
-    buffer::put(&mut bytes, 8, &spelled(state.seat.t));
-    buffer::put(&mut bytes, 16, &spelled(state.seat.own));
-    buffer::put(&mut bytes, 24, &stage_bytes(stage));
-    buffer::put(&mut bytes, 33, &spelled(state.len));
-    buffer::put(&mut bytes, 41, &spelled(state.held));
+    buffer::put(&mut bytes, 0, &buffer::four_bytes(state.seat.session));
+    buffer::put(&mut bytes, 4, &spelled(state.seat.n));
+    buffer::put(&mut bytes, 12, &spelled(state.seat.t));
+    buffer::put(&mut bytes, 20, &spelled(state.seat.own));
+    buffer::put(&mut bytes, 28, &stage_bytes(stage));
+    buffer::put(&mut bytes, 37, &spelled(state.len));
+    buffer::put(&mut bytes, 45, &spelled(state.held));
     bytes
 }
 
@@ -349,16 +359,18 @@ fn changed(state: Party, good: bool) -> Called {
     malformed(state)
 }
 
-fn new_number(old: Party, place: usize, number: usize) -> Called {
+fn new_number(old: Party, place: usize, input: &[u8]) -> Called {
     let mut state = old;
+    let number = number_at(input, 1, 8);
     match place {
         0 => state.seat.n = number,
         1 => state.seat.t = number,
         2 => state.seat.own = number,
         3 => state.len = number,
-        _ => state.held = number,
+        4 => state.held = number,
+        _ => state.seat.session = buffer::number_at(input, 5),
     }
-    changed(state, place <= 4)
+    changed(state, place <= 5)
 }
 
 fn new_stage(old: Party, number: usize, len: usize) -> Called {

@@ -1,10 +1,10 @@
 // SHA-256 and the tree.
 //
 // 1, hashes: the string. The cause (1 byte) and the digest (32).
-// 2, trees: n (1), the shares. The cause (1), the root (32), and for each leaf the answer to its path's length, and the path's four
-// hashes.
-// 3, checks: n (2), j (2), the count told to the check (1), the root's length (1), the path's four hashes, the root, the share. The
-// answer: done with 1 for yes and 0 for no.
+// 2, trees: the session's number (4), n (1), the shares. The cause (1), the root (32), and for each leaf the answer to its path's length, and
+// the path's four hashes.
+// 3, checks: the session's number (4), n (2), j (2), the count told to the check (1), the root's length (1), the path's four hashes, the root,
+// the share. The answer: done with 1 for yes and 0 for no.
 // 4, path lengths: n (1). For each leaf the answer to its path's length.
 ghost use Prim.Native.Nat.{_≤_};
 ghost use Rattle.limits.specs.Limits.{maxParties};
@@ -26,8 +26,10 @@ const PATH: usize = MAX_PATH * 32;
 
 const LEAF: usize = ANSWER + PATH;
 
-// The place of the root in a check.
-const AT_ROOT: usize = 6 + PATH;
+// The places of the path and of the root in a check.
+const AT_PATH: usize = 10;
+
+const AT_ROOT: usize = AT_PATH + PATH;
 
 pub(crate) fn run(kind: usize, input: &[u8], out: &mut [u8]) -> usize {
     if kind == 1 {
@@ -52,16 +54,17 @@ fn hash(string: &[u8], out: &mut [u8]) -> usize {
 }
 
 fn tree(input: &[u8], out: &mut [u8]) -> usize {
-    if input.len() < 1 {
+    if input.len() < 5 {
         return MALFORMED;
     }
-    let n = number_at(input, 0, 1);
+    let session = buffer::number_at(input, 0);
+    let n = number_at(input, 4, 1);
     if MAX_PARTIES < n {
         return MALFORMED;
     }
-    let shares = &input[1..];
-    let cause = [merkle::shares_cause(n, shares.len()); 1];
-    let leaves = merkle::leaves(n, shares);
+    let shares = &input[5..];
+    let cause = [merkle::shares_cause(session, n, shares.len()); 1];
+    let leaves = merkle::leaves(session, n, shares);
     let root = merkle::root(n, &leaves).root;
     buffer::put(out, 0, &cause);
     buffer::put(out, 1, &root);
@@ -109,7 +112,7 @@ fn counted(got: Counted) -> Answer {
 }
 
 fn path_check(input: &[u8], out: &mut [u8]) -> usize {
-    let wide = number_at(input, 5, 1);
+    let wide = number_at(input, 9, 1);
     if input.len() < AT_ROOT {
         return MALFORMED;
     }
@@ -117,11 +120,20 @@ fn path_check(input: &[u8], out: &mut [u8]) -> usize {
         return MALFORMED;
     }
     let end = AT_ROOT + wide;
-    let n = number_at(input, 0, 2);
-    let j = number_at(input, 2, 2);
-    let count = number_at(input, 4, 1);
-    let path = packet::path_at(input, 6, MAX_PATH);
-    let got = merkle::check(n, j, &input[end..], path, count, &input[AT_ROOT..end]);
+    let session = buffer::number_at(input, 0);
+    let n = number_at(input, 4, 2);
+    let j = number_at(input, 6, 2);
+    let count = number_at(input, 8, 1);
+    let path = packet::path_at(input, AT_PATH, MAX_PATH);
+    let got = merkle::check(
+        session,
+        n,
+        j,
+        &input[end..],
+        path,
+        count,
+        &input[AT_ROOT..end],
+    );
     answer::put(out, 0, checked(got));
     ANSWER
 }
