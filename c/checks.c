@@ -1,5 +1,5 @@
-/* Checks of what the header itself defines, of second readers, of rebuilding under a root, and of openings by a named sender, for the tests: a failed one ends
- * the program with its line. Prints the causes in words. */
+/* Checks of what the header itself defines, of second readers, of rebuilding under a root, of session numbers, and of openings by a named sender, for the tests: a
+ * failed one ends the program with its line. Prints the causes in words. */
 #include <stdio.h>
 #include <stdlib.h>
 #include <string.h>
@@ -51,14 +51,15 @@ static void check_append(void) {
 }
 
 /* A packet of party 1 for party 2 is taken apart into what passes the check; silence into nothing. */
-static void check_packet(uint32_t outbox_len) {
+static void check_packet(uint32_t session, uint32_t outbox_len) {
     cipangohu_bytes packet = cipangohu_entry(out, outbox_len, 2), share, path;
     uint32_t value = cipangohu_read_packet(3, packet.at, packet.len).value;
     share = cipangohu_packet_share(packet.at, value);
     path = cipangohu_packet_path(packet.at, value);
     CHECK(cipangohu_packet_number(value) == 2 && cipangohu_packet_count(value) == 2);
     CHECK(share.at == packet.at + 4 && path.at == share.at + share.len && path.at + path.len == packet.at + packet.len);
-    CHECK(cipangohu_check_path(3, 2, share.at, share.len, path.at, path.len, root, sizeof root).value == 1);
+    CHECK(cipangohu_check_path(session, 3, 2, share.at, share.len, path.at, path.len, root, sizeof root).value == 1);
+    CHECK(cipangohu_check_path(session ^ 1, 3, 2, share.at, share.len, path.at, path.len, root, sizeof root).value == 0);
     CHECK(cipangohu_packet_number(0) == 0 && cipangohu_packet_count(0) == 0);
     CHECK(cipangohu_packet_share(packet.at, 0).at == NULL && cipangohu_packet_path(packet.at, 0).at == NULL);
 }
@@ -85,7 +86,7 @@ static void check_second_reader(void) {
 static void check_stale_state(void) {
     uint8_t ended[CIPANGOHU_STATE], stale[CIPANGOHU_STATE];
     memcpy(ended, state, sizeof ended);
-    state[8] = state[9] = state[9 + CIPANGOHU_ROOT + 2] = state[CIPANGOHU_STATE - 1] = 1;
+    state[8] = state[13] = state[13 + CIPANGOHU_ROOT + 2] = state[CIPANGOHU_STATE - 1] = 1;
     memcpy(stale, state, sizeof stale);
     CHECK(cipangohu_take_relays(state, sizeof state, NULL, 0, out, 1).cause == CIPANGOHU_CAUSE_ROOM && memcmp(state, stale, sizeof stale) == 0);
     CHECK(cipangohu_take_relays(state, sizeof state, NULL, 0, out, 2).value == CIPANGOHU_SETTLED && memcmp(state, ended, sizeof ended) == 0);
@@ -96,7 +97,7 @@ static void check_stale_state(void) {
 
 /* On bit 0 a party has ended with nothing, and gives that to any reader. */
 static void check_nothing(void) {
-    cipangohu_answer answer = cipangohu_open(1, 0, 1, NULL, 0, state, sizeof state, root, sizeof root);
+    cipangohu_answer answer = cipangohu_open(0, 1, 0, 1, NULL, 0, state, sizeof state, root, sizeof root);
     CHECK(answer.cause == CIPANGOHU_ACCEPTED && cipangohu_agree_root(state, sizeof state, root, sizeof root).value == 1);
     CHECK(cipangohu_agree_bit(state, sizeof state, 0, out, sizeof out).value == 2);
     answer = cipangohu_take_relays(state, sizeof state, NULL, 0, NULL, 0);
@@ -104,68 +105,108 @@ static void check_nothing(void) {
     CHECK(cipangohu_stage(state, sizeof state).value == CIPANGOHU_ENDED_WITH_NOTHING && cipangohu_result(state, sizeof state).at == NULL);
 }
 
-/* Stage, own number and result of party 1 along its steps, of which it hears nothing but its own. */
-static void check_party(void) {
+/* Whether the state is that of party 1 in this session, at this stage. */
+static int is_at(uint32_t session, uint32_t stage) {
+    return cipangohu_stage(state, sizeof state).value == stage && cipangohu_own(state, sizeof state).value == 1
+        && cipangohu_session(state, sizeof state).value == session;
+}
+
+/* What the state of party 1 tells along its steps, of which it hears nothing but its own. */
+static void check_party(uint32_t session) {
     const uint8_t silence[6] = {0};
-    cipangohu_answer answer = cipangohu_open(3, 1, 1, (const uint8_t *)"AB", 2, state, sizeof state, root, sizeof root);
+    cipangohu_answer answer = cipangohu_open(session, 3, 1, 1, (const uint8_t *)"AB", 2, state, sizeof state, root, sizeof root);
     CHECK(answer.cause == CIPANGOHU_ACCEPTED && answer.value == CIPANGOHU_ROOT && state[0] == CIPANGOHU_LAYOUT);
-    CHECK(cipangohu_stage(state, sizeof state).value == CIPANGOHU_AWAITS_ROOT && cipangohu_own(state, sizeof state).value == 1);
+    CHECK(is_at(session, CIPANGOHU_AWAITS_ROOT));
     CHECK(cipangohu_agree_root(state, sizeof state, root, sizeof root).value == 1);
-    CHECK(cipangohu_stage(state, sizeof state).value == CIPANGOHU_AWAITS_BIT);
+    CHECK(is_at(session, CIPANGOHU_AWAITS_BIT));
     CHECK(cipangohu_agree_bit(state, sizeof state, 256, out, sizeof out).cause == CIPANGOHU_CAUSE_ROOT_OR_BIT);
     answer = cipangohu_agree_bit(state, sizeof state, 1, out, sizeof out);
-    CHECK(answer.cause == CIPANGOHU_ACCEPTED && cipangohu_stage(state, sizeof state).value == CIPANGOHU_AWAITS_SHARES);
-    check_packet(answer.value);
+    CHECK(answer.cause == CIPANGOHU_ACCEPTED && is_at(session, CIPANGOHU_AWAITS_SHARES));
+    check_packet(session, answer.value);
     CHECK(cipangohu_take_shares(state, sizeof state, silence, sizeof silence, out, sizeof out).cause == CIPANGOHU_ACCEPTED);
-    CHECK(cipangohu_stage(state, sizeof state).value == CIPANGOHU_AWAITS_RELAYS);
+    CHECK(is_at(session, CIPANGOHU_AWAITS_RELAYS));
     CHECK(cipangohu_result_length(state, sizeof state).cause == CIPANGOHU_CAUSE_STEP);
     CHECK(cipangohu_result(state, sizeof state).at == NULL);
     CHECK(cipangohu_take_relays(state, sizeof state, silence, sizeof silence, out, sizeof out).value == CIPANGOHU_SETTLED);
-    CHECK(cipangohu_stage(state, sizeof state).value == CIPANGOHU_ENDED_WITH_MESSAGE);
+    CHECK(is_at(session, CIPANGOHU_ENDED_WITH_MESSAGE));
     CHECK(cipangohu_result(state, sizeof state).len == 2 && memcmp(cipangohu_result(state, sizeof state).at, "AB", 2) == 0);
     check_second_reader();
     check_stale_state();
+    CHECK(is_at(session, CIPANGOHU_ENDED_WITH_MESSAGE));
     for (unsigned version = 0; version < 256; version++) {
         state[0] = (uint8_t)version;
         CHECK((cipangohu_result(state, sizeof state).at != NULL) == (version == CIPANGOHU_LAYOUT));
         CHECK(cipangohu_own(state, sizeof state).cause == (version == CIPANGOHU_LAYOUT ? CIPANGOHU_ACCEPTED : CIPANGOHU_CAUSE_STATE));
+        CHECK(cipangohu_session(state, sizeof state).cause == cipangohu_own(state, sizeof state).cause);
     }
 }
 
-/* A message is rebuilt, with its first share missing, under its own root and no other. Another root comes before a short buffer, and with it no byte is
- * written. */
-static void check_rebuild(void) {
+/* A message is rebuilt, with its first share missing, under its own root in this session and no other. Another root comes before a short buffer, and with it no
+ * byte is written. */
+static void check_rebuild(uint32_t session) {
     uint8_t entries[10], found[3] = {7, 7, 7};
     size_t used = 0;
-    cipangohu_answer answer = cipangohu_open(3, 1, 1, (const uint8_t *)"AB", 2, state, sizeof state, root, sizeof root);
+    cipangohu_answer answer = cipangohu_open(session, 3, 1, 1, (const uint8_t *)"AB", 2, state, sizeof state, root, sizeof root);
     CHECK(answer.cause == CIPANGOHU_ACCEPTED && cipangohu_shares(3, 1, (const uint8_t *)"AB", 2, out, sizeof out).value == 6);
     for (size_t j = 0; j < 3; j++) used = cipangohu_append(entries, sizeof entries, used, out + 2 * j, j == 0 ? 0 : 2).value;
     root[31] ^= 1;
-    answer = cipangohu_rebuild_with_root(3, 1, root, sizeof root, entries, used, found, sizeof found);
+    answer = cipangohu_rebuild_with_root(session, 3, 1, root, sizeof root, entries, used, found, sizeof found);
     CHECK(answer.cause == CIPANGOHU_CAUSE_OTHER_ROOT && answer.value == 0 && memcmp(found, "\7\7\7", 3) == 0);
-    CHECK(cipangohu_rebuild_with_root(3, 1, root, sizeof root, entries, used, NULL, 0).cause == CIPANGOHU_CAUSE_OTHER_ROOT);
-    CHECK(cipangohu_rebuild_with_root(3, 1, root, 31, NULL, 0, NULL, 0).cause == CIPANGOHU_CAUSE_ROOT_OR_BIT);
+    CHECK(cipangohu_rebuild_with_root(session, 3, 1, root, sizeof root, entries, used, NULL, 0).cause == CIPANGOHU_CAUSE_OTHER_ROOT);
+    CHECK(cipangohu_rebuild_with_root(session, 3, 1, root, 31, NULL, 0, NULL, 0).cause == CIPANGOHU_CAUSE_ROOT_OR_BIT);
     root[31] ^= 1;
-    answer = cipangohu_rebuild_with_root(3, 1, root, sizeof root, entries, used, found, 1);
+    answer = cipangohu_rebuild_with_root(session, 3, 1, root, sizeof root, entries, used, found, 1);
     CHECK(answer.cause == CIPANGOHU_CAUSE_ROOM && answer.value == 2 && memcmp(found, "\7\7\7", 3) == 0);
-    answer = cipangohu_rebuild_with_root(3, 1, root, sizeof root, entries, used, found, 2);
+    answer = cipangohu_rebuild_with_root(session, 3, 1, root, sizeof root, entries, used, found, 2);
     CHECK(answer.cause == CIPANGOHU_ACCEPTED && answer.value == 2 && memcmp(found, "AB\7", 3) == 0);
+    CHECK(cipangohu_rebuild_with_root(session ^ 1, 3, 1, root, sizeof root, entries, used, found, 2).cause == CIPANGOHU_CAUSE_OTHER_ROOT);
+}
+
+/* The hashes of three leaf strings of this length, and the root over them. */
+static void hash_tree(const uint8_t *leaves, size_t len, uint8_t hashes[3][CIPANGOHU_ROOT]) {
+    uint8_t node[1 + 2 * CIPANGOHU_ROOT] = {1};
+    for (size_t j = 0; j < 3; j++) CHECK(cipangohu_hash(leaves + j * len, len, hashes[j], CIPANGOHU_ROOT).cause == CIPANGOHU_ACCEPTED);
+    memcpy(node + 1, hashes, 2 * CIPANGOHU_ROOT);
+    CHECK(cipangohu_hash(node, sizeof node, root, sizeof root).cause == CIPANGOHU_ACCEPTED);
+    memcpy(node + 1, root, CIPANGOHU_ROOT);
+    memcpy(node + 1 + CIPANGOHU_ROOT, hashes[2], CIPANGOHU_ROOT);
+    CHECK(cipangohu_hash(node, sizeof node, root, sizeof root).cause == CIPANGOHU_ACCEPTED);
+}
+
+/* The session number stands in the state, and in every leaf string before the share's number; number 0 stands in none. */
+static void check_leaves(void) {
+    const uint8_t with[3][8] = {{0, 1, 2, 3, 4, 1, 0x41, 0x40}, {0, 1, 2, 3, 4, 2, 0x82, 0x86}, {0, 1, 2, 3, 4, 3, 0xC3, 0xC4}};
+    const uint8_t without[3][4] = {{0, 1, 0x41, 0x40}, {0, 2, 0x82, 0x86}, {0, 3, 0xC3, 0xC4}};
+    uint8_t hashes[3][CIPANGOHU_ROOT];
+    hash_tree(with[0], 8, hashes);
+    CHECK(cipangohu_open(0x01020304, 3, 1, 1, (const uint8_t *)"AB", 2, state, sizeof state, out, sizeof out).cause == CIPANGOHU_ACCEPTED);
+    CHECK(memcmp(out, root, sizeof root) == 0 && memcmp(state + 9, "\1\2\3\4", 4) == 0);
+    hash_tree(without[0], 4, hashes);
+    CHECK(cipangohu_open(0, 3, 1, 1, (const uint8_t *)"AB", 2, state, sizeof state, out, sizeof out).cause == CIPANGOHU_ACCEPTED);
+    CHECK(memcmp(out, root, sizeof root) == 0 && memcmp(state + 9, "\0\0\0\0", 4) == 0);
+}
+
+/* The longest share that a path check takes, and a byte more, under number 0 and under others. */
+static void check_longest_share(void) {
+    const uint32_t sessions[] = {0, 1, 0xFF, 0x01000000, 0xFFFFFFFF};
+    for (size_t k = 0; k < sizeof sessions / sizeof sessions[0]; k++) {
+        size_t longest = CIPANGOHU_HASHED - (sessions[k] == 0 ? 2 : 6);
+        cipangohu_answer answer = cipangohu_check_path(sessions[k], 1, 1, long_entry, longest, NULL, 0, root, sizeof root);
+        CHECK(answer.cause == CIPANGOHU_ACCEPTED && answer.value == 0);
+        answer = cipangohu_check_path(sessions[k], 1, 1, long_entry, longest + 1, NULL, 0, root, sizeof root);
+        CHECK(answer.cause == CIPANGOHU_CAUSE_LENGTH && answer.value == 0);
+    }
 }
 
 /* The agreed root is that of three shares which no message has together. Party 3 gets the first two, which are those of "AB", with paths that pass; but
  * "AB" has another root, so it ends with nothing, which needs no room. */
 static void check_no_other_root(void) {
     const uint8_t leaves[3][4] = {{0, 1, 0x41, 0x40}, {0, 2, 0x82, 0x86}, {0, 3, 0xFF, 0xFF}}, silence[6] = {0};
-    uint8_t hashes[3][CIPANGOHU_ROOT], node[1 + 2 * CIPANGOHU_ROOT] = {1}, packet[6 + 2 * CIPANGOHU_ROOT] = {7, 0, 0, 2}, inbox[200];
+    uint8_t hashes[3][CIPANGOHU_ROOT], packet[6 + 2 * CIPANGOHU_ROOT] = {7, 0, 0, 2}, inbox[200];
     size_t used = 0;
-    cipangohu_answer answer = cipangohu_open(3, 1, 3, (const uint8_t *)"C", 1, state, sizeof state, out, sizeof out);
+    cipangohu_answer answer = cipangohu_open(0, 3, 1, 3, (const uint8_t *)"C", 1, state, sizeof state, out, sizeof out);
     CHECK(answer.cause == CIPANGOHU_ACCEPTED);
-    for (size_t j = 0; j < 3; j++) CHECK(cipangohu_hash(leaves[j], 4, hashes[j], CIPANGOHU_ROOT).cause == CIPANGOHU_ACCEPTED);
-    memcpy(node + 1, hashes, 2 * CIPANGOHU_ROOT);
-    CHECK(cipangohu_hash(node, sizeof node, root, sizeof root).cause == CIPANGOHU_ACCEPTED);
-    memcpy(node + 1, root, CIPANGOHU_ROOT);
-    memcpy(node + 1 + CIPANGOHU_ROOT, hashes[2], CIPANGOHU_ROOT);
-    CHECK(cipangohu_hash(node, sizeof node, root, sizeof root).cause == CIPANGOHU_ACCEPTED);
+    hash_tree(leaves[0], 4, hashes);
     CHECK(cipangohu_agree_root(state, sizeof state, root, sizeof root).cause == CIPANGOHU_ACCEPTED);
     CHECK(cipangohu_agree_bit(state, sizeof state, 1, out, sizeof out).value == 6);
     CHECK(cipangohu_take_shares(state, sizeof state, silence, sizeof silence, out, sizeof out).cause == CIPANGOHU_ACCEPTED);
@@ -174,7 +215,7 @@ static void check_no_other_root(void) {
         memcpy(packet + 4, leaves[j] + 2, 2);
         memcpy(packet + 6, hashes[1 - j], CIPANGOHU_ROOT);
         memcpy(packet + 6 + CIPANGOHU_ROOT, hashes[2], CIPANGOHU_ROOT);
-        CHECK(cipangohu_check_path(3, j + 1, packet + 4, 2, packet + 6, 2 * CIPANGOHU_ROOT, root, sizeof root).value == 1);
+        CHECK(cipangohu_check_path(0, 3, j + 1, packet + 4, 2, packet + 6, 2 * CIPANGOHU_ROOT, root, sizeof root).value == 1);
         used = cipangohu_append(inbox, sizeof inbox, used, packet, sizeof packet).value;
     }
     used = cipangohu_append(inbox, sizeof inbox, used, NULL, 0).value;
@@ -186,19 +227,19 @@ static void check_no_other_root(void) {
 /* What an opening by a sender is lent, with bytes that nobody would write. */
 static struct { uint8_t state[CIPANGOHU_STATE + 1], root[CIPANGOHU_ROOT + 1], out[CIPANGOHU_MESSAGE_PACKET + 1]; } lent, before;
 
-/* Party own of 3 opens by party 2, with these rooms for state, root and packet; refused, it leaves every byte. */
+/* Party own of 3 opens in session 7 by party 2, with these rooms for state, root and packet; refused, it leaves every byte. */
 static cipangohu_answer by_sender(size_t own, const char *bytes, size_t len, size_t state_room, size_t root_room, size_t out_room) {
     cipangohu_answer answer;
     memset(&lent, 0x55, sizeof lent);
     memcpy(&before, &lent, sizeof lent);
-    answer = cipangohu_open_by_sender(3, 1, own, 2, (const uint8_t *)bytes, len, lent.state, state_room, lent.root, root_room, lent.out, out_room);
+    answer = cipangohu_open_by_sender(7, 3, 1, own, 2, (const uint8_t *)bytes, len, lent.state, state_room, lent.root, root_room, lent.out, out_room);
     CHECK(answer.cause == CIPANGOHU_ACCEPTED || memcmp(&lent, &before, sizeof lent) == 0);
     return answer;
 }
 
 /* The opening wrote what cipangohu_open does with this message, and no byte past it. */
 static void check_opened(size_t own, const char *message, size_t len) {
-    cipangohu_answer answer = cipangohu_open(3, 1, own, (const uint8_t *)message, len, state, sizeof state, root, sizeof root);
+    cipangohu_answer answer = cipangohu_open(7, 3, 1, own, (const uint8_t *)message, len, state, sizeof state, root, sizeof root);
     CHECK(answer.cause == CIPANGOHU_ACCEPTED);
     CHECK(memcmp(lent.state, state, sizeof state) == 0 && lent.state[CIPANGOHU_STATE] == 0x55);
     CHECK(memcmp(lent.root, root, sizeof root) == 0 && lent.root[CIPANGOHU_ROOT] == 0x55);
@@ -219,7 +260,7 @@ static void check_sender(void) {
         CHECK(answer.cause == CIPANGOHU_ACCEPTED && answer.value == 0);
         check_opened(3, NULL, 0);
     }
-    answer = cipangohu_open_by_sender(1, 0, 1, 1, (const uint8_t *)"AB", 2, state, sizeof state, root, sizeof root, NULL, 0);
+    answer = cipangohu_open_by_sender(7, 1, 0, 1, 1, (const uint8_t *)"AB", 2, state, sizeof state, root, sizeof root, NULL, 0);
     CHECK(answer.cause == CIPANGOHU_ACCEPTED && answer.value == 0 && cipangohu_own(state, sizeof state).value == 1);
 }
 
@@ -238,9 +279,9 @@ static void check_sender_causes(void) {
     CHECK(answer.cause == CIPANGOHU_CAUSE_LENGTH && answer.value == 0);
     CHECK(by_sender(1, longest, sizeof long_entry, CIPANGOHU_STATE, CIPANGOHU_ROOT, 0).cause == CIPANGOHU_ACCEPTED);
     CHECK(by_sender(0, longest, CIPANGOHU_MESSAGE + 1, 0, 0, 0).cause == CIPANGOHU_CAUSE_NUMBER);
-    CHECK(cipangohu_open_by_sender(3, 1, 1, 4, NULL, 0, NULL, 0, NULL, 0, NULL, 0).cause == CIPANGOHU_CAUSE_NUMBER);
-    CHECK(cipangohu_open_by_sender(4, 2, 5, 5, NULL, 0, NULL, 0, NULL, 0, NULL, 0).cause == CIPANGOHU_CAUSE_FAULTS);
-    CHECK(cipangohu_open_by_sender(0, 0, 0, 0, NULL, 0, NULL, 0, NULL, 0, NULL, 0).cause == CIPANGOHU_CAUSE_PARTIES);
+    CHECK(cipangohu_open_by_sender(7, 3, 1, 1, 4, NULL, 0, NULL, 0, NULL, 0, NULL, 0).cause == CIPANGOHU_CAUSE_NUMBER);
+    CHECK(cipangohu_open_by_sender(7, 4, 2, 5, 5, NULL, 0, NULL, 0, NULL, 0, NULL, 0).cause == CIPANGOHU_CAUSE_FAULTS);
+    CHECK(cipangohu_open_by_sender(7, 0, 0, 0, 0, NULL, 0, NULL, 0, NULL, 0, NULL, 0).cause == CIPANGOHU_CAUSE_PARTIES);
 }
 
 /* A sender's packet is read where it is whole; its message is found, also an empty one, and none in silence. */
@@ -262,9 +303,13 @@ int main(void) {
     CHECK(cipangohu_version() == CIPANGOHU_VERSION && cipangohu_state_size() == CIPANGOHU_STATE);
     check_any_bytes();
     check_append();
-    check_party();
+    check_party(0);
+    check_party(0xFFFFFFFF);
     check_nothing();
-    check_rebuild();
+    check_rebuild(0);
+    check_rebuild(0x01000000);
+    check_leaves();
+    check_longest_share();
     check_no_other_root();
     check_sender();
     check_sender_causes();

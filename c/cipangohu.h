@@ -10,11 +10,15 @@
  * all others. Each of these is handed the packet that came, and opens with the message in it, or with the empty one if it cannot read any. All that follows is
  * the same, and a good sender's message is every good party's result.
  *
+ * A session has a number, and all good parties open with the same one. Two sessions with two numbers may settle the same message: it has another root in
+ * each, and packets of the one fail the check in the other. Any number of 32 bits will do, 0 as well, under which roots and packets are those of versions before 3.
+ * (Documents for people call it the sitting number.)
+ *
  * The host keeps the party's state, CIPANGOHU_STATE bytes, and hands it to every step. Its layout, with numbers big-endian here and in all entries:
  * byte 0 the version of the layout, CIPANGOHU_LAYOUT, byte 1 n, byte 2 t, byte 3 own number, byte 4 stage, bytes 5-6 the length of the message (of
  * a party that ended with one, of the result), bytes 7-8 the length of the share that an unhappy party relayed (a party is happy if the agreed root is
- * that of its own message; it then holds no share), bytes 9-40 the agreed root, then CIPANGOHU_MESSAGE bytes for the message, then CIPANGOHU_SHARE bytes for that share. An accepted step writes all of
- * it anew, with zeros for what the stage does not have.
+ * that of its own message; it then holds no share), bytes 9-12 the session number, at every stage, bytes 13-44 the agreed root, then CIPANGOHU_MESSAGE bytes for the
+ * message, then CIPANGOHU_SHARE bytes for that share. An accepted step writes all of it anew, with zeros for what the stage does not have.
  *
  * Any bytes may stand in a state. Cause 5 is: fewer than CIPANGOHU_STATE bytes, another version, no stage, n, t or own number out of range, or a
  * length over its limit at any stage. All else is taken for the state that it says; this is no seal against forgers. Bytes past a length are
@@ -48,11 +52,14 @@
 extern "C" {
 #endif
 
-/* The version of this header, and as one number, which cipangohu_version gives of the library. New in 2.2: cipangohu_open_by_sender, cipangohu_read_message,
- * cipangohu_packet_message, CIPANGOHU_MESSAGE_PACKET.
+/* The version of this header, and as one number, which cipangohu_version gives of the library.
+ * New in 3.0: the session number, which cipangohu_open, cipangohu_open_by_sender, cipangohu_check_path and cipangohu_rebuild_with_root take in front of n; a
+ * host that numbers no sessions puts 0 there. cipangohu_session. A state has four bytes more, and states of versions before 3 are cause 5: sessions that run are
+ * ended with the version that began them.
+ * New in 2.2: cipangohu_open_by_sender, cipangohu_read_message, cipangohu_packet_message, CIPANGOHU_MESSAGE_PACKET.
  * New in 2.1: step 5 takes a message that it rebuilt only under the agreed root; cipangohu_rebuild_with_root; cause 15. */
-#define CIPANGOHU_VERSION_MAJOR 2
-#define CIPANGOHU_VERSION_MINOR 2
+#define CIPANGOHU_VERSION_MAJOR 3
+#define CIPANGOHU_VERSION_MINOR 0
 #define CIPANGOHU_VERSION_PATCH 0
 #define CIPANGOHU_VERSION ((CIPANGOHU_VERSION_MAJOR << 16) | (CIPANGOHU_VERSION_MINOR << 8) | CIPANGOHU_VERSION_PATCH)
 
@@ -64,14 +71,14 @@ extern "C" {
 #define CIPANGOHU_HASHED 65535
 #define CIPANGOHU_ENTRY 65535
 #define CIPANGOHU_ROOT 32
-#define CIPANGOHU_LAYOUT 2
+#define CIPANGOHU_LAYOUT 3
 
 /* Rooms that follow from them, in bytes: for the longest share, which is the whole frame of one party alone; for a state; for any packet with a share that a
  * party writes: four bytes, the share, the longest path; for any packet of a named sender: three bytes, the message; for all shares of a message together, which are
  * less than twice the longest frame with its zeros; for any outbox: these shares, and beside each its entry's length and the rest of its packet; and for any
  * inbox. */
 #define CIPANGOHU_SHARE (CIPANGOHU_MESSAGE + 2)
-#define CIPANGOHU_STATE (9 + CIPANGOHU_ROOT + CIPANGOHU_MESSAGE + CIPANGOHU_SHARE)
+#define CIPANGOHU_STATE (13 + CIPANGOHU_ROOT + CIPANGOHU_MESSAGE + CIPANGOHU_SHARE)
 #define CIPANGOHU_PACKET (4 + CIPANGOHU_SHARE + CIPANGOHU_PATH * CIPANGOHU_ROOT)
 #define CIPANGOHU_MESSAGE_PACKET (3 + CIPANGOHU_MESSAGE)
 #define CIPANGOHU_SHARES (2 * (CIPANGOHU_SHARE + CIPANGOHU_PARTIES))
@@ -137,9 +144,9 @@ typedef char cipangohu_size_has_8_bytes[sizeof(size_t) == 8 ? 1 : -1];
 #define CIPANGOHU_MUST_USE
 #endif
 
-/* Step 1, the opening: writes a new state, and the root for the short agreement. Value: CIPANGOHU_ROOT. Causes 1, 2, 3, 4, then 9 for the state's
- * buffer, then 9 for the root's. */
-CIPANGOHU_MUST_USE cipangohu_answer cipangohu_open(size_t n, size_t t, size_t own, const uint8_t *message, size_t message_len,
+/* Step 1, the opening in the session of this number: writes a new state, and the root for the short agreement. Value: CIPANGOHU_ROOT. Causes 1, 2, 3, 4, then 9
+ * for the state's buffer, then 9 for the root's. */
+CIPANGOHU_MUST_USE cipangohu_answer cipangohu_open(uint32_t session, size_t n, size_t t, size_t own, const uint8_t *message, size_t message_len,
                                                    uint8_t *state, size_t state_len, uint8_t *root, size_t root_len);
 
 /* Step 1 by a named sender; all good parties name the same one. State and root are what cipangohu_open writes for the message that the party opens with, and all
@@ -150,9 +157,9 @@ CIPANGOHU_MUST_USE cipangohu_answer cipangohu_open(size_t n, size_t t, size_t ow
  * cannot be read are not refused: the party opens with the empty message. cipangohu_read_message tells a host that they cannot.
  * Value: the bytes written to out. Causes 1, 2, 3 for the own number, 3 for the sender's, 4 for the sender's own message, then 9 for the state's buffer, 9 for
  * the root's, 9 for the packet's. */
-CIPANGOHU_MUST_USE cipangohu_answer cipangohu_open_by_sender(size_t n, size_t t, size_t own, size_t sender, const uint8_t *bytes, size_t bytes_len,
-                                                             uint8_t *state, size_t state_len, uint8_t *root, size_t root_len,
-                                                             uint8_t *out, size_t out_len);
+CIPANGOHU_MUST_USE cipangohu_answer cipangohu_open_by_sender(uint32_t session, size_t n, size_t t, size_t own, size_t sender,
+                                                             const uint8_t *bytes, size_t bytes_len, uint8_t *state, size_t state_len,
+                                                             uint8_t *root, size_t root_len, uint8_t *out, size_t out_len);
 
 /* Step 2, the agreed root. Value: the party's bit, 1 if it is happy, which it is if the agreed root is its own, else 0, for the second short agreement.
  * Causes 5, 6, 7. */
@@ -185,6 +192,9 @@ CIPANGOHU_MUST_USE cipangohu_answer cipangohu_stage(const uint8_t *state, size_t
 /* The own number of a party. Cause 5. */
 CIPANGOHU_MUST_USE cipangohu_answer cipangohu_own(const uint8_t *state, size_t state_len);
 
+/* The number of the session that a party was opened in. Cause 5. */
+CIPANGOHU_MUST_USE cipangohu_answer cipangohu_session(const uint8_t *state, size_t state_len);
+
 /* Reads a packet among n parties. Value: 0 for silence (no bytes, or one zero byte), else what cipangohu_packet_number and the three beside it take
  * apart: count * 2^24 + number * 2^16 + the share's length, where count is that of the path's hashes. Causes 1, 10. */
 CIPANGOHU_MUST_USE cipangohu_answer cipangohu_read_packet(size_t n, const uint8_t *packet, size_t packet_len);
@@ -193,9 +203,9 @@ CIPANGOHU_MUST_USE cipangohu_answer cipangohu_read_packet(size_t n, const uint8_
  * Cause 10. */
 CIPANGOHU_MUST_USE cipangohu_answer cipangohu_read_message(const uint8_t *packet, size_t packet_len);
 
-/* Whether a path of hashes leads from share j of n to the root. Value: 1 yes, 0 no; a path that is not as many whole hashes as
- * n and j give is a no. Causes 1, 3, 4 (a share over CIPANGOHU_HASHED - 2 bytes), 7. */
-CIPANGOHU_MUST_USE cipangohu_answer cipangohu_check_path(size_t n, size_t j, const uint8_t *share, size_t share_len,
+/* Whether a path of hashes leads from share j of n to the root, in the session of this number. Value: 1 yes, 0 no; a path that is not as many whole hashes as
+ * n and j give is a no. Causes 1, 3, 4 (a share over CIPANGOHU_HASHED - 2 bytes under session number 0, over CIPANGOHU_HASHED - 6 under any other), 7. */
+CIPANGOHU_MUST_USE cipangohu_answer cipangohu_check_path(uint32_t session, size_t n, size_t j, const uint8_t *share, size_t share_len,
                                                          const uint8_t *path, size_t path_len, const uint8_t *root, size_t root_len);
 
 /* Writes the n shares of a message, of equal length, concatenated. Value: the bytes written. Causes 1, 2, 4, 9. */
@@ -208,8 +218,8 @@ CIPANGOHU_MUST_USE cipangohu_answer cipangohu_rebuild(size_t n, size_t t, const 
                                                       uint8_t *out, size_t out_len);
 
 /* Rebuilds as cipangohu_rebuild does, codes the message again, and writes it only if its root is the one given; a message has the root that
- * cipangohu_open gives with this n and t. Value: the bytes written. Causes 1, 2, 7, 8, 11, 12, 15, and 9 where a message with this root was found. */
-CIPANGOHU_MUST_USE cipangohu_answer cipangohu_rebuild_with_root(size_t n, size_t t, const uint8_t *root, size_t root_len,
+ * cipangohu_open gives with this session number, n and t. Value: the bytes written. Causes 1, 2, 7, 8, 11, 12, 15, and 9 where a message with this root was found. */
+CIPANGOHU_MUST_USE cipangohu_answer cipangohu_rebuild_with_root(uint32_t session, size_t n, size_t t, const uint8_t *root, size_t root_len,
                                                                 const uint8_t *entries, size_t entries_len, uint8_t *out, size_t out_len);
 
 /* SHA-256 of up to CIPANGOHU_HASHED bytes. Value: CIPANGOHU_ROOT. Causes 4, 9. */
@@ -282,7 +292,7 @@ static inline cipangohu_bytes cipangohu_result(const uint8_t *state, size_t stat
     cipangohu_bytes result = {NULL, 0};
     cipangohu_answer length = cipangohu_result_length(state, state_len);
     if (length.cause != CIPANGOHU_ACCEPTED) return result;
-    result.at = state + 9 + CIPANGOHU_ROOT;
+    result.at = state + 13 + CIPANGOHU_ROOT;
     result.len = length.value;
     return result;
 }

@@ -5,7 +5,7 @@
 #include <stdlib.h>
 #include <string.h>
 #include "cipangohu.h"
-enum { N = 3, T = 1, STATE = CIPANGOHU_STATE, ROOT = CIPANGOHU_ROOT, OUTBOX = CIPANGOHU_OUTBOX, INBOX = CIPANGOHU_INBOX };
+enum { SESSION = 7, N = 3, T = 1, STATE = CIPANGOHU_STATE, ROOT = CIPANGOHU_ROOT, OUTBOX = CIPANGOHU_OUTBOX, INBOX = CIPANGOHU_INBOX };
 static uint8_t state[N][STATE], root[N][ROOT], out[OUTBOX], inbox[N][INBOX], relays[INBOX];
 /* The value of an accepted call; a refused one ends the program. */
 static uint32_t value(cipangohu_answer answer) {
@@ -17,7 +17,7 @@ int main(void) {
     const char *messages[N] = {"AB", "AB", "other"};
     size_t size[N] = {0}, end = 0;
     for (size_t i = 0; i < N; i++)
-        value(cipangohu_open(N, T, i + 1, (const uint8_t *)messages[i], strlen(messages[i]), state[i], STATE, root[i], ROOT));
+        value(cipangohu_open(SESSION, N, T, i + 1, (const uint8_t *)messages[i], strlen(messages[i]), state[i], STATE, root[i], ROOT));
     for (size_t i = 0; i < N; i++) { /* the short agreements settle on party 1's root and bit */
         printf("%zu %s\n", i + 1, value(cipangohu_agree_root(state[i], STATE, root[0], ROOT)) ? "happy" : "unhappy");
         uint32_t len = value(cipangohu_agree_bit(state[i], STATE, 1, out, OUTBOX));

@@ -18,8 +18,8 @@ int main(void) {
     uint8_t out[CIPANGOHU_MESSAGE];
     uint32_t bit, len, result;
 
-    /* It opens with a message; the root goes into the short agreement. */
-    value(cipangohu_open(1, 0, 1, message, sizeof message, state, sizeof state, root, sizeof root));
+    /* It opens in session 7 with a message; the root goes into the short agreement. */
+    value(cipangohu_open(7, 1, 0, 1, message, sizeof message, state, sizeof state, root, sizeof root));
     /* The agreed root is handed in; the bit goes into the second one. */
     bit = value(cipangohu_agree_root(state, sizeof state, root, sizeof root));
     /* The agreed bit is handed in; entry j of the outbox goes to party j, and here there is but the own one. */

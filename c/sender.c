@@ -4,7 +4,7 @@
 #include <stdio.h>
 #include <stdlib.h>
 #include "cipangohu.h"
-enum { N = 3, T = 1, SENDER = 2 };
+enum { SESSION = 7, N = 3, T = 1, SENDER = 2 };
 static uint8_t state[N][CIPANGOHU_STATE], root[N][CIPANGOHU_ROOT], packet[CIPANGOHU_MESSAGE_PACKET];
 /* The value of an accepted call; a refused one ends the program. */
 static uint32_t value(cipangohu_answer answer) {
@@ -15,7 +15,7 @@ static uint32_t value(cipangohu_answer answer) {
 /* Another party opens with what came; its person is told where that cannot be read. */
 static void receive(size_t own, const uint8_t *came, size_t len) {
     cipangohu_answer read = cipangohu_read_message(came, len);
-    value(cipangohu_open_by_sender(N, T, own, SENDER, came, len, state[own - 1], CIPANGOHU_STATE, root[own - 1], CIPANGOHU_ROOT, NULL, 0));
+    value(cipangohu_open_by_sender(SESSION, N, T, own, SENDER, came, len, state[own - 1], CIPANGOHU_STATE, root[own - 1], CIPANGOHU_ROOT, NULL, 0));
     if (read.cause != CIPANGOHU_ACCEPTED)
         printf("%zu cannot read what party %d sent, and has the empty message\n", own, SENDER);
     else
@@ -23,8 +23,8 @@ static void receive(size_t own, const uint8_t *came, size_t len) {
 }
 int main(void) {
     const uint8_t message[] = {'A', 'B'};
-    uint32_t len = value(cipangohu_open_by_sender(N, T, SENDER, SENDER, message, sizeof message, state[SENDER - 1], CIPANGOHU_STATE, root[SENDER - 1],
-                                                  CIPANGOHU_ROOT, packet, sizeof packet));
+    uint32_t len = value(cipangohu_open_by_sender(SESSION, N, T, SENDER, SENDER, message, sizeof message, state[SENDER - 1], CIPANGOHU_STATE,
+                                                  root[SENDER - 1], CIPANGOHU_ROOT, packet, sizeof packet));
     printf("%d sends %u bytes to each other party\n", SENDER, (unsigned)len);
     receive(1, packet, len);
     receive(3, packet, len - 1);

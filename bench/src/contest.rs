@@ -8,6 +8,7 @@ use foreign::{coder, random::Random, sha256};
 use crate::clock::Race;
 use crate::library::{Encoder, Isal, Openssl, Zfec};
 use crate::markdown::grouped;
+use crate::numbered::{numbered, Numbered};
 use crate::party::{Foreign, Proved};
 use crate::session::{moments, play, Setting, GREATEST, SHORTER};
 use crate::steps::{work, Step};
@@ -82,6 +83,8 @@ pub struct Tables {
     pub played: Vec<Grown>,
     pub coder: Vec<Times>,
     pub hash: Vec<Times>,
+    /// The proved code against itself in a session of another number.
+    pub numbered: Vec<Numbered>,
 }
 
 impl Tables {
@@ -93,7 +96,8 @@ impl Tables {
     pub fn each(&mut self) -> impl Iterator<Item = &mut f64> {
         let played = self.played.iter_mut().flat_map(|grown| &mut grown.at);
         let rows = played.chain(&mut self.coder).chain(&mut self.hash);
-        rows.flat_map(Times::each)
+        let numbered = self.numbered.iter_mut().flat_map(Numbered::each);
+        rows.flat_map(Times::each).chain(numbered)
     }
 }
 
@@ -110,6 +114,7 @@ pub fn contests(others: &Others, rounds: u32) -> Tables {
         played,
         coder: encodings.into_iter().chain(rebuildings).collect(),
         hash: hashing(others, rounds),
+        numbered: numbered(rounds),
     }
 }
 

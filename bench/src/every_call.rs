@@ -6,6 +6,7 @@ use cipangohu::{
     MAX_PATH, STATE,
 };
 
+use crate::numbered::NUMBERS;
 use crate::party::{Party, Proved};
 use crate::session::{moments, most_faults, Moments, Setting, GREATEST, SHORTER};
 
@@ -15,23 +16,32 @@ pub type Visit<'a> = &'a mut dyn FnMut(&'static str, &mut dyn FnMut());
 /// The lengths of the messages.
 pub const LENGTHS: [usize; 5] = [0, 1, 100, SHORTER, MAX_MESSAGE];
 
-/// All calls, with the least and the greatest numbers of parties, faults and bytes and those between.
+/// All calls, with the least and the greatest numbers of parties, faults and bytes and those between,
+/// and with and without a session number.
 pub fn every_call(visit: Visit) {
-    for n in (1..=GREATEST.n).rev() {
-        for t in [0, most_faults(n)] {
-            for length in LENGTHS {
-                let unhappy = usize::from(n > 1);
-                let setting = Setting {
-                    n,
-                    t,
-                    length,
-                    unhappy,
-                };
-                session(setting, visit);
-            }
-        }
+    for setting in settings() {
+        session(setting, visit);
     }
-    strings(visit);
+    for session in NUMBERS {
+        strings(session, visit);
+    }
+}
+
+/// The sessions, the greatest first.
+fn settings() -> impl Iterator<Item = Setting> {
+    let groups = (1..=GREATEST.n).rev();
+    let groups = groups.flat_map(|n| [(n, 0), (n, most_faults(n))]);
+    groups.flat_map(|(n, t)| {
+        let kinds = NUMBERS.into_iter();
+        let kinds = kinds.flat_map(|session| LENGTHS.map(|length| (session, length)));
+        kinds.map(move |(session, length)| Setting {
+            session,
+            n,
+            t,
+            length,
+            unhappy: usize::from(n > 1),
+        })
+    })
 }
 
 /// The calls of one session, and the tools on what is sent in it.
@@ -39,7 +49,7 @@ fn session(setting: Setting, visit: Visit) {
     let at = moments::<Proved>(setting);
     let message = setting.message(1);
     visit("open", &mut || {
-        Proved::open((setting.n, setting.t), 1, &message);
+        Proved::open(setting.session, (setting.n, setting.t), 1, &message);
     });
     by_sender(setting, &message, visit);
     happy_steps(&at, visit);
@@ -47,25 +57,25 @@ fn session(setting: Setting, visit: Visit) {
         unhappy_steps(setting.n, &at, visit);
     }
     no_state(&at, visit);
-    told(&at, visit);
+    told(setting.session, &at, visit);
     code(setting, &at, visit);
-    read(setting.n, &at, visit);
+    read(setting, &at, visit);
 }
 
 /// The openings by a sender, and its packet.
 fn by_sender(setting: Setting, message: &[u8], visit: Visit) {
-    let group = (setting.n, setting.t);
+    let (session, group) = (setting.session, (setting.n, setting.t));
     let mut packet = vec![0; MAX_MESSAGE_PACKET];
     let mut length = 0;
     visit("open_by_sender, the sender", &mut || {
-        (_, length) = Proved::open_by_sender(group, 1, message, &mut packet);
+        (_, length) = Proved::open_by_sender(session, group, 1, message, &mut packet);
     });
     visit("read_message", &mut || {
         accepted(calls::read_message(&packet[..length]));
     });
     if setting.n > 1 {
         visit("open_by_sender, its packet", &mut || {
-            Proved::open_by_sender(group, 2, &packet[..length], &mut []);
+            Proved::open_by_sender(session, group, 2, &packet[..length], &mut []);
         });
     }
 }
@@ -152,12 +162,13 @@ fn no_state(at: &Moments<Proved>, visit: Visit) {
 }
 
 /// What a state tells.
-fn told(at: &Moments<Proved>, visit: Visit) {
-    visit("result_length, stage, own", &mut || {
+fn told(session: u32, at: &Moments<Proved>, visit: Visit) {
+    visit("result_length, stage, own, session", &mut || {
         let state = at.relayed[0].state();
         assert_eq!(calls::result_length(state).cause, 6);
         assert_eq!(accepted(calls::stage(state)), 3);
         assert_eq!(accepted(calls::own(state)), 1);
+        assert_eq!(accepted(calls::session(state)), session);
     });
 }
 
@@ -175,13 +186,15 @@ fn code(setting: Setting, at: &Moments<Proved>, visit: Visit) {
         accepted(calls::rebuild(group, &shares, &mut out));
     });
     visit("rebuild_with_root", &mut || {
-        let rebuilt = calls::rebuild_with_root(group, &at.root, &shares, &mut out);
+        let (session, root) = (setting.session, &at.root);
+        let rebuilt = calls::rebuild_with_root(session, group, root, &shares, &mut out);
         accepted(rebuilt);
     });
 }
 
 /// What is done with a packet.
-fn read(n: usize, at: &Moments<Proved>, visit: Visit) {
+fn read(setting: Setting, at: &Moments<Proved>, visit: Visit) {
+    let Setting { session, n, .. } = setting;
     let mut relays = entries(&at.second).expect("entries");
     let relay = relays.next().expect("a relay");
     visit("read_packet", &mut || {
@@ -191,13 +204,13 @@ fn read(n: usize, at: &Moments<Proved>, visit: Visit) {
         return;
     };
     visit("check_path, a share", &mut || {
-        let passes = calls::check_path((n, 1), packet.share, packet.path, &at.root);
+        let passes = calls::check_path(session, (n, 1), packet.share, packet.path, &at.root);
         assert_eq!(accepted(passes), 1);
     });
 }
 
 /// The functions that take long strings.
-fn strings(visit: Visit) {
+fn strings(session: u32, visit: Visit) {
     let string = vec![7; MAX_HASHED];
     let mut digest = [0; HASH];
     visit("hash", &mut || {
@@ -205,8 +218,9 @@ fn strings(visit: Visit) {
     });
     let path = [0; MAX_PATH * HASH];
     visit("check_path, the longest string", &mut || {
-        let share = &string[..MAX_HASHED - 2];
-        let passes = calls::check_path((GREATEST.n, 1), share, &path, &digest);
+        let front = if session == 0 { 2 } else { 6 };
+        let share = &string[front..];
+        let passes = calls::check_path(session, (GREATEST.n, 1), share, &path, &digest);
         assert_eq!(accepted(passes), 0);
     });
 }

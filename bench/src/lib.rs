@@ -6,6 +6,7 @@ pub mod contest;
 pub mod every_call;
 pub mod growth;
 pub mod markdown;
+pub mod numbered;
 pub mod party;
 pub mod passes;
 pub mod plot;

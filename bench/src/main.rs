@@ -66,6 +66,11 @@ fn measure(others: &Others, rounds: u32) -> Result<Measured, Box<dyn Error>> {
     })
 }
 
+/// The blocks that SHA-256 makes of a string: 64 bytes each, with at least nine that fill it up.
+fn blocks(length: usize) -> usize {
+    (length + 9).div_ceil(64)
+}
+
 /// The sizes that the page speaks of, by their names there.
 fn sizes() -> Vec<(&'static str, String)> {
     let [short, long] = LENGTHS;
@@ -80,6 +85,10 @@ fn sizes() -> Vec<(&'static str, String)> {
         ("{shorter shares}", share(short)),
         ("{leaves}", 2 + share(long)),
         ("{shorter leaves}", 2 + share(short)),
+        ("{blocks}", blocks(2 + share(long))),
+        ("{shorter blocks}", blocks(2 + share(short))),
+        ("{numbered blocks}", blocks(6 + share(long))),
+        ("{shorter numbered blocks}", blocks(6 + share(short))),
         ("{hashed}", MAX_HASHED),
     ];
     let counts = counts.map(|(name, size)| (name, markdown::grouped(size)));
@@ -146,7 +155,7 @@ fn traffic_section(docs: &Path, measured: &Measured) -> Result<String, Box<dyn E
 }
 
 /// What the contests came to, by the names on the page.
-fn contest_texts(contests: &Tables) -> [(&'static str, String); 7] {
+fn contest_texts(contests: &Tables) -> [(&'static str, String); 8] {
     [
         ("{steps}", report::played(&contests.played)),
         ("{coder}", report::ratios(&contests.coder)),
@@ -155,6 +164,7 @@ fn contest_texts(contests: &Tables) -> [(&'static str, String); 7] {
         ("{reasons}", verdict::reasons(contests)),
         ("{grown}", report::grown(&contests.played)),
         ("{verdict}", verdict::growth(&contests.played)),
+        ("{numbered}", report::numbered(&contests.numbered)),
     ]
 }
 

@@ -7,9 +7,10 @@ use foreign::party::{Given, State};
 /// Each step changes the state that the caller keeps. The calls made here are lawful: a refusal ends
 /// the program.
 pub trait Party: Clone {
-    fn open(group: (usize, usize), own: usize, message: &[u8]) -> (Self, Hash);
+    fn open(session: u32, group: (usize, usize), own: usize, message: &[u8]) -> (Self, Hash);
     /// Party 1 is the sender; with the party comes the length of the packet that it wrote.
     fn open_by_sender(
+        session: u32,
         group: (usize, usize),
         own: usize,
         bytes: &[u8],
@@ -45,14 +46,16 @@ fn lawful(answer: Answer) -> usize {
 }
 
 impl Party for Proved {
-    fn open((n, t): (usize, usize), own: usize, message: &[u8]) -> (Self, Hash) {
-        let mut party = Proved([0; STATE]);
+    fn open(session: u32, (n, t): (usize, usize), own: usize, message: &[u8]) -> (Self, Hash) {
+        let (mut party, group) = (Proved([0; STATE]), (n, t, own));
         let mut root = [0; HASH];
-        lawful(calls::open((n, t, own), message, &mut party.0, &mut root));
+        let answer = calls::open(session, group, message, &mut party.0, &mut root);
+        lawful(answer);
         (party, root)
     }
 
     fn open_by_sender(
+        session: u32,
         (n, t): (usize, usize),
         own: usize,
         bytes: &[u8],
@@ -60,7 +63,8 @@ impl Party for Proved {
     ) -> (Self, usize) {
         let (mut party, group) = (Proved([0; STATE]), (n, t, own));
         let mut root = [0; HASH];
-        let answer = calls::open_by_sender(group, SENDER, bytes, &mut party.0, &mut root, out);
+        let state = &mut party.0;
+        let answer = calls::open_by_sender(session, group, SENDER, bytes, state, &mut root, out);
         (party, lawful(answer))
     }
 
@@ -91,19 +95,20 @@ impl Foreign {
 }
 
 impl Party for Foreign {
-    fn open((n, t): (usize, usize), own: usize, message: &[u8]) -> (Self, Hash) {
-        let (state, root) = State::open(n as u64, t as u64, own as u64, message);
+    fn open(session: u32, (n, t): (usize, usize), own: usize, message: &[u8]) -> (Self, Hash) {
+        let (state, root) = State::open(session, n as u64, t as u64, own as u64, message);
         (Foreign(state), root.expect(LAWFUL))
     }
 
     fn open_by_sender(
+        session: u32,
         (n, t): (usize, usize),
         own: usize,
         bytes: &[u8],
         out: &mut [u8],
     ) -> (Self, usize) {
         let (group, sender) = ((n as u64, t as u64), SENDER as u64);
-        let (state, begun) = State::open_by_sender(group, own as u64, sender, bytes, out);
+        let (state, begun) = State::open_by_sender(session, group, own as u64, sender, bytes, out);
         (Foreign(state), begun.expect(LAWFUL).written)
     }
 

@@ -3,6 +3,7 @@
 use crate::contest::{Grown, Times, FOREIGN, LENGTHS};
 use crate::growth::{Point, Sweep, STEPS};
 use crate::markdown::{figure, grouped, table};
+use crate::numbered::Numbered;
 use crate::plot::{Line, Plot};
 use crate::program;
 use crate::session::GREATEST;
@@ -62,6 +63,15 @@ pub fn grown(rows: &[Grown]) -> String {
     ];
     let line = |row: &Grown| named(row.work, row.factors());
     table(&head, &rows.iter().map(line).collect::<Vec<_>>())
+}
+
+/// What each work takes under a sitting number, where under 0 it takes 1.
+pub fn numbered(rows: &[Numbered]) -> String {
+    let lengths = LENGTHS.map(|length| format!("L {}", grouped(length)));
+    let head = std::iter::once("under a number to under 0".to_string()).chain(lengths);
+    let line = |row: &Numbered| named(row.work, row.ratios());
+    let rows: Vec<_> = rows.iter().map(line).collect();
+    table(&head.collect::<Vec<_>>(), &rows)
 }
 
 /// A row of figures.

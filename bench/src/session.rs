@@ -11,14 +11,16 @@ use crate::party::Party;
 /// first, whose root is agreed on. So is bit 1.
 #[derive(Clone, Copy)]
 pub struct Setting {
+    pub session: u32,
     pub n: usize,
     pub t: usize,
     pub length: usize,
     pub unhappy: usize,
 }
 
-/// The greatest session, of which all but the last party are happy.
+/// The greatest session, of which all but the last party are happy; its number is 0.
 pub const GREATEST: Setting = Setting {
+    session: 0,
     n: MAX_PARTIES,
     t: most_faults(MAX_PARTIES),
     length: MAX_MESSAGE,
@@ -67,8 +69,9 @@ pub struct Played {
 }
 
 fn open_all<P: Party>(setting: Setting, messages: &[Vec<u8>]) -> (Vec<P>, Hash) {
-    let group = (setting.n, setting.t);
-    let opened = (1..).zip(messages).map(|(own, m)| P::open(group, own, m));
+    let (session, group) = (setting.session, (setting.n, setting.t));
+    let open = |(own, message): (usize, &Vec<u8>)| P::open(session, group, own, message);
+    let opened = (1..).zip(messages).map(open);
     let (parties, roots): (Vec<P>, Vec<Hash>) = opened.unzip();
     (parties, roots[0])
 }

@@ -52,26 +52,28 @@ impl Step {
     }
 }
 
-type Work<'a> = Box<dyn FnMut() + 'a>;
+pub type Work<'a> = Box<dyn FnMut() + 'a>;
 
 /// An opening: the ordinary one, the sender's, or another party's from its packet.
 fn opening<'a, P: Party + 'a>(step: Step, setting: Setting) -> Work<'a> {
-    let group = (setting.n, setting.t);
+    let (session, group) = (setting.session, (setting.n, setting.t));
     let message = setting.message(1);
     let mut out = vec![0; MAX_MESSAGE_PACKET];
     match step {
         Step::Send => Box::new(move || {
-            black_box(P::open_by_sender(group, 1, black_box(&message), &mut out));
+            let opened = P::open_by_sender(session, group, 1, black_box(&message), &mut out);
+            black_box(opened);
         }),
         Step::Receive => {
-            let (_, length) = P::open_by_sender(group, 1, &message, &mut out);
+            let (_, length) = P::open_by_sender(session, group, 1, &message, &mut out);
             out.truncate(length);
             Box::new(move || {
-                black_box(P::open_by_sender(group, 2, black_box(&out), &mut []));
+                let opened = P::open_by_sender(session, group, 2, black_box(&out), &mut []);
+                black_box(opened);
             })
         }
         _ => Box::new(move || {
-            black_box(P::open(group, 1, black_box(&message)));
+            black_box(P::open(session, group, 1, black_box(&message)));
         }),
     }
 }

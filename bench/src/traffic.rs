@@ -32,6 +32,7 @@ pub fn traffic(length: usize) -> Vec<Traffic> {
             t,
             length,
             unhappy: 0,
+            ..GREATEST
         };
         let messages = vec![setting.message(1); n];
         let played = play::<Proved>(setting, &messages);

@@ -143,6 +143,7 @@ mod tests {
             played: vec![both, short],
             coder: Vec::new(),
             hash: Vec::new(),
+            numbered: Vec::new(),
         };
         let [a, b] = LENGTHS.map(grouped);
         let want = [

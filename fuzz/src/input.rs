@@ -63,6 +63,17 @@ impl<'a> Input<'a> {
         }
     }
 
+    /// A session number: the usual one, that with a bit turned, 0, the greatest, or any.
+    pub fn session(&mut self, usual: u32) -> u32 {
+        match self.byte() {
+            0 => usual,
+            byte @ 1..=32 => usual ^ (1 << (byte - 1)),
+            33..=63 => 0,
+            64..=95 => u32::MAX,
+            _ => u32::from_be_bytes([0; 4].map(|_: u8| self.byte())),
+        }
+    }
+
     /// A bit: 1 for a zero, 0 for a one, and what is none else, also such as would be a bit if it
     /// were cut.
     pub fn bit(&mut self) -> usize {

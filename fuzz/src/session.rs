@@ -9,7 +9,7 @@ use foreign::liars::Sharing;
 use crate::call::{Answer, Call, Lent};
 use crate::input::Input;
 use crate::lend::checked;
-use crate::reference::{AT_GROUP, AT_HELD, AT_LENGTH, AT_ROOT, AT_SHARE, AT_STAGE};
+use crate::reference::{AT_GROUP, AT_HELD, AT_LENGTH, AT_ROOT, AT_SESSION, AT_SHARE, AT_STAGE};
 
 const PARTIES: usize = 4;
 
@@ -36,6 +36,7 @@ struct Party {
 
 struct Session<'a> {
     input: Input<'a>,
+    session: u32,
     group: (usize, usize),
     message: Vec<u8>,
     parties: [Party; PARTIES],
@@ -46,8 +47,10 @@ struct Session<'a> {
 /// Plays the list of calls that the bytes say.
 pub fn play(bytes: &[u8]) {
     let mut input = Input::new(bytes);
+    let number = input.session(0);
     let n = 1 + input.below(MAX_PARTIES);
     let mut session = Session {
+        session: number,
         group: (n, input.below(n.div_ceil(2))),
         message: input.bytes(),
         input,
@@ -212,11 +215,17 @@ impl Session<'_> {
         inbox
     }
 
+    /// The number of this session, or another.
+    fn session(&mut self) -> u32 {
+        self.input.session(self.session)
+    }
+
     fn open(&mut self, party: usize) {
+        let session = self.session();
         let n = self.input.number(self.group.0);
         let t = self.input.number(self.group.1);
         let own = self.input.number(party + 1);
-        let call = Call::Open((n, t, own), self.message());
+        let call = Call::Open(session, (n, t, own), self.message());
         self.opened(party, &call, Vec::new());
     }
 
@@ -238,6 +247,7 @@ impl Session<'_> {
 
     /// As the sender, or from what comes of the sender.
     fn open_by_sender(&mut self, party: usize) {
+        let session = self.session();
         let n = self.input.number(self.group.0);
         let t = self.input.number(self.group.1);
         let own = self.input.number(party + 1);
@@ -247,7 +257,7 @@ impl Session<'_> {
             false => self.whole(),
         };
         let out = dirt(self.input.room(3 + bytes.len()));
-        let call = Call::OpenBySender((n, t, own), sender, bytes);
+        let call = Call::OpenBySender(session, (n, t, own), sender, bytes);
         if let Some((out, length @ 1..)) = self.opened(party, &call, out) {
             self.parties[party].whole = out[..length].to_vec();
         }
@@ -307,7 +317,7 @@ impl Session<'_> {
 
     /// Asks all that a state tells.
     fn ask(&mut self, party: usize) {
-        for call in [Call::ResultLength, Call::Stage, Call::Own] {
+        for call in [Call::ResultLength, Call::Stage, Call::Own, Call::Session] {
             self.made(party, &call);
         }
     }
@@ -325,6 +335,7 @@ impl Session<'_> {
     }
 
     fn check_path(&mut self) {
+        let session = self.session();
         let n = self.input.number(self.group.0);
         let number = self.input.number(1);
         let (mut share, mut path) = parts(&self.packet(number));
@@ -335,7 +346,7 @@ impl Session<'_> {
             4 => share.resize(LONG + self.input.below(16), 3),
             _ => share.resize(self.input.wide(LONG), 3),
         }
-        let call = Call::CheckPath((n, number), share, path, self.root());
+        let call = Call::CheckPath(session, (n, number), share, path, self.root());
         self.made(0, &call);
     }
 
@@ -374,10 +385,11 @@ impl Session<'_> {
     }
 
     fn rebuild_with_root(&mut self) {
+        let session = self.session();
         let n = self.input.number(self.group.0);
         let t = self.input.number(self.group.1);
         let entries = self.entries();
-        let call = Call::RebuildWithRoot((n, t), self.root(), entries);
+        let call = Call::RebuildWithRoot(session, (n, t), self.root(), entries);
         self.made(0, &call);
     }
 
@@ -391,10 +403,11 @@ impl Session<'_> {
     }
 
     /// Changes a party's state as no host should: bytes anywhere, the stage, a number, a length near
-    /// its limit, its own length, the root, the share held, the layout's version, or all of it.
+    /// its limit, its own length, the root, the share held, the layout's version, the session number, or
+    /// all of it.
     fn spoil(&mut self, party: usize) {
         let mut state = take(&mut self.parties[party].state);
-        match self.input.below(9) {
+        match self.input.below(10) {
             0 => self.input.bend(&mut state),
             1 => put(&mut state, AT_STAGE, &[self.input.byte() % 8]),
             2 => {
@@ -415,6 +428,7 @@ impl Session<'_> {
                 put(&mut state, AT_SHARE, &share);
             }
             7 => put(&mut state, 0, &[LAYOUT.wrapping_add(self.input.byte())]),
+            8 => put(&mut state, AT_SESSION, &self.session().to_be_bytes()),
             _ => state = dirt(self.input.room(STATE)),
         }
         self.parties[party].state = state;
@@ -423,16 +437,16 @@ impl Session<'_> {
     /// Gives a party the root and the packets of a frame that need not hold a message, as bad
     /// parties may make them, or of shares among which one was changed.
     fn forge(&mut self, party: usize) {
-        let (n, t) = self.group;
+        let (session, (n, t)) = (self.session(), self.group);
         let mut frame = self.input.bytes();
         let blocks = frame.len().div_ceil(n - t).max(1);
         frame.resize(blocks * (n - t), 0);
-        let mut sharing = Sharing::of_frame(n, t, &frame);
+        let mut sharing = Sharing::of_frame(session, n, t, &frame);
         let choice = self.input.byte();
         if choice >= 128 {
             let share = &mut sharing.shares[usize::from(choice) % n];
             self.input.bend(share);
-            sharing = Sharing::over(sharing.shares);
+            sharing = Sharing::over(session, sharing.shares);
         }
         self.parties[party].root = sharing.root.to_vec();
         (1..=n).for_each(|number| self.keep(party, number, &sharing.packet(number)));

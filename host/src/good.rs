@@ -82,8 +82,7 @@ fn open(options: &Options, links: &mut Links) -> Result<Opened, Failure> {
         Some(sender) if sender == own => send(options, links),
         Some(sender) => receive(options, links, sender),
         None => {
-            let message = options.message_of(own);
-            let (party, root) = Party::open(options.parties, options.faults, own, message)?;
+            let (party, root) = open_alone(options, own)?;
             Ok(Opened {
                 party,
                 root,
@@ -94,12 +93,19 @@ fn open(options: &Options, links: &mut Links) -> Result<Opened, Failure> {
     }
 }
 
+/// Step 1 with the own message.
+fn open_alone(options: &Options, own: usize) -> Result<(Party, Hash), Cause> {
+    let (session, message) = (options.session_told_to(own), options.message_of(own));
+    Party::open(session, options.parties, options.faults, own, message)
+}
+
 /// Step 1 of the sender, which gives its message to all others.
 fn send(options: &Options, links: &mut Links) -> Result<Opened, Failure> {
     let (n, t, own) = (options.parties, options.faults, links.own);
+    let (session, message) = (options.session_told_to(own), options.message_of(own));
     let mut packet = vec![0; MAX_MESSAGE_PACKET];
-    let message = options.message_of(own);
-    let (party, root, length) = Party::open_as_sender(n, t, own, message, &mut packet)?;
+    let opened = Party::open_as_sender(session, n, t, own, message, &mut packet)?;
+    let (party, root, length) = opened;
     packet.truncate(length);
     delay(options, own, SENDERS);
     links.send(SENDERS, &vec![packet; n]);
@@ -124,7 +130,8 @@ fn receive(options: &Options, links: &Links, sender: usize) -> Result<Opened, Fa
             came: read.is_err(),
         }),
     };
-    let (party, root) = Party::open_from_sender(n, t, own, sender, &packet)?;
+    let session = options.session_told_to(own);
+    let (party, root) = Party::open_from_sender(session, n, t, own, sender, &packet)?;
     Ok(Opened {
         party,
         root,
@@ -190,8 +197,7 @@ pub fn run(
 /// What somebody who should not puts in the place of a party's state: that of one whose own root
 /// was agreed on. The party now takes itself for happy.
 fn meddled(options: &Options, own: usize) -> Result<Party, Cause> {
-    let message = options.message_of(own);
-    let (mut party, root) = Party::open(options.parties, options.faults, own, message)?;
+    let (mut party, root) = open_alone(options, own)?;
     party.agree_root(&root)?;
     party.agree_bit(true, &mut [0; MAX_OUTBOX])?;
     Party::from_state(party.state())

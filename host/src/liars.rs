@@ -27,6 +27,8 @@ pub enum Lie {
     Split,
     /// Insists on another message, whatever was agreed.
     OtherMessage,
+    /// Plays another session: the same message under another number.
+    OtherSession,
     /// Shares, and as the sender a message, that are a byte longer than any may be.
     TooLong,
     /// Sends on, as its own, what it heard from somebody else in the same exchange.
@@ -35,11 +37,12 @@ pub enum Lie {
     Forge,
 }
 
-const NAMES: [(&str, Lie); 7] = [
+const NAMES: [(&str, Lie); 8] = [
     ("silent", Lie::Silent),
     ("noise", Lie::Noise),
     ("split", Lie::Split),
     ("other-book", Lie::OtherMessage),
+    ("other-sitting", Lie::OtherSession),
     ("too-long", Lie::TooLong),
     ("replay", Lie::Replay),
     ("forge", Lie::Forge),
@@ -74,9 +77,15 @@ struct Honest {
 }
 
 impl Honest {
-    fn of(parties: usize, faults: usize, own: usize, message: &[u8]) -> Result<Honest, Cause> {
+    fn of(
+        session: u32,
+        parties: usize,
+        faults: usize,
+        own: usize,
+        message: &[u8],
+    ) -> Result<Honest, Cause> {
         let mut whole = vec![0; MAX_MESSAGE_PACKET];
-        let opened = Party::open_as_sender(parties, faults, own, message, &mut whole)?;
+        let opened = Party::open_as_sender(session, parties, faults, own, message, &mut whole)?;
         let (mut party, root, length) = opened;
         whole.truncate(length);
         party.agree_root(&root)?;
@@ -119,7 +128,11 @@ impl Liar {
             Lie::OtherMessage => &other[..],
             _ => message,
         };
-        let honest = Honest::of(options.parties, options.faults, own, message)?;
+        let session = match lie {
+            Lie::OtherSession => options.other_session(),
+            _ => options.session,
+        };
+        let honest = Honest::of(session, options.parties, options.faults, own, message)?;
         Ok(Liar {
             lie,
             own,
@@ -192,7 +205,7 @@ impl Liar {
             Lie::Noise => noise(exchange, &chance),
             Lie::Split if exchange == SENDERS && chance[1].is_multiple_of(3) => return None,
             Lie::Split if chance[0].is_multiple_of(2) => turned(exchange, honest),
-            Lie::Split | Lie::OtherMessage => honest.to_vec(),
+            Lie::Split | Lie::OtherMessage | Lie::OtherSession => honest.to_vec(),
             Lie::TooLong => too_long(exchange, place + 1, self.own),
             Lie::Replay => heard
                 .iter()
@@ -270,10 +283,10 @@ mod tests {
     use super::*;
     use std::collections::BTreeSet;
 
-    use cipangohu::read_message;
+    use cipangohu::{check_path, read_message, read_packet};
 
     fn liar(lie: Lie, seed: u64) -> Liar {
-        let line = format!("--parties 5 --faults 2 --book 4142 --seed {seed}");
+        let line = format!("--sitting 7 --parties 5 --faults 2 --book 4142 --seed {seed}");
         let words: Vec<String> = line.split(' ').map(String::from).collect();
         Liar::new(lie, 5, &Options::parse(&words).unwrap()).unwrap()
     }
@@ -294,7 +307,7 @@ mod tests {
 
     #[test]
     fn a_splitter_is_honest_to_some() {
-        let honest = Honest::of(5, 2, 5, b"AB").unwrap();
+        let honest = Honest::of(7, 5, 2, 5, b"AB").unwrap();
         let mut good = 0;
         for seed in 0..10 {
             let liar = liar(Lie::Split, seed);
@@ -318,7 +331,7 @@ mod tests {
 
     #[test]
     fn the_others_say_what_they_are_named_for() {
-        let honest = Honest::of(5, 2, 5, b"AB").unwrap();
+        let honest = Honest::of(7, 5, 2, 5, b"AB").unwrap();
         let other = liar(Lie::OtherMessage, 0);
         assert_ne!(other.values()[0], honest.root);
         assert_ne!(said(&other, FIRST, 0, &[]), honest.packets[0]);
@@ -333,6 +346,22 @@ mod tests {
             assert!(noises.iter().any(|noise| noise.first() == Some(&map)));
             assert!(noises.iter().any(|noise| noise.len() > MAX_PACKET));
             assert!(noises.iter().all(|noise| noise.len() < 2 * MAX_PACKET));
+        }
+    }
+
+    /// The same shares and the same whole message, but its paths lead to another root.
+    #[test]
+    fn packets_of_another_session() {
+        let honest = Honest::of(7, 5, 2, 5, b"AB").unwrap();
+        let other = liar(Lie::OtherSession, 0);
+        assert_eq!(said(&other, SENDERS, 0, &[]), honest.whole);
+        for exchange in [FIRST, SECOND] {
+            let packet = said(&other, exchange, 0, &[]);
+            let read = read_packet(5, &packet).unwrap().expect("a share");
+            let right = read_packet(5, honest.packet(exchange, 0)).unwrap();
+            assert_eq!(right.map(|it| it.share), Some(read.share));
+            let passes = check_path(7, 5, read.number, read.share, read.path, &honest.root);
+            assert_eq!(passes, Ok(false));
         }
     }
 

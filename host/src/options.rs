@@ -12,13 +12,15 @@ use crate::liars::Lie;
 use crate::wire::{FIRST, SENDERS};
 
 pub const USAGE: &str = "usage: host --parties N --faults T --book BOOK [--own-book I=BOOK]...
-            [--lie I=LIE]... [--limit-ms MS] [--seed S] [--break DUTY] [--screen I]
+            [--sitting K] [--lie I=LIE]... [--limit-ms MS] [--seed S] [--break DUTY]
+            [--screen I]
        host --parties N --faults T --book BOOK --sender J ...
   BOOK  hexadecimal bytes, or the name of a file
-  LIE   silent, noise, split, other-book, too-long, replay or forge
+  K     the sitting number, 0 to 4294967295; 0 if left out
+  LIE   silent, noise, split, other-book, other-sitting, too-long, replay or forge
   MS    milliseconds, the time limit of each exchange; 500 if left out
   S     a number that settles what liars do by chance; 0 if left out
-  DUTY  forge, clock, agreement, state or sender, which the host then does badly
+  DUTY  forge, clock, agreement, state, sender or sitting, which the host then does badly
   I     a box; the screen reads a good one's result again when the sitting is over
   J     the box that alone has the book and gives it to all others";
 
@@ -36,10 +38,14 @@ pub enum Duty {
     State,
     /// The sender's name: the lowest-numbered good party beside the sender is told another one.
     Sender,
+    /// The session number: the highest-numbered good party is told another one.
+    Session,
 }
 
 #[derive(Debug)]
 pub struct Options {
+    /// The sitting number.
+    pub session: u32,
     pub parties: usize,
     pub faults: usize,
     message: Vec<u8>,
@@ -66,6 +72,7 @@ impl FromStr for Duty {
             "agreement" => Ok(Duty::Agreement),
             "state" => Ok(Duty::State),
             "sender" => Ok(Duty::Sender),
+            "sitting" => Ok(Duty::Session),
             _ => Err(format!("{text} is no duty\n{USAGE}")),
         }
     }
@@ -100,6 +107,7 @@ fn of_party(text: &str) -> Result<(usize, &str), String> {
 impl Options {
     pub fn parse(arguments: &[String]) -> Result<Options, String> {
         let mut options = Options {
+            session: 0,
             parties: 0,
             faults: 0,
             message: Vec::new(),
@@ -132,6 +140,7 @@ impl Options {
 
     fn set(&mut self, name: &str, value: &str) -> Result<(), String> {
         match name {
+            "--sitting" => self.session = number(value)?,
             "--parties" => self.parties = number(value)?,
             "--faults" => self.faults = number(value)?,
             "--book" => self.message = message(value)?,
@@ -198,6 +207,20 @@ impl Options {
         }
     }
 
+    /// The session number that a party is told. Where that duty is broken, one party is told another.
+    pub fn session_told_to(&self, own: usize) -> u32 {
+        let misled = self.good().next_back() == Some(own);
+        match misled && self.breaks(Duty::Session) {
+            true => self.other_session(),
+            false => self.session,
+        }
+    }
+
+    /// A number that is not this session's.
+    pub fn other_session(&self) -> u32 {
+        self.session ^ 1
+    }
+
     /// The sender that a party is told. Where that duty is broken, one party is told another.
     pub fn sender_told_to(&self, own: usize) -> Option<usize> {
         let sender = self.sender?;
@@ -252,7 +275,7 @@ mod tests {
     fn a_whole_line() {
         let line =
             "--parties 5 --faults 2 --book 4142 --own-book 3=43 --lie 4=noise --lie 5=split \
-                    --limit-ms 70 --seed 9 --break clock --screen 2";
+                    --limit-ms 70 --seed 9 --break clock --screen 2 --sitting 4294967295";
         let options = parsed(line).unwrap();
         assert_eq!((options.parties, options.faults, options.seed), (5, 2, 9));
         assert_eq!(
@@ -267,6 +290,19 @@ mod tests {
         assert_eq!((options.sender, options.holders()), (None, 1..=5));
         assert!(options.is_late(1, FIRST) && !options.is_late(1, SENDERS));
         assert_eq!(options.spread(), options.limit);
+        assert!((1..=3).all(|own| options.session_told_to(own) == u32::MAX));
+    }
+
+    #[test]
+    fn one_party_is_told_another_session() {
+        let line = "--parties 3 --faults 1 --book 4142 --lie 3=noise";
+        let told = |line: &str| {
+            let options = parsed(line).unwrap();
+            (1..=2).map(|own| options.session_told_to(own)).collect()
+        };
+        let [usual, broken]: [Vec<u32>; 2] =
+            [line, &format!("{line} --sitting 7 --break sitting")].map(told);
+        assert_eq!((usual, broken), (vec![0, 0], vec![7, 6]));
     }
 
     #[test]
@@ -305,6 +341,10 @@ mod tests {
             "--sender 4",
             "--sender 2 --own-book 2=42",
             "--break sender",
+            "--sitting 4294967296",
+            "--sitting -1",
+            "--sitting seven",
+            "--sitting",
         ] {
             assert!(parsed(&format!("{few} {more}")).is_err(), "{more}");
         }

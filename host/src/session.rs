@@ -102,6 +102,7 @@ fn screen(process: &mut Process) {
 fn check_openings(options: &Options) -> Result<(), String> {
     for own in options.holders() {
         Party::open(
+            options.session,
             options.parties,
             options.faults,
             own,

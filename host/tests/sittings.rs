@@ -15,11 +15,12 @@ const LONGEST: Duration = Duration::from_secs(60);
 /// The time limit of an exchange, ample for a busy machine.
 const LIMIT: &str = "--limit-ms 1500";
 
-const LIES: [&str; 7] = [
+const LIES: [&str; 8] = [
     "silent",
     "noise",
     "split",
     "other-book",
+    "other-sitting",
     "too-long",
     "replay",
     "forge",
@@ -163,13 +164,15 @@ fn a_good_sender_among_liars() {
 }
 
 /// What may come of a sender that lies: of one that says nothing that can be read the empty book, of
-/// another one of its books or nothing. All good boxes have the same.
+/// another one of its books or nothing. A sender's packet tells no sitting number. All good boxes have
+/// the same.
 fn of_a_bad_sender(lie: &str) -> &'static [&'static str] {
     // SHA-256 of the book 4142.
     const OTHER: &str = "= 38164fbd17603d73f696b8b4d72664d735bb6a7c88577687fd2ae33fd6964153";
     match lie {
         "split" => &["= 4142", "= 4042", "=", "-"],
         "other-book" => &[OTHER],
+        "other-sitting" => &["= 4142"],
         _ => &["="],
     }
 }
@@ -239,13 +242,14 @@ fn a_good_senders_book_that_is_lost_is_told() {
     }
 }
 
+/// All lies but one, which are as many as may be.
 #[test]
-fn every_lie_at_once() {
-    let lies: Vec<String> = (2..)
-        .zip(LIES)
-        .map(|(own, lie)| format!("--lie {own}={lie}"))
-        .collect();
+fn seven_lies_at_once() {
     for seed in 1..=3 {
+        let lies: Vec<String> = (2..)
+            .zip(LIES.iter().cycle().skip(seed).take(7))
+            .map(|(own, lie)| format!("--lie {own}={lie}"))
+            .collect();
         let words = format!(
             "--parties 15 --faults 7 --book 00ff --seed {seed} {LIMIT} {}",
             lies.join(" ")
@@ -293,6 +297,19 @@ fn worked_sittings() {
     for words in ["", "--sender 1"] {
         let alone = host(&format!("--parties 1 --faults 0 --book 4142 {words}"));
         assert_eq!(alone.lines[..2], ["1 = 4142", "sent 0"]);
+    }
+}
+
+/// The number of a sitting changes neither its results nor how much is sent.
+#[test]
+fn sittings_of_any_number() {
+    let words = "--parties 5 --faults 2 --book 4142 --own-book 3=43 --lie 4=other-sitting \
+                 --lie 5=split --seed 3";
+    let usual = host(&format!("{words} {LIMIT}")).lines;
+    assert_eq!(usual[..3], ["1 = 4142", "2 = 4142", "3 = 4142"]);
+    for number in [0, 1, 255, 0x0100_0000, u32::MAX] {
+        let run = host(&format!("{words} {LIMIT} --sitting {number}"));
+        assert_eq!((run.status, &run.lines), (0, &usual), "{number}");
     }
 }
 
@@ -346,7 +363,7 @@ fn messages_from_files_and_of_any_length() {
 fn a_broken_duty_breaks_the_sitting() {
     let words = format!("--parties 3 --faults 1 --book 41 --own-book 2=42 --lie 3=forge {LIMIT}");
     settles(&words, 2, &["= 41"]);
-    for duty in ["forge", "clock", "agreement", "state"] {
+    for duty in ["forge", "clock", "agreement", "state", "sitting"] {
         let run = host(&format!("{words} --break {duty}"));
         assert_eq!(run.status, 1, "{duty}: {:?}", run.lines);
         let results = run.results();
@@ -392,6 +409,7 @@ fn wrong_words_are_refused() {
         "--parties 3 --faults 1 --book 41 --sender 4",
         "--parties 3 --faults 1 --book 41 --sender 2 --own-book 2=42",
         "--parties 3 --faults 1 --book 41 --break sender",
+        "--parties 3 --faults 1 --book 41 --sitting 4294967296",
     ] {
         let run = host(words);
         assert_eq!((run.status, run.lines.len()), (2, 0), "{words}");

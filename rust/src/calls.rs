@@ -30,6 +30,7 @@ mod archive {
 
     extern "C" {
         pub fn cipangohu_open(
+            session: u32,
             n: usize,
             t: usize,
             own: usize,
@@ -41,6 +42,7 @@ mod archive {
             root_len: usize,
         ) -> Answer;
         pub fn cipangohu_open_by_sender(
+            session: u32,
             n: usize,
             t: usize,
             own: usize,
@@ -86,9 +88,11 @@ mod archive {
         pub fn cipangohu_result_length(state: *const u8, state_len: usize) -> Answer;
         pub fn cipangohu_stage(state: *const u8, state_len: usize) -> Answer;
         pub fn cipangohu_own(state: *const u8, state_len: usize) -> Answer;
+        pub fn cipangohu_session(state: *const u8, state_len: usize) -> Answer;
         pub fn cipangohu_read_packet(n: usize, packet: *const u8, packet_len: usize) -> Answer;
         pub fn cipangohu_read_message(packet: *const u8, packet_len: usize) -> Answer;
         pub fn cipangohu_check_path(
+            session: u32,
             n: usize,
             j: usize,
             share: *const u8,
@@ -115,6 +119,7 @@ mod archive {
             out_len: usize,
         ) -> Answer;
         pub fn cipangohu_rebuild_with_root(
+            session: u32,
             n: usize,
             t: usize,
             root: *const u8,
@@ -136,6 +141,7 @@ mod archive {
 }
 
 pub fn open(
+    session: u32,
     (n, t, own): (usize, usize, usize),
     message: &[u8],
     state: &mut [u8],
@@ -144,6 +150,7 @@ pub fn open(
     // SAFETY: each pointer comes with its slice's length; slices that are written overlap no other.
     unsafe {
         archive::cipangohu_open(
+            session,
             n,
             t,
             own,
@@ -158,6 +165,7 @@ pub fn open(
 }
 
 pub fn open_by_sender(
+    session: u32,
     (n, t, own): (usize, usize, usize),
     sender: usize,
     bytes: &[u8],
@@ -168,6 +176,7 @@ pub fn open_by_sender(
     // SAFETY: each pointer comes with its slice's length; slices that are written overlap no other.
     unsafe {
         archive::cipangohu_open_by_sender(
+            session,
             n,
             t,
             own,
@@ -244,6 +253,10 @@ pub fn own(state: &[u8]) -> Answer {
     tell(archive::cipangohu_own, state)
 }
 
+pub fn session(state: &[u8]) -> Answer {
+    tell(archive::cipangohu_session, state)
+}
+
 pub fn read_packet(n: usize, packet: &[u8]) -> Answer {
     // SAFETY: the pointer comes with its slice's length, and nothing is written.
     unsafe { archive::cipangohu_read_packet(n, packet.as_ptr(), packet.len()) }
@@ -253,10 +266,17 @@ pub fn read_message(packet: &[u8]) -> Answer {
     tell(archive::cipangohu_read_message, packet)
 }
 
-pub fn check_path((n, j): (usize, usize), share: &[u8], path: &[u8], root: &[u8]) -> Answer {
+pub fn check_path(
+    session: u32,
+    (n, j): (usize, usize),
+    share: &[u8],
+    path: &[u8],
+    root: &[u8],
+) -> Answer {
     // SAFETY: each pointer comes with its slice's length, and nothing is written.
     unsafe {
         archive::cipangohu_check_path(
+            session,
             n,
             j,
             share.as_ptr(),
@@ -289,6 +309,7 @@ pub fn rebuild(group: (usize, usize), entries: &[u8], out: &mut [u8]) -> Answer 
 }
 
 pub fn rebuild_with_root(
+    session: u32,
     (n, t): (usize, usize),
     root: &[u8],
     entries: &[u8],
@@ -297,6 +318,7 @@ pub fn rebuild_with_root(
     // SAFETY: each pointer comes with its slice's length; the buffer overlaps no other slice.
     unsafe {
         archive::cipangohu_rebuild_with_root(
+            session,
             n,
             t,
             root.as_ptr(),

@@ -8,7 +8,7 @@ use core::fmt;
 /// ```
 /// use cipangohu::{Cause, Party};
 ///
-/// let refused = Party::open(4, 2, 1, b"AB").unwrap_err();
+/// let refused = Party::open(7, 4, 2, 1, b"AB").unwrap_err();
 /// assert_eq!((refused, refused.number()), (Cause::Faults, 2));
 /// assert_eq!(
 ///     refused.to_string(),

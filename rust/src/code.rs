@@ -48,7 +48,8 @@ pub fn rebuild<S: AsRef<[u8]>>(n: usize, t: usize, shares: &[S]) -> Result<Vec<u
 }
 
 /// The message that the shares of parties 1 to n give, if its root is this one. The root of a message is
-/// the one that [`Party::open`](crate::Party::open) gives, with this n and t. With the feature `alloc`.
+/// the one that [`Party::open`](crate::Party::open) gives, with this session number, n and t. With the
+/// feature `alloc`.
 ///
 /// Shares are used as by [`rebuild`], and what they give is coded again.
 ///
@@ -59,25 +60,27 @@ pub fn rebuild<S: AsRef<[u8]>>(n: usize, t: usize, shares: &[S]) -> Result<Vec<u
 /// use cipangohu::{rebuild, rebuild_with_root, shares, Cause, Party};
 ///
 /// # fn main() -> Result<(), Cause> {
-/// let (_, root) = Party::open(3, 1, 1, b"Unit 7")?;
+/// let (_, root) = Party::open(5, 3, 1, 1, b"Unit 7")?;
 /// let mut shares = shares(3, 1, b"Unit 7")?;
-/// assert_eq!(rebuild_with_root(3, 1, &root, &shares)?, b"Unit 7");
+/// assert_eq!(rebuild_with_root(5, 3, 1, &root, &shares)?, b"Unit 7");
+/// assert_eq!(rebuild_with_root(6, 3, 1, &root, &shares), Err(Cause::OtherRoot));
 /// shares[0][3] ^= 1;
 /// assert_ne!(rebuild(3, 1, &shares)?, b"Unit 7");
-/// assert_eq!(rebuild_with_root(3, 1, &root, &shares), Err(Cause::OtherRoot));
+/// assert_eq!(rebuild_with_root(5, 3, 1, &root, &shares), Err(Cause::OtherRoot));
 /// shares[0].clear();
-/// assert_eq!(rebuild_with_root(3, 1, &root, &shares)?, b"Unit 7");
+/// assert_eq!(rebuild_with_root(5, 3, 1, &root, &shares)?, b"Unit 7");
 /// # Ok(())
 /// # }
 /// ```
 pub fn rebuild_with_root<S: AsRef<[u8]>>(
+    session: u32,
     n: usize,
     t: usize,
     root: &Hash,
     shares: &[S],
 ) -> Result<Vec<u8>, Cause> {
     let mut out = vec![0; MAX_MESSAGE];
-    let length = calls::rebuild_with_root((n, t), root, &lay_out(shares), &mut out).accepted()?;
-    out.truncate(length as usize);
+    let answer = calls::rebuild_with_root(session, (n, t), root, &lay_out(shares), &mut out);
+    out.truncate(answer.accepted()? as usize);
     Ok(out)
 }

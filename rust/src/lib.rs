@@ -2,6 +2,10 @@
 //! types. A party is one box of a sitting, and a message is a test book; documents for people say
 //! box and book.
 //!
+//! A session has a number, the sitting number in documents for people, and all good parties open
+//! with the same one. A message has another root in a session of another number, and packets of the
+//! one fail the check in the other.
+//!
 //! A call is accepted, or turned away with a [`Cause`] and nothing changed; none panics. What the
 //! host owes is told in docs/HOSTING.md. The crate needs no standard library; what needs an
 //! allocator, `lay_out`, `shares`, `rebuild` and `rebuild_with_root`, stands behind the feature
@@ -12,7 +16,7 @@
 //!
 //! # fn main() -> Result<(), cipangohu::Cause> {
 //! // A party alone: the agreements give back what it puts in, and nobody sends it anything.
-//! let (mut party, root) = Party::open(1, 0, 1, b"AB")?;
+//! let (mut party, root) = Party::open(7, 1, 0, 1, b"AB")?;
 //! let happy = party.agree_root(&root)?;
 //! let mut out = [0; MAX_OUTBOX];
 //! party.agree_bit(happy, &mut out)?;

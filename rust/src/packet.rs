@@ -23,14 +23,15 @@ pub struct Packet<'a> {
 /// use cipangohu::{check_path, entries, read_packet, Party, MAX_OUTBOX};
 ///
 /// # fn main() -> Result<(), cipangohu::Cause> {
-/// let (mut party, root) = Party::open(3, 1, 1, b"AB")?;
+/// let (mut party, root) = Party::open(7, 3, 1, 1, b"AB")?;
 /// party.agree_root(&root)?;
 /// let mut out = [0; MAX_OUTBOX];
 /// let length = party.agree_bit(true, &mut out)?;
 /// let second = entries(&out[..length]).and_then(|mut entries| entries.nth(1));
 /// let packet = read_packet(3, second.unwrap())?.unwrap();
 /// assert_eq!((packet.number, packet.share), (2, &[0x82, 0x86][..]));
-/// assert!(check_path(3, 2, packet.share, packet.path, &root)?);
+/// assert!(check_path(7, 3, 2, packet.share, packet.path, &root)?);
+/// assert!(!check_path(8, 3, 2, packet.share, packet.path, &root)?);
 /// assert_eq!(read_packet(3, b"")?, None);
 /// # Ok(())
 /// # }
@@ -71,16 +72,18 @@ pub fn read_message(packet: &[u8]) -> Result<Option<&[u8]>, Cause> {
     }
 }
 
-/// Whether the path leads from share j of n to the root; not, if it has another length than n and j
-/// give. Causes: [`Cause::Parties`], [`Cause::Number`], and [`Cause::Length`] for a share of more than
-/// [`MAX_HASHED`](crate::MAX_HASHED) − 2 bytes.
+/// Whether the path leads from share j of n to the root, in the session of this number; not, if it has
+/// another length than n and j give. Causes: [`Cause::Parties`], [`Cause::Number`], and
+/// [`Cause::Length`] for a share of more than [`MAX_HASHED`](crate::MAX_HASHED) − 2 bytes under session
+/// number 0, more than [`MAX_HASHED`](crate::MAX_HASHED) − 6 under any other.
 pub fn check_path(
+    session: u32,
     n: usize,
     j: usize,
     share: &[u8],
     path: &[u8],
     root: &Hash,
 ) -> Result<bool, Cause> {
-    let passes = calls::check_path((n, j), share, path, root);
+    let passes = calls::check_path(session, (n, j), share, path, root);
     Ok(passes.accepted()? == 1)
 }

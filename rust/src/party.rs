@@ -44,11 +44,13 @@ const STAGES: [Stage; 6] = [
     Stage::EndedWithMessage,
 ];
 
-/// What the bytes of a state say of its party; [`Cause::State`] if they are none.
-fn told(state: &[u8]) -> Result<(Stage, usize), Cause> {
+/// What the bytes of a state say of its party: session number, own number and stage; [`Cause::State`]
+/// if they are none.
+fn told(state: &[u8]) -> Result<(u32, usize, Stage), Cause> {
+    let session = calls::session(state).accepted()?;
+    let own = calls::own(state).accepted()? as usize;
     let stage = calls::stage(state).accepted()? as usize;
-    let stage = STAGES.get(stage).ok_or(Cause::State)?;
-    Ok((*stage, calls::own(state).accepted()? as usize))
+    Ok((session, own, *STAGES.get(stage).ok_or(Cause::State)?))
 }
 
 /// A party, by its state. It cannot be cloned: a step done twice from one state would send two
@@ -57,26 +59,34 @@ fn told(state: &[u8]) -> Result<(Stage, usize), Cause> {
 #[derive(PartialEq, Eq)]
 pub struct Party {
     state: [u8; STATE],
-    stage: Stage,
+    session: u32,
     own: usize,
+    stage: Stage,
 }
 
 impl fmt::Debug for Party {
-    /// Own number and stage: the state has too many bytes to read.
+    /// Numbers and stage: the state has too many bytes to read.
     fn fmt(&self, f: &mut fmt::Formatter) -> fmt::Result {
         let mut shown = f.debug_struct("Party");
+        shown.field("session", &self.session);
         shown.field("own", &self.own).field("stage", &self.stage);
         shown.finish_non_exhaustive()
     }
 }
 
 impl Party {
-    /// Step 1: party `own` of n, of which t may be bad, opens with a message. With it comes the root
-    /// that goes to the short agreement; the state does not give it again, nor n and t. Causes: [`Cause::Parties`], [`Cause::Faults`],
-    /// [`Cause::Number`], [`Cause::Length`].
-    pub fn open(n: usize, t: usize, own: usize, message: &[u8]) -> Result<(Party, Hash), Cause> {
+    /// Step 1: party `own` of n, of which t may be bad, opens with a message, in the session of this
+    /// number. With it comes the root that goes to the short agreement; the state does not give it again,
+    /// nor n and t. Causes: [`Cause::Parties`], [`Cause::Faults`], [`Cause::Number`], [`Cause::Length`].
+    pub fn open(
+        session: u32,
+        n: usize,
+        t: usize,
+        own: usize,
+        message: &[u8],
+    ) -> Result<(Party, Hash), Cause> {
         let (mut state, mut root) = ([0; STATE], [0; HASH]);
-        calls::open((n, t, own), message, &mut state, &mut root).accepted()?;
+        calls::open(session, (n, t, own), message, &mut state, &mut root).accepted()?;
         Ok((Party::from_state(&state)?, root))
     }
 
@@ -90,26 +100,27 @@ impl Party {
     /// use cipangohu::{Cause, Party, MAX_MESSAGE_PACKET};
     ///
     /// # fn main() -> Result<(), Cause> {
-    /// // Party 2 of 3 has the message.
+    /// // In session 7 party 2 of 3 has the message.
     /// let mut out = [0; MAX_MESSAGE_PACKET];
-    /// let (_, root, length) = Party::open_as_sender(3, 1, 2, b"AB", &mut out)?;
+    /// let (_, root, length) = Party::open_as_sender(7, 3, 1, 2, b"AB", &mut out)?;
     /// let packet = &out[..length];
     /// // Party 1 gets the packet, party 3 only its first two bytes, and so it opens with the empty message.
-    /// let (_, first) = Party::open_from_sender(3, 1, 1, 2, packet)?;
-    /// let (_, third) = Party::open_from_sender(3, 1, 3, 2, &packet[..2])?;
+    /// let (_, first) = Party::open_from_sender(7, 3, 1, 1, 2, packet)?;
+    /// let (_, third) = Party::open_from_sender(7, 3, 1, 3, 2, &packet[..2])?;
     /// assert_eq!(first, root);
-    /// assert_eq!(third, Party::open(3, 1, 3, b"")?.1);
+    /// assert_eq!(third, Party::open(7, 3, 1, 3, b"")?.1);
     /// # Ok(())
     /// # }
     /// ```
     pub fn open_as_sender(
+        session: u32,
         n: usize,
         t: usize,
         own: usize,
         message: &[u8],
         out: &mut [u8],
     ) -> Result<(Party, Hash, usize), Cause> {
-        Party::open_by_sender((n, t, own), own, message, out)
+        Party::open_by_sender(session, (n, t, own), own, message, out)
     }
 
     /// Step 1 of any other party, which is handed the packet that came from the sender, as it came, or no
@@ -118,6 +129,7 @@ impl Party {
     /// tells. Causes: [`Cause::Parties`], [`Cause::Faults`], and [`Cause::Number`], also where the
     /// sender is the party itself.
     pub fn open_from_sender(
+        session: u32,
         n: usize,
         t: usize,
         own: usize,
@@ -126,18 +138,20 @@ impl Party {
     ) -> Result<(Party, Hash), Cause> {
         // The library would take the sender's own bytes for its message. 0 is no party's number.
         let sender = if sender == own { 0 } else { sender };
-        let (party, root, _) = Party::open_by_sender((n, t, own), sender, packet, &mut [])?;
-        Ok((party, root))
+        let opened = Party::open_by_sender(session, (n, t, own), sender, packet, &mut []);
+        opened.map(|(party, root, _)| (party, root))
     }
 
     fn open_by_sender(
+        session: u32,
         group: (usize, usize, usize),
         sender: usize,
         bytes: &[u8],
         out: &mut [u8],
     ) -> Result<(Party, Hash, usize), Cause> {
         let (mut state, mut root) = ([0; STATE], [0; HASH]);
-        let answer = calls::open_by_sender(group, sender, bytes, &mut state, &mut root, out);
+        let answer =
+            calls::open_by_sender(session, group, sender, bytes, &mut state, &mut root, out);
         let length = answer.accepted()? as usize;
         Ok((Party::from_state(&state)?, root, length))
     }
@@ -150,7 +164,7 @@ impl Party {
     /// use cipangohu::{Cause, Party};
     ///
     /// # fn main() -> Result<(), Cause> {
-    /// let (party, _) = Party::open(3, 1, 2, b"AB")?;
+    /// let (party, _) = Party::open(7, 3, 1, 2, b"AB")?;
     /// let saved = party.state().to_vec();
     /// assert_eq!(Party::from_state(&saved)?, party);
     /// assert_eq!(Party::from_state(&saved[1..]), Err(Cause::State));
@@ -158,14 +172,23 @@ impl Party {
     /// # }
     /// ```
     pub fn from_state(state: &[u8]) -> Result<Party, Cause> {
-        let (stage, own) = told(state)?;
-        let state = *state.first_chunk().ok_or(Cause::State)?;
-        Ok(Party { state, stage, own })
+        let (session, own, stage) = told(state)?;
+        Ok(Party {
+            state: *state.first_chunk().ok_or(Cause::State)?,
+            session,
+            own,
+            stage,
+        })
     }
 
     /// The state, to be saved.
     pub fn state(&self) -> &[u8; STATE] {
         &self.state
+    }
+
+    /// The number of the session that the party was opened in.
+    pub fn session(&self) -> u32 {
+        self.session
     }
 
     /// The party's number, from 1.
@@ -229,7 +252,7 @@ impl Party {
     /// use cipangohu::{Cause, Outcome, Party};
     ///
     /// # fn main() -> Result<(), Cause> {
-    /// let (mut party, root) = Party::open(1, 0, 1, b"AB")?;
+    /// let (mut party, root) = Party::open(7, 1, 0, 1, b"AB")?;
     /// party.agree_root(&root)?;
     /// party.agree_bit(true, &mut [0; 2])?;
     /// party.take_shares(&[0; 2], &mut [])?;
@@ -249,7 +272,7 @@ impl Party {
     /// The value of a step that was accepted, after which the state tells anew where it is.
     fn stepped(&mut self, answer: calls::Answer) -> Result<u32, Cause> {
         let value = answer.accepted()?;
-        (self.stage, self.own) = told(&self.state)?;
+        (self.session, self.own, self.stage) = told(&self.state)?;
         Ok(value)
     }
 }

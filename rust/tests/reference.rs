@@ -14,7 +14,7 @@ const AT_STAGE: usize = 4;
 const OF_CALLS: [&str; 4] = ["box", "state", "opening", "calls"];
 
 /// The calls that stand there.
-const CALLS: [&str; 13] = [
+const CALLS: [&str; 14] = [
     "agree_bit",
     "agree_root",
     "hash",
@@ -24,6 +24,7 @@ const CALLS: [&str; 13] = [
     "read_message",
     "rebuild_with_root",
     "result_length",
+    "session",
     "shares",
     "stage",
     "take_relays",
@@ -37,10 +38,17 @@ fn of_kind(kind: &str) -> Vec<Example> {
     found
 }
 
+/// The sitting number of a call, 0 where none is told.
+fn session(call: &Field) -> u32 {
+    let number = call.number("sitting").unwrap_or(0);
+    u32::try_from(number).expect("a sitting number")
+}
+
 fn opened(call: &Field) -> Party {
     let [n, t, own] = ["n", "t", "own"].map(|name| call.number(name).expect("a number"));
     let book = call.bytes("book").expect("a book");
-    Party::open(n, t, own, &book).expect("opened").0
+    let opened = Party::open(session(call), n, t, own, &book);
+    opened.expect("opened").0
 }
 
 /// Does a step of an example, all of which are accepted.
@@ -132,12 +140,12 @@ fn opening(call: &Field, lent: &mut Lent) -> Answer {
     let number = |name| call.number(name).expect("a number");
     *lent = Lent::for_opening(call);
     let Lent { state, root, out } = lent;
-    let group = (number("n"), number("t"), number("own"));
+    let (session, group) = (session(call), (number("n"), number("t"), number("own")));
     let bytes = call.bytes("book").or_else(|| call.bytes("packet"));
     let bytes = bytes.expect("a book or a packet");
     match call.name.as_str() {
-        "open" => calls::open(group, &bytes, state, root),
-        _ => calls::open_by_sender(group, number("sender"), &bytes, state, root, out),
+        "open" => calls::open(session, group, &bytes, state, root),
+        _ => calls::open_by_sender(session, group, number("sender"), &bytes, state, root, out),
     }
 }
 
@@ -158,10 +166,12 @@ fn answer(call: &Field, lent: &mut Lent) -> Answer {
         "result_length" => calls::result_length(state),
         "stage" => calls::stage(state),
         "own" => calls::own(state),
+        "session" => calls::session(state),
         "shares" => calls::shares((number("n"), number("t")), &bytes("book"), out),
         "rebuild_with_root" => {
             let group = (number("n"), number("t"));
-            calls::rebuild_with_root(group, &bytes("root"), &bytes("entries"), out)
+            let (root, entries) = (bytes("root"), bytes("entries"));
+            calls::rebuild_with_root(session(call), group, &root, &entries, out)
         }
         "read_message" => calls::read_message(&bytes("packet")),
         "hash" => calls::hash(&bytes("string"), out),

@@ -1,8 +1,10 @@
-//! The books that a plan speaks of, by name, with their shares under the plan's n and t.
+//! The books that a plan speaks of, by name, with their shares under the plan's n and t, in its own
+//! sitting and in others that it speaks of.
 
 use std::collections::BTreeMap;
+use std::fmt;
 
-use foreign::liars::Sharing;
+use foreign::coder::{frame_of, shares_of};
 use foreign::limits::{LONGEST_MESSAGE, MOST_PARTIES};
 use foreign::packet::{write, HEADER};
 use foreign::sha256::Hash;
@@ -11,19 +13,45 @@ use foreign::tree;
 /// A book and what it is called.
 pub type Named = (String, Vec<u8>);
 
+/// What helps to find words for a plan's bytes: books by name, and numbers of other sittings.
+#[derive(Clone, Debug, Default, PartialEq, Eq)]
+pub struct Hints {
+    pub books: Vec<Named>,
+    pub sittings: Vec<u32>,
+}
+
+/// The book that shares, a path or a root are of, and the sitting, if it is not the plan's own.
+#[derive(Clone, Debug, PartialEq, Eq)]
+pub struct Source {
+    pub book: String,
+    pub session: Option<u32>,
+}
+
+impl fmt::Display for Source {
+    fn fmt(&self, f: &mut fmt::Formatter) -> fmt::Result {
+        let book = &self.book;
+        match self.session {
+            Some(session) => write!(f, "{book} in sitting {session}"),
+            None => write!(f, "{book}"),
+        }
+    }
+}
+
 /// The books, each once; the first name that it was given is the one it is called by.
 pub struct Books {
     pub n: usize,
     pub t: usize,
     pub known: Vec<Book>,
     names: BTreeMap<String, usize>,
+    /// The numbers of the sittings in which books are coded, the plan's own first.
+    pub sittings: Vec<u32>,
 }
 
 pub struct Book {
     pub name: String,
     pub message: Vec<u8>,
-    /// None if n and t, or the book's length, allow no shares.
-    pub coded: Option<Coded>,
+    /// By the sitting's number.
+    coded: BTreeMap<u32, Coded>,
 }
 
 /// The packets with a book's shares that a good party would send, and the root.
@@ -34,14 +62,14 @@ pub struct Coded {
 }
 
 impl Coded {
-    fn new(n: usize, t: usize, message: &[u8]) -> Coded {
-        let Sharing { shares, root, .. } = Sharing::of(0, n, t, message);
-        let leaves = tree::leaves(0, &shares);
+    fn new(session: u32, n: usize, t: usize, message: &[u8]) -> Coded {
+        let shares = shares_of(n, n - t, &frame_of(n - t, message));
+        let leaves = tree::leaves(session, &shares);
         let packet = |j| write(j, &shares[j - 1], &tree::path_of(&leaves, j));
         Coded {
             packets: (1..=n).map(packet).collect(),
             share_length: shares[0].len(),
-            root,
+            root: tree::root_of(&leaves),
         }
     }
 
@@ -55,28 +83,49 @@ impl Coded {
 }
 
 impl Books {
-    pub fn new(n: usize, t: usize) -> Books {
+    pub fn new(session: u32, n: usize, t: usize) -> Books {
         Books {
             n,
             t,
             known: Vec::new(),
             names: BTreeMap::new(),
+            sittings: vec![session],
         }
     }
 
     pub fn add(&mut self, name: &str, message: &[u8]) {
         let same = self.known.iter().position(|it| it.message == message);
         let place = same.unwrap_or_else(|| {
-            let lawful = (1..=MOST_PARTIES).contains(&self.n) && 2 * self.t < self.n;
-            let codable = lawful && message.len() <= LONGEST_MESSAGE;
+            let coded = |session: &u32| Some((*session, self.code(*session, message)?));
             self.known.push(Book {
                 name: name.to_string(),
                 message: message.to_vec(),
-                coded: codable.then(|| Coded::new(self.n, self.t, message)),
+                coded: self.sittings.iter().filter_map(coded).collect(),
             });
             self.known.len() - 1
         });
         self.names.insert(name.to_string(), place);
+    }
+
+    /// Books are coded in this sitting as well.
+    pub fn sit(&mut self, session: u32) {
+        if self.sittings.contains(&session) {
+            return;
+        }
+        self.sittings.push(session);
+        for place in 0..self.known.len() {
+            let coded = self.code(session, &self.known[place].message);
+            let coded = coded.map(|coded| (session, coded));
+            self.known[place].coded.extend(coded);
+        }
+    }
+
+    /// A book in a sitting; none if n and t, or its length, allow no shares.
+    fn code(&self, session: u32, message: &[u8]) -> Option<Coded> {
+        let (n, t) = (self.n, self.t);
+        let lawful = (1..=MOST_PARTIES).contains(&n) && 2 * t < n;
+        let codable = lawful && message.len() <= LONGEST_MESSAGE;
+        codable.then(|| Coded::new(session, n, t, message))
     }
 
     /// The book of this name, or that there is none. A good box's book is called by its box
@@ -89,6 +138,12 @@ impl Books {
         }
     }
 
+    /// What the source's book is coded to, if it can be.
+    pub fn coded(&self, source: &Source) -> Result<Option<&Coded>, String> {
+        let session = source.session.unwrap_or(self.sittings[0]);
+        Ok(self.find(&source.book)?.coded.get(&session))
+    }
+
     /// What the book is called.
     pub fn name_of(&self, message: &[u8]) -> Option<&str> {
         let mut known = self.known.iter();
@@ -97,13 +152,24 @@ impl Books {
             .map(|it| &it.name[..])
     }
 
-    /// Every share of every book: the book's name, its shares and the number.
-    pub fn shares(&self) -> impl Iterator<Item = (&str, &Coded, usize)> {
-        let coded = self
-            .known
-            .iter()
-            .filter_map(|it| Some((it, it.coded.as_ref()?)));
-        coded.flat_map(|(book, coded)| (1..=self.n).map(move |j| (&book.name[..], coded, j)))
+    /// All that is coded, what is of the plan's own sitting first.
+    pub fn sources(&self) -> impl Iterator<Item = (Source, &Coded)> {
+        let own = self.sittings[0];
+        let coded = self.sittings.iter().flat_map(|session| {
+            let known = self.known.iter();
+            known.filter_map(move |it| Some((&it.name, *session, it.coded.get(session)?)))
+        });
+        coded.map(move |(name, session, coded)| {
+            let (book, session) = (name.clone(), Some(session).filter(|it| *it != own));
+            (Source { book, session }, coded)
+        })
+    }
+
+    /// Every share: what it is of, the shares beside it and the number.
+    pub fn shares(&self) -> impl Iterator<Item = (Source, &Coded, usize)> {
+        let shares =
+            |(source, coded): (Source, _)| (1..=self.n).map(move |j| (source.clone(), coded, j));
+        self.sources().flat_map(shares)
     }
 
     /// A name for one more book: the first letter that is free, or Z with a number.

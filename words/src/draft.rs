@@ -4,21 +4,23 @@ use std::collections::BTreeMap;
 
 use foreign::inbox::lay_out;
 use foreign::plans::map_of;
-use foreign::rehearsal::{Round, BIT_GIVEN, ROOT_GIVEN, SENDER_GIVEN};
+use foreign::rehearsal::{Round, BIT_GIVEN, ROOT_GIVEN, SENDER_GIVEN, SESSION_GIVEN};
 use foreign::sha256::Hash;
 
-use crate::books::{Books, Named};
+use crate::books::{Books, Hints};
 
 /// Packets by sender and receiver.
 pub type Packets = BTreeMap<(usize, usize), Vec<u8>>;
 
 pub struct Draft {
     pub books: Books,
-    /// Options besides those that root, bit and sender bring.
+    /// Options besides those that root, bit, sender and sitting bring.
     pub options: u8,
     pub root: Option<Hash>,
     pub bit: Option<u8>,
     pub sender: Option<usize>,
+    /// The sitting number as it is written; 0 written out is not absence.
+    pub session: Option<u32>,
     /// The good parties, with the message of each whose message the plan lists.
     pub good: BTreeMap<usize, Option<Vec<u8>>>,
     /// What bad parties send, round by round.
@@ -31,11 +33,12 @@ pub struct Draft {
 impl Draft {
     pub fn new(n: usize, t: usize) -> Draft {
         Draft {
-            books: Books::new(n, t),
+            books: Books::new(0, n, t),
             options: 0,
             root: None,
             bit: None,
             sender: None,
+            session: None,
             good: BTreeMap::new(),
             exchanges: Default::default(),
             behind: Vec::new(),
@@ -65,13 +68,16 @@ impl Draft {
         &mut self.exchanges[round as usize]
     }
 
-    /// The books that have names of their own.
-    pub fn named(&self) -> Vec<Named> {
+    /// The books that have names of their own, and the sittings that are spoken of.
+    pub fn hints(&self) -> Hints {
         let known = self.books.known.iter();
         let named = known.filter(|it| !it.name.starts_with("box "));
-        named
-            .map(|it| (it.name.clone(), it.message.clone()))
-            .collect()
+        Hints {
+            books: named
+                .map(|it| (it.name.clone(), it.message.clone()))
+                .collect(),
+            sittings: self.books.sittings.clone(),
+        }
     }
 
     /// The plan's bytes.
@@ -86,11 +92,13 @@ impl Draft {
         let root = self.root.map_or(0, |_| ROOT_GIVEN);
         let bit = self.bit.map_or(0, |_| BIT_GIVEN);
         let sender = self.sender.map_or(0, |_| SENDER_GIVEN);
-        let options = self.options | root | bit | sender;
+        let session = self.session.map_or(0, |_| SESSION_GIVEN);
+        let options = self.options | root | bit | sender | session;
         let mut bytes = vec![self.books.n as u8, self.books.t as u8, options];
         bytes.extend(self.root.iter().flatten());
         bytes.extend(self.bit);
         bytes.extend(self.sender.map(|it| it as u8));
+        bytes.extend(self.session.map(u32::to_be_bytes).iter().flatten());
         bytes.extend(map_of(self.good.keys()));
         bytes.extend(lay_out(&self.good.values().flatten().collect::<Vec<_>>()));
         let [before, exchanges @ ..] = &self.exchanges;

@@ -3,14 +3,14 @@
 
 use foreign::rehearsal::{Fault, Round, Sender, Takings};
 
-use crate::books::Named;
+use crate::books::Hints;
 use crate::causes::{detail, words};
-use crate::phrases::{boxes, bytes, name, numbers, short, EXCHANGES};
+use crate::phrases::{bytes, name, numbers, short, EXCHANGES};
 use crate::text::written;
 use crate::view::View;
 
-pub fn explain(plan: &[u8], named: &[Named]) -> String {
-    match View::new(plan, named) {
+pub fn explain(plan: &[u8], hints: &Hints) -> String {
+    match View::new(plan, hints) {
         Ok(view) => {
             let front = view.fault.map(|fault| preface(fault, plan) + "\n\n");
             front.unwrap_or_default() + &view.told() + "\n" + &view.printed()
@@ -36,11 +36,10 @@ pub fn refused(fault: Fault, plan: &[u8]) -> String {
 impl View {
     fn told(&self) -> String {
         let plan = &self.session.plan;
+        let least = plan.n - plan.t;
         let heading = format!(
-            "Sitting of {}, of which {} may be bad; {} of the shares give a book back.\n",
-            boxes(plan.n),
-            plan.t,
-            plan.n - plan.t
+            "{}; {least} of the shares give a book back.\n",
+            self.title()
         );
         let rest = match &self.session.takings {
             Some(takings) => self.exchanges(takings),

@@ -2,7 +2,7 @@
 
 use foreign::rehearsal::{play, read};
 
-use crate::books::Named;
+use crate::books::Hints;
 use crate::causes::place;
 use crate::draft::Draft;
 use crate::explain::refused;
@@ -23,13 +23,13 @@ pub fn draft(words: &[u8]) -> Result<Draft, String> {
 
 /// The words of a plan; if it is refused they say so at the top. A plan that is badly laid
 /// out has none, and the error tells where.
-pub fn in_words(plan: &[u8], named: &[Named]) -> Result<String, String> {
+pub fn in_words(plan: &[u8], hints: &Hints) -> Result<String, String> {
     let refusal = play(plan).err().map(|fault| refused(fault, plan));
     let refusal = refusal.unwrap_or_default();
     match read(plan) {
         Ok(layout) => {
             let note: String = refusal.lines().map(|it| format!("# {it}\n")).collect();
-            Ok(note + &text(&layout, named))
+            Ok(note + &text(&layout, hints))
         }
         Err(misfit) => {
             // A lower cause tells of no offset.
@@ -42,14 +42,14 @@ pub fn in_words(plan: &[u8], named: &[Named]) -> Result<String, String> {
     }
 }
 
-/// A plan's bytes and its named books, from words or bytes. A lawful plan's bytes hold a
+/// A plan's bytes and what words tell beside them, from words or bytes. A lawful plan's bytes hold a
 /// control character other than a tab or a line's end, since t is below 8; blank input can be
 /// no words either.
-pub fn given(input: &[u8]) -> Result<(Vec<u8>, Vec<Named>), String> {
+pub fn given(input: &[u8]) -> Result<(Vec<u8>, Hints), String> {
     let control = |byte: &u8| *byte < b' ' && !byte.is_ascii_whitespace();
     if input.iter().any(control) || input.trim_ascii().is_empty() {
-        return Ok((input.to_vec(), Vec::new()));
+        return Ok((input.to_vec(), Hints::default()));
     }
     let draft = draft(input)?;
-    Ok((draft.bytes(), draft.named()))
+    Ok((draft.bytes(), draft.hints()))
 }

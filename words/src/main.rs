@@ -6,13 +6,14 @@
 //!     words picture [FILE]                     the same as an SVG picture
 //!
 //! Without FILE the plan is read from standard input. Explain and picture take words or bytes.
-//! The books of the plan in words behind --books are recognised besides those of the good boxes.
+//! The books of the plan in words behind --books are recognised besides those of the good boxes, in
+//! the sittings that it speaks of too.
 //! The exit status is 1 if the plan's words are wrong, or its bytes have no words.
 
 use std::io::{stdin, stdout, Read, Write};
 use std::process::ExitCode;
 
-use words::books::Named;
+use words::books::Hints;
 use words::explain::explain;
 use words::input::{draft, given, in_words};
 use words::picture::picture;
@@ -65,19 +66,19 @@ fn answer(arguments: &[String]) -> Option<Result<Vec<u8>, String>> {
 }
 
 fn done(command: &str, books: Option<&String>, file: Option<&String>) -> Result<Vec<u8>, String> {
-    let named = match books {
-        Some(_) => Input::new(books)?.made(draft)?.named(),
-        None => Vec::new(),
+    let hints = match books {
+        Some(_) => Input::new(books)?.made(draft)?.hints(),
+        None => Hints::default(),
     };
     let input = Input::new(file)?;
-    let told = |tell: fn(&[u8], &[Named]) -> String| {
-        let (plan, named) = input.made(given)?;
-        Ok(tell(&plan, &named).into_bytes())
+    let told = |tell: fn(&[u8], &Hints) -> String| {
+        let (plan, hints) = input.made(given)?;
+        Ok(tell(&plan, &hints).into_bytes())
     };
     match command {
         "to-bytes" => input.made(draft).map(|it| it.bytes()),
         "from-bytes" => {
-            let words = input.made(|plan| in_words(plan, &named));
+            let words = input.made(|plan| in_words(plan, &hints));
             words.map(String::into_bytes)
         }
         "explain" => told(explain),

@@ -6,7 +6,7 @@ use std::fmt;
 use foreign::limits::{LONGEST_ENTRY, LONGEST_MESSAGE, MOST_PARTIES};
 use foreign::message_packet;
 
-use crate::books::{Books, Coded};
+use crate::books::{Books, Coded, Source};
 
 #[derive(Clone, Debug, PartialEq, Eq)]
 pub enum Packet {
@@ -15,7 +15,7 @@ pub enum Packet {
     Raw(Vec<u8>),
     Share {
         number: usize,
-        book: String,
+        source: Source,
         changes: Vec<Change>,
     },
     /// What a good sender that has this book gives to all.
@@ -31,10 +31,10 @@ pub enum Change {
     Map(u8),
     Number(u8),
     Length(u16),
-    /// The path of another number or of another book.
+    /// The path of another number, of another book or in another sitting.
     Path {
         number: usize,
-        book: String,
+        source: Source,
     },
     /// The byte at this offset of the field with these bits turned.
     Byte {
@@ -75,9 +75,9 @@ impl Packet {
             Packet::Raw(bytes) => return fitting(bytes.clone()),
             Packet::Share {
                 number,
-                book,
+                source,
                 changes,
-            } => (Fields::of_share(books, *number, book)?, changes),
+            } => (Fields::of_share(books, *number, source)?, changes),
             Packet::Book { book, changes } => (Fields::of_book(books, book)?, changes),
         };
         for change in changes {
@@ -98,10 +98,11 @@ impl Packet {
     pub fn books(&self) -> Vec<&str> {
         let book = match self {
             Packet::Nothing | Packet::Raw(_) => None,
-            Packet::Share { book, .. } | Packet::Book { book, .. } => Some(&book[..]),
+            Packet::Share { source, .. } => Some(&source.book[..]),
+            Packet::Book { book, .. } => Some(&book[..]),
         };
         let others = self.changes().iter().filter_map(|change| match change {
-            Change::Path { book, .. } => Some(&book[..]),
+            Change::Path { source, .. } => Some(&source.book[..]),
             _ => None,
         });
         others.chain(book).collect()
@@ -118,15 +119,15 @@ fn fitting(bytes: Vec<u8>) -> Result<Option<Vec<u8>>, String> {
     }
 }
 
-/// The book's shares, or why there are none of this number.
-fn coded<'a>(books: &'a Books, name: &str, number: usize) -> Result<&'a Coded, String> {
+/// The source's shares, or why there are none of this number.
+fn coded<'a>(books: &'a Books, source: &Source, number: usize) -> Result<&'a Coded, String> {
     let none = || {
         format!(
             "there are no shares: n is 1 to {MOST_PARTIES}, 2·t < n, \
              and a book has at most {LONGEST_MESSAGE} bytes"
         )
     };
-    let coded = books.find(name)?.coded.as_ref().ok_or_else(none)?;
+    let coded = books.coded(source)?.ok_or_else(none)?;
     match (1..=books.n).contains(&number) {
         true => Ok(coded),
         false => Err(format!(
@@ -137,8 +138,8 @@ fn coded<'a>(books: &'a Books, name: &str, number: usize) -> Result<&'a Coded, S
 }
 
 impl Fields {
-    fn of_share(books: &Books, number: usize, book: &str) -> Result<Fields, String> {
-        let (header, share, path) = coded(books, book, number)?.fields(number);
+    fn of_share(books: &Books, number: usize, source: &Source) -> Result<Fields, String> {
+        let (header, share, path) = coded(books, source, number)?.fields(number);
         Ok(Fields {
             header: header.to_vec(),
             body: share.to_vec(),
@@ -170,8 +171,8 @@ impl Fields {
                 let from = self.header.len() - 2;
                 self.header[from..].copy_from_slice(&length.to_be_bytes());
             }
-            Change::Path { number, book } => {
-                let path = coded(books, book, *number)?.fields(*number).2;
+            Change::Path { number, source } => {
+                let path = coded(books, source, *number)?.fields(*number).2;
                 self.path = Some(path.to_vec());
             }
             Change::Byte {
@@ -216,7 +217,7 @@ impl fmt::Display for Packet {
             Packet::Nothing => write!(f, "nothing")?,
             Packet::Raw(bytes) if bytes.is_empty() => write!(f, "empty")?,
             Packet::Raw(bytes) => write!(f, "{}", Hex(bytes))?,
-            Packet::Share { number, book, .. } => write!(f, "share {number} of {book}")?,
+            Packet::Share { number, source, .. } => write!(f, "share {number} of {source}")?,
             Packet::Book { book, .. } => write!(f, "book {book}")?,
         }
         self.changes().iter().try_for_each(|it| write!(f, ", {it}"))
@@ -229,7 +230,7 @@ impl fmt::Display for Change {
             Change::Map(map) => write!(f, "map {map}"),
             Change::Number(number) => write!(f, "number {number}"),
             Change::Length(length) => write!(f, "length {length}"),
-            Change::Path { number, book } => write!(f, "path {number} of {book}"),
+            Change::Path { number, source } => write!(f, "path {number} of {source}"),
             Change::Byte {
                 field,
                 offset,

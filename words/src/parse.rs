@@ -9,7 +9,7 @@ use foreign::limits::{LONGEST_ENTRY, MOST_NAMED};
 use foreign::rehearsal::Round;
 use foreign::sha256::Hash;
 
-use crate::books::Book;
+use crate::books::{Book, Books, Source};
 use crate::draft::Draft;
 use crate::lines::{lines, pairs, Error, Line};
 use crate::phrases;
@@ -18,7 +18,8 @@ use crate::phrases;
 const KEYWORDS: [&str; 2] = ["box", "hex"];
 
 const BOOK_EXPECTED: &str = "a book: its name, a text in quotes, or 'hex' and digits";
-const STATEMENTS: &str = "'sender', 'root', 'bit', 'book', 'box', \"sender's exchange\", \
+const STATEMENTS: &str =
+    "'sitting', 'sender', 'root', 'bit', 'book', 'box', \"sender's exchange\", \
     'first exchange', 'second exchange', 'options', 'behind', 'cut by' or a sender's number";
 
 pub fn parse(text: &str) -> Result<Draft, Error> {
@@ -62,6 +63,7 @@ impl Reader {
     fn statement(&mut self, line: &mut Line) -> Result<(), Error> {
         let unknown = || line.expected(STATEMENTS);
         match line.word().ok_or_else(unknown)? {
+            "sitting" => self.sitting(line),
             "sender" => self.sender(line),
             "root" => self.root(line),
             "bit" => self.bit(line),
@@ -95,6 +97,19 @@ impl Reader {
         line.expect(keyword)
     }
 
+    /// Roots and shares of books depend on it, so it stands above them and the boxes that have them.
+    fn sitting(&mut self, line: &mut Line) -> Result<(), Error> {
+        self.keyword(line, "sitting")?;
+        let number = sitting_number(line)?;
+        let Books { n, t, known, .. } = &self.draft.books;
+        if !(known.is_empty() && self.bad.is_empty() && self.draft.good.is_empty()) {
+            return Err(line.error("'sitting' must stand above the books and the boxes"));
+        }
+        self.draft.books = Books::new(number, *n, *t);
+        self.draft.session = Some(number);
+        Ok(())
+    }
+
     /// Which boxes have a book depends on it, so it stands above them.
     fn sender(&mut self, line: &mut Line) -> Result<(), Error> {
         self.keyword(line, "sender")?;
@@ -119,9 +134,10 @@ impl Reader {
     fn root(&mut self, line: &mut Line) -> Result<(), Error> {
         self.keyword(line, "root")?;
         self.draft.root = Some(if line.accept("of") {
-            let name = self.reference(line)?;
-            let coded = self.known(line, &name)?.coded.as_ref();
-            let none = || line.error(format!("'{name}' has no root under n and t"));
+            let source = self.source(line)?;
+            let coded = self.draft.books.coded(&source);
+            let coded = coded.map_err(|text| line.error(text))?;
+            let none = || line.error(format!("'{source}' has no root under n and t"));
             coded.ok_or_else(none)?.root
         } else {
             let hash = line.take(|word| Hash::try_from(pairs(word)?).ok());
@@ -262,16 +278,23 @@ impl Reader {
         }))
     }
 
-    /// A known book's name, or `box` and a good box's number.
-    fn reference(&self, line: &mut Line) -> Result<String, Error> {
-        let name = if line.accept("box") {
+    /// A known book's name, or `box` and a good box's number, and the sitting if it is another.
+    fn source(&mut self, line: &mut Line) -> Result<Source, Error> {
+        let book = if line.accept("box") {
             format!("box {}", line.number("a box number", 1..=MOST_NAMED)?)
         } else {
             let name = line.take(name);
             name.ok_or_else(|| line.expected("a book's name, or 'box' and a number"))?
         };
-        self.known(line, &name)?;
-        Ok(name)
+        self.known(line, &book)?;
+        let mut session = None;
+        if line.accept("in") {
+            line.expect("sitting")?;
+            let number = sitting_number(line)?;
+            self.draft.books.sit(number);
+            session = Some(number);
+        }
+        Ok(Source { book, session })
     }
 
     fn known(&self, line: &Line, name: &str) -> Result<&Book, Error> {
@@ -300,6 +323,11 @@ impl Reader {
             _ => Ok(self.draft),
         }
     }
+}
+
+fn sitting_number(line: &mut Line) -> Result<u32, Error> {
+    let number = line.number("a sitting number", 0..=u32::MAX as usize)?;
+    Ok(number as u32)
 }
 
 /// A name that a book may have.

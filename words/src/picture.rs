@@ -2,9 +2,9 @@
 
 use foreign::rehearsal::{Fault, Round, Sender, Takings};
 
-use crate::books::Named;
+use crate::books::Hints;
 use crate::explain::{preface, refused};
-use crate::phrases::{boxes, bytes, cut, name, short, EXCHANGES};
+use crate::phrases::{bytes, cut, name, short, EXCHANGES};
 use crate::svg::{wrapped, Svg};
 use crate::text::written;
 use crate::view::{Parcel, View, Worth};
@@ -36,8 +36,8 @@ const OF_BOTH: [Entry; 3] = [
     ("to-bad", "pale", "to a bad box"),
 ];
 
-pub fn picture(plan: &[u8], named: &[Named]) -> String {
-    match View::new(plan, named) {
+pub fn picture(plan: &[u8], hints: &Hints) -> String {
+    match View::new(plan, hints) {
         Ok(view) => Picture::new(&view).drawn(plan),
         Err(fault) => refusal(fault, plan),
     }
@@ -126,13 +126,11 @@ impl Picture<'_> {
 
     fn titles(&mut self) {
         let (session, view) = (&self.view.session, self.view);
-        let (n, t) = (session.plan.n, session.plan.t);
         let root = format!("{} {}", short(&session.root), view.root_name());
         let root_origin = view.origin(session.plan.root.is_some());
         let bit_origin = view.origin(session.plan.bit.is_some());
         self.y += 4;
-        let title = format!("Sitting of {}, of which {t} may be bad", boxes(n));
-        self.paragraph("title", &title);
+        self.paragraph("title", &view.title());
         self.y += 4;
         self.paragraph("", &format!("Agreed root: {root} ({root_origin})"));
         self.paragraph("", &format!("Agreed bit: {} ({bit_origin})", session.bit));

@@ -9,10 +9,10 @@ use crate::packet::{Change, Field, Packet};
 
 /// What the bytes are, in the fewest changes; the words always give the same bytes back.
 pub fn recognise(books: &Books, bytes: &[u8]) -> Packet {
-    let shares = books.shares().filter_map(|(book, coded, number)| {
+    let shares = books.shares().filter_map(|(source, coded, number)| {
         Some(Packet::Share {
             number,
-            book: book.to_string(),
+            source,
             changes: changes(books, coded, number, bytes)?,
         })
     });
@@ -98,11 +98,8 @@ fn path_change(books: &Books, path: &[u8], found: &[u8]) -> Option<Change> {
         return Some(Change::Followed(behind.to_vec()));
     }
     let mut others = books.shares();
-    let (book, _, number) = others.find(|(_, it, j)| it.fields(*j).2 == found)?;
-    Some(Change::Path {
-        number,
-        book: book.to_string(),
-    })
+    let (source, _, number) = others.find(|(_, it, j)| it.fields(*j).2 == found)?;
+    Some(Change::Path { number, source })
 }
 
 /// The damage to a field, if it is in one byte alone.

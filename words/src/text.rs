@@ -6,7 +6,7 @@ use foreign::message_packet::{self, Reading};
 use foreign::rehearsal::{Plan, Round, Row, Sender};
 use foreign::sha256::{hex, Hash};
 
-use crate::books::{Book, Books, Coded, Named};
+use crate::books::{Book, Books, Hints, Source};
 use crate::packet::Hex;
 use crate::phrases::name;
 use crate::recognise::recognise;
@@ -16,10 +16,10 @@ const WIDTH: usize = 100;
 
 /// The plan in words. Shares of the good parties' books and of the named ones are told as
 /// such; books that are not spoken of are left out.
-pub fn text(plan: &Plan, named: &[Named]) -> String {
+pub fn text(plan: &Plan, hints: &Hints) -> String {
     let mut words = Words {
         plan,
-        books: known(plan, named),
+        books: known(plan, hints),
         spoken_of: BTreeSet::new(),
     };
     let agreed = words.agreed();
@@ -34,9 +34,10 @@ pub fn text(plan: &Plan, named: &[Named]) -> String {
 }
 
 /// The books: the named ones, and by letters those that are listed, sent whole or opened with.
-pub fn known(plan: &Plan, named: &[Named]) -> Books {
-    let mut books = Books::new(plan.n, plan.t);
-    for (name, message) in named {
+pub fn known(plan: &Plan, hints: &Hints) -> Books {
+    let mut books = Books::new(plan.session_number(), plan.n, plan.t);
+    hints.sittings.iter().for_each(|it| books.sit(*it));
+    for (name, message) in &hints.books {
         books.add(name, message);
     }
     let listed = plan.messages.values().cloned();
@@ -77,12 +78,11 @@ fn bad_sender(plan: &Plan) -> Option<&Sender> {
     sender.filter(|it| !plan.good.contains(&it.number))
 }
 
-/// The book whose root this is.
-pub fn named_root(books: &Books, root: Hash) -> Option<&str> {
-    let mut known = books.known.iter();
-    let has_root = |it: &Coded| it.root == root;
-    let found = known.find(|it| it.coded.as_ref().is_some_and(has_root));
-    found.map(|it| &it.name[..])
+/// What this is the root of.
+pub fn named_root(books: &Books, root: Hash) -> Option<Source> {
+    let mut sources = books.sources();
+    let found = sources.find(|(_, coded)| coded.root == root);
+    found.map(|(source, _)| source)
 }
 
 /// A plan whose words are being found, and the books that they speak of so far.
@@ -96,6 +96,7 @@ impl Words<'_> {
     fn head(&self) -> Vec<String> {
         let plan = self.plan;
         let mut lines = vec![format!("boxes {}", plan.n), format!("limit {}", plan.t)];
+        lines.extend(plan.session.map(|number| format!("sitting {number}")));
         lines.extend(plan.sender.as_ref().map(|sender| {
             let outside = match (1..=plan.n).contains(&sender.number) {
                 true => "",
@@ -117,9 +118,10 @@ impl Words<'_> {
     /// The lines of root and bit.
     fn agreed(&mut self) -> Vec<String> {
         let named = self.plan.root.and_then(|it| named_root(&self.books, it));
-        self.spoken_of.extend(named.map(String::from));
-        let root = self.plan.root.map(|root| match named {
-            Some(name) => format!("root of {name}"),
+        self.spoken_of
+            .extend(named.iter().map(|it| it.book.clone()));
+        let root = self.plan.root.map(|root| match &named {
+            Some(source) => format!("root of {source}"),
             None => format!("root {}", hex(&root)),
         });
         let bit = self.plan.bit.map(|bit| format!("bit {bit}"));

@@ -7,8 +7,8 @@ use foreign::packet::{classify, read, Reading, Standing};
 use foreign::party::Rebuilt;
 use foreign::rehearsal::{play, play_regardless, Fault, Round, Row, Sender, Session, Takings};
 
-use crate::books::{Books, Named};
-use crate::phrases::{bytes, cut, numbers};
+use crate::books::{Books, Hints};
+use crate::phrases::{boxes, bytes, cut, numbers};
 use crate::recognise::recognise;
 use crate::text::{known, named_root, written};
 
@@ -65,12 +65,12 @@ impl Worth {
 impl View {
     /// Plays the plan, also one that only breaks what is supposed of a sitting; the named books are
     /// called by their names.
-    pub fn new(plan: &[u8], named: &[Named]) -> Result<View, Fault> {
+    pub fn new(plan: &[u8], hints: &Hints) -> Result<View, Fault> {
         let (fault, session) = match play(plan) {
             Ok(session) => (None, session),
             Err(fault) => (Some(fault), play_regardless(plan).ok_or(fault)?),
         };
-        let books = known(&session.plan, named);
+        let books = known(&session.plan, hints);
         Ok(View {
             fault,
             session,
@@ -132,6 +132,16 @@ impl View {
         name.map_or("of no book here".to_string(), |name| format!("of {name}"))
     }
 
+    /// The sitting, with its number where the plan has one.
+    pub fn title(&self) -> String {
+        let (plan, boxes) = (&self.session.plan, boxes(self.n()));
+        let sitting = match plan.session {
+            Some(number) => format!("Sitting {number}, of {boxes}"),
+            None => format!("Sitting of {boxes}"),
+        };
+        format!("{sitting}, of which {} may be bad", plan.t)
+    }
+
     /// The packets of an exchange, by sender and receiver.
     pub fn parcels(&self, round: Round) -> Vec<Parcel> {
         let plan = &self.session.plan;
@@ -174,7 +184,8 @@ impl View {
 
     /// The worth to a box that demands this share.
     fn share_worth(&self, demanded: usize, packet: &[u8]) -> Worth {
-        let standing = classify(0, self.n(), demanded, self.session.root, packet);
+        let (number, root) = (self.session.plan.session_number(), self.session.root);
+        let standing = classify(number, self.n(), demanded, root, packet);
         match (standing, read(self.n(), packet)) {
             (Ok(Standing::Valid(_)), _) => Worth::Passes,
             (Ok(Standing::Silent), _) => Worth::Silence,

@@ -76,13 +76,13 @@ fn the_first_lines() {
 const STATEMENTS: &Cases = &[
     (
         "boxes 3",
-        "expected 'sender', 'root', 'bit', 'book', 'box', \"sender's exchange\", 'first exchange', \
-             'second exchange', 'options', 'behind', 'cut by' or a sender's number, found 'boxes'",
+        "expected 'sitting', 'sender', 'root', 'bit', 'book', 'box', \"sender's exchange\", \
+             'first exchange', 'second exchange', 'options', 'behind', 'cut by' or a sender's number, found 'boxes'",
     ),
     (
         ": 3",
-        "expected 'sender', 'root', 'bit', 'book', 'box', \"sender's exchange\", 'first exchange', \
-             'second exchange', 'options', 'behind', 'cut by' or a sender's number, found ':'",
+        "expected 'sitting', 'sender', 'root', 'bit', 'book', 'box', \"sender's exchange\", \
+             'first exchange', 'second exchange', 'options', 'behind', 'cut by' or a sender's number, found ':'",
     ),
     ("first round", "expected 'exchange', found 'round'"),
     (
@@ -477,6 +477,92 @@ fn senders() {
             ("sender's exchange", "no line above says that box 3 is bad"),
         ],
     );
+}
+
+/// Two lines that are sound, and what is said of the third.
+const SITTING: &Cases = &[
+    (
+        "sitting",
+        "expected a sitting number from 0 to 4294967295, found the end of the line",
+    ),
+    (
+        "sitting 4294967296",
+        "expected a sitting number from 0 to 4294967295, found '4294967296'",
+    ),
+    (
+        "sitting 99999999999999999999",
+        "expected a sitting number from 0 to 4294967295, found '99999999999999999999'",
+    ),
+    (
+        "sitting seven",
+        "expected a sitting number from 0 to 4294967295, found 'seven'",
+    ),
+    (
+        "sitting -1",
+        "expected a sitting number from 0 to 4294967295, found '-1'",
+    ),
+    ("sitting 7 8", "expected the end of the line, found '8'"),
+];
+
+const SITTING_BELOW: &Cases = &[
+    (
+        "sitting 7\nsitting 8",
+        "line 4: 'sitting' stands in line 3 already",
+    ),
+    (
+        "book A \"\"\nsitting 7",
+        "line 4: 'sitting' must stand above the books and the boxes",
+    ),
+    (
+        "box 1 is bad\nsitting 7",
+        "line 4: 'sitting' must stand above the books and the boxes",
+    ),
+    (
+        "sender 2\nbox 1 is good\nsitting 7",
+        "line 5: 'sitting' must stand above the books and the boxes",
+    ),
+];
+
+const IN_SITTINGS: &Cases = &[
+    (
+        "3 to 1: share 1 of A in",
+        "expected 'sitting', found the end of the line",
+    ),
+    ("3 to 1: share 1 of A in 7", "expected 'sitting', found '7'"),
+    (
+        "3 to 1: share 1 of A in sitting 4294967296",
+        "expected a sitting number from 0 to 4294967295, found '4294967296'",
+    ),
+    (
+        "3 to 1: share 4 of A in sitting 7",
+        "shares have numbers from 1 to 3, not 4",
+    ),
+    (
+        "3 to 1: share 1 of A, path 1 of A in sitting",
+        "expected a sitting number from 0 to 4294967295, found the end of the line",
+    ),
+    (
+        "3 to 1: share 1 of box 2 in sitting 7",
+        "no line above says what box 2 has",
+    ),
+    (
+        "3 to 1: book A in sitting 7",
+        "expected the end of the line, found 'in'",
+    ),
+    (
+        "root of A in sitting x",
+        "expected a sitting number from 0 to 4294967295, found 'x'",
+    ),
+];
+
+#[test]
+fn sittings() {
+    check("boxes 3\nlimit 1\n", "line 3: ", SITTING);
+    check("boxes 3\nlimit 1\n", "", SITTING_BELOW);
+    check(&format!("{SOUND}first exchange\n"), "line 7: ", IN_SITTINGS);
+    let rooted = "boxes 2\nlimit 1\nbook A \"\"\nroot of A in sitting 7";
+    let expected = "line 4: 'A in sitting 7' has no root under n and t";
+    assert_eq!(error(rooted), expected);
 }
 
 /// A sender that is none of the boxes sends in its exchange alone, and has no book.

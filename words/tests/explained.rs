@@ -4,6 +4,7 @@
 use foreign::limits::LONGEST_MESSAGE;
 use foreign::plans::plan;
 use foreign::rehearsal::{play, rehearse, Round};
+use words::books::Hints;
 use words::explain::explain;
 use words::input::given;
 use words::phrases::grouped;
@@ -73,8 +74,66 @@ sent 324
 
 #[test]
 fn a_sitting_word_by_word() {
-    let (plan, named) = given(WORDS.as_bytes()).expect("good words");
-    assert_eq!(explain(&plan, &named), TOLD);
+    let (plan, hints) = given(WORDS.as_bytes()).expect("good words");
+    assert_eq!(explain(&plan, &hints), TOLD);
+}
+
+/// Box 3 gets its share as of another sitting, and then as of this one.
+const NUMBERED: &str = "boxes 4
+limit 1
+sitting 7
+book A \"A\"
+book B \"B\"
+box 1 is bad
+box 2 has A
+box 3 has \"B\"
+box 4 has A
+first exchange
+1 to 3: share 3 of A in sitting 6
+second exchange
+1 to 3: share 1 of B, path 1 of A in sitting 0
+1 to 4: share 1 of A
+";
+
+const NUMBERED_FIRST: &str = "
+The first exchange
+  1 to 3      69 bytes   fails the check    share 3 of A in sitting 6
+  2 to 1      69 bytes   goes to a bad box  share 1 of A
+  2 to 3      69 bytes   passes             share 3 of A
+";
+
+const NUMBERED_SECOND: &str = "
+The second exchange
+  1 to 3      69 bytes   fails the check    share 1 of B, path 1 of A in sitting 0
+  1 to 4      69 bytes   passes             share 1 of A
+";
+
+/// The number stands in the title of a plan that has one, also if it is 0.
+#[test]
+fn a_sitting_number_word_by_word() {
+    let (plan, hints) = given(NUMBERED.as_bytes()).expect("good words");
+    let told = explain(&plan, &hints);
+    assert!(told.starts_with("Sitting 7, of 4 boxes, of which 1 may be bad; 3 of the shares "));
+    assert!(told.contains(NUMBERED_FIRST), "{told}");
+    assert!(told.contains(NUMBERED_SECOND), "{told}");
+    assert!(picture(&plan, &hints).contains(">Sitting 7, of 4 boxes, of which 1 may be bad<"));
+    for (line, title) in [("sitting 0\n", "Sitting 0, of 4 "), ("", "Sitting of 4 ")] {
+        let words = NUMBERED.replace("sitting 7\n", line);
+        let (plan, hints) = given(words.as_bytes()).expect("good words");
+        let told = explain(&plan, &hints);
+        assert!(told.starts_with(title), "{told}");
+        assert!(told.contains("passes             share 1 of A\n"), "{told}");
+        assert!(picture(&plan, &hints).contains(&format!(">{title}boxes, ")));
+    }
+}
+
+/// A root is told by the sitting that it is of.
+#[test]
+fn a_root_of_another_sitting() {
+    let words = NUMBERED.replace("box 1", "root of A in sitting 4294967295\nbox 1");
+    let told = told_under("Agreed root ", &words);
+    let title = "of A in sitting 4294967295 (as the plan gives it)\n  box 2 is unhappy, bit 0\n";
+    assert!(told.contains(title), "{told}");
 }
 
 /// Box 2 is bad and the sender. It gives box 1 a book, box 3 one of which a byte is missing, and
@@ -135,8 +194,8 @@ sent 828
 
 #[test]
 fn a_bad_sender_word_by_word() {
-    let (plan, named) = given(BY_SENDER.as_bytes()).expect("good words");
-    let told = explain(&plan, &named);
+    let (plan, hints) = given(BY_SENDER.as_bytes()).expect("good words");
+    let told = explain(&plan, &hints);
     assert!(told.starts_with(BY_SENDER_TOLD), "{told}");
     assert!(told.contains(BY_SENDER_FIRST), "{told}");
     assert!(told.ends_with(BY_SENDER_END), "{told}");
@@ -144,8 +203,8 @@ fn a_bad_sender_word_by_word() {
 
 /// What is told of these words, from one heading up to the next.
 fn told_under(heading: &str, words: &str) -> String {
-    let (plan, named) = given(words.as_bytes()).expect("good words");
-    let told = explain(&plan, &named);
+    let (plan, hints) = given(words.as_bytes()).expect("good words");
+    let told = explain(&plan, &hints);
     let (_, told) = told.split_once(&format!("\n{heading}")).expect("a heading");
     let (told, _) = told.split_once("\n\n").expect("more");
     told.to_string()
@@ -193,15 +252,15 @@ fn the_empty_book() {
     let nothing = silent.replace("sender 3\n", "sender 3\nbit 0\n");
     let nothing = format!("{nothing}sender's exchange\n3 to 1: hex 08 00 01 41\n");
     let (plan, _) = given(nothing.as_bytes()).expect("good words");
-    let told = explain(&plan, &[]);
+    let told = explain(&plan, &Hints::default());
     assert!(!told.contains("is a book and not nothing"), "{told}");
     assert!(told.ends_with("\n\n1 -\n2 -\nsent 0\n"), "{told}");
 }
 
 /// Why a plan in these words is refused.
 fn refusal(words: &str) -> String {
-    let (plan, named) = given(words.as_bytes()).expect("good words");
-    let told = explain(&plan, &named);
+    let (plan, hints) = given(words.as_bytes()).expect("good words");
+    let told = explain(&plan, &hints);
     assert!(told.contains("\n\nrefused "), "{told}");
     let (before, _) = told.split_once("\n\n").expect("more than that");
     before.to_string()
@@ -247,6 +306,12 @@ fn refused_plans() {
     assert_eq!(two("behind hex 00"), format!("{layout}{left_over}"));
     let option = "At byte 2: the option map has an unknown option. It has 9 bytes, counted from 0.";
     assert_eq!(two("options 16"), format!("{layout}{option}"));
+    let numbered = sound.replace("limit 0", "limit 0\nsitting 7");
+    let short =
+        "At byte 3, in the sitting number: the plan runs out, 2 bytes short. It has 5 bytes, \
+        counted from 0.";
+    let cut = refusal(&format!("{numbered}cut by 8"));
+    assert_eq!(cut, format!("{layout}{short}"));
 }
 
 /// A sender that no box is: what it sends is looked for all the same.
@@ -294,7 +359,7 @@ fn refused_books_of_senders() {
 fn the_last_lines_are_the_rehearsals() {
     for bytes in (1..=COUNT).map(|k| plan(k).bytes) {
         let printed = String::from_utf8(rehearse(&bytes)).expect("a text");
-        let told = explain(&bytes, &[]);
+        let told = explain(&bytes, &Hints::default());
         let before = told.strip_suffix(&format!("\n\n{printed}"));
         let before = before.expect("a blank line and the rehearsal's lines");
         let refused = before.starts_with("Refused with cause ");
@@ -314,9 +379,13 @@ fn refused_plans_are_told_regardless() {
         let Err(fault) = play(&bytes) else {
             continue;
         };
-        let told = explain(&bytes, &[]);
-        let to_the_end = told.contains("\nSitting of ") && told.contains("\n  box ");
-        assert_eq!(to_the_end, View::new(&bytes, &[]).is_ok(), "{told}");
+        let told = explain(&bytes, &Hints::default());
+        let to_the_end = told.contains("\nSitting ") && told.contains("\n  box ");
+        assert_eq!(
+            to_the_end,
+            View::new(&bytes, &Hints::default()).is_ok(),
+            "{told}"
+        );
         assert!(fault.cause() == 14 || !to_the_end, "{told}");
         match to_the_end {
             true => regardless += 1,
@@ -334,8 +403,8 @@ fn with_two_liars(second: &str) -> String {
         "boxes 4\nlimit 1\nbook A \"A\"\nroot of A\nbit 1\nbox 1 is bad\nbox 2 is bad\n\
          box 3 has \"C\"\nbox 4 has \"D\"\nsecond exchange\n{second}\n"
     );
-    let (plan, named) = given(words.as_bytes()).expect("good words");
-    let told = explain(&plan, &named);
+    let (plan, hints) = given(words.as_bytes()).expect("good words");
+    let told = explain(&plan, &hints);
     let (_, told) = told.split_once("The second exchange\n").expect("bit 1");
     let steps = told.lines().filter(|line| line.contains(" gathers "));
     steps.collect::<Vec<_>>().join("\n")
@@ -360,7 +429,7 @@ fn passing(parcels: &[Parcel], receiver: usize) -> Vec<usize> {
 fn what_passes_is_what_was_taken() {
     let mut unhappy = 0;
     for bytes in (1..=COUNT).map(|k| plan(k).bytes) {
-        let Ok(view) = View::new(&bytes, &[]) else {
+        let Ok(view) = View::new(&bytes, &Hints::default()) else {
             continue;
         };
         let Some(takings) = &view.session.takings else {
@@ -389,7 +458,7 @@ fn what_passes_is_what_was_taken() {
 fn what_is_read_is_opened_with() {
     let mut read = [0, 0];
     for bytes in (1..=COUNT).map(|k| plan(k).bytes) {
-        let Ok(view) = View::new(&bytes, &[]) else {
+        let Ok(view) = View::new(&bytes, &Hints::default()) else {
             continue;
         };
         let Some(sender) = &view.session.plan.sender else {
@@ -441,10 +510,10 @@ fn is_sound(svg: &str) {
 #[test]
 fn pictures_are_sound() {
     for bytes in (1..=COUNT).step_by(4).map(|k| plan(k).bytes) {
-        let svg = picture(&bytes, &[]);
+        let svg = picture(&bytes, &Hints::default());
         is_sound(&svg);
         let arrows = svg.matches("class=\"arrow ").count();
-        let view = View::new(&bytes, &[]);
+        let view = View::new(&bytes, &Hints::default());
         assert_eq!(arrows, view.map_or(0, |view| expected_arrows(&view)));
     }
 }
@@ -474,10 +543,10 @@ const OF_BOTH: usize = 3;
 /// The sender's exchange stands above what the boxes open with.
 #[test]
 fn a_senders_picture() {
-    let (plan, named) = given(BY_SENDER.as_bytes()).expect("good words");
-    let svg = picture(&plan, &named);
+    let (plan, hints) = given(BY_SENDER.as_bytes()).expect("good words");
+    let svg = picture(&plan, &hints);
     is_sound(&svg);
-    let view = View::new(&plan, &named).expect("a sound plan");
+    let view = View::new(&plan, &hints).expect("a sound plan");
     let arrows = svg.matches("class=\"arrow ").count();
     assert_eq!(arrows, expected_arrows(&view));
     assert_eq!(svg.matches("class=\"arrow book ").count(), 1 + OF_BOOKS);
@@ -492,8 +561,8 @@ fn a_senders_picture() {
     ];
     assert!(parts.map(place).is_sorted());
     let undecided = BY_SENDER.replace("bit 1", "bit 0");
-    let (plan, named) = given(undecided.as_bytes()).expect("good words");
-    let svg = picture(&plan, &named);
+    let (plan, hints) = given(undecided.as_bytes()).expect("good words");
+    let svg = picture(&plan, &hints);
     is_sound(&svg);
     let arrows = svg.matches("class=\"arrow ").count();
     assert_eq!(arrows, 2 + OF_BOOKS + OF_BOTH);
@@ -504,7 +573,7 @@ fn a_senders_picture() {
 fn signs_are_escaped() {
     let words = "boxes 1\nlimit 0\nbox 1 has \"a < b & c > d\"\n";
     let plan = words::parse::parse(words).expect("good words").bytes();
-    let svg = picture(&plan, &[]);
+    let svg = picture(&plan, &Hints::default());
     is_sound(&svg);
     assert!(svg.contains("Book A: \"a &lt; b &amp; c &gt; d\""));
 }

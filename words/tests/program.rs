@@ -76,7 +76,7 @@ fn the_longest_plan() {
     assert!(kept("plans/longest.words").len() < 1_000);
 }
 
-/// Its picture is the one that is kept, and docs/PLANS.md shows its words.
+/// Its picture is the one that is kept, and docs/PLANS.md shows it with its words.
 fn on_the_page(name: &str) {
     let plan = both(name);
     let (words, svg) = (
@@ -85,8 +85,13 @@ fn on_the_page(name: &str) {
     );
     assert_eq!(printed(&["picture", &words], b""), svg);
     assert_eq!(printed(&["picture"], &plan), svg);
-    let (page, text) = (text("docs/PLANS.md"), text(&words));
-    assert!(page.contains(&format!("]({name}.svg)")));
+    assert!(text("docs/PLANS.md").contains(&format!("]({name}.svg)")));
+    words_on_the_page(&words);
+}
+
+/// docs/PLANS.md shows the words of this file.
+fn words_on_the_page(words: &str) {
+    let (page, text) = (text("docs/PLANS.md"), text(words));
     let (_, lines) = text.split_once("\n\n").expect("a comment above");
     let shown: Vec<String> = lines.lines().map(|it| format!("    {it}")).collect();
     let shown = shown.join("\n").replace("    \n", "\n");
@@ -146,6 +151,23 @@ fn other_senders() {
     let told = String::from_utf8(told).expect("a text");
     assert!(told.contains("  box 2 gets nothing and opens with the empty book, A\n"));
     assert!(told.contains("  the empty book is a book and not nothing: "));
+}
+
+/// The bad box's packets are of another sitting, which bytes do not tell.
+#[test]
+fn a_plan_with_a_sitting_number() {
+    let plan = both("sitting");
+    let words = "plans/sitting.words";
+    words_on_the_page(words);
+    let told = explained_on_the_page("sitting");
+    assert!(told.ends_with(&format!("\n\n{}", text("plans/sitting.out"))));
+    let of_another = |text: Vec<u8>| {
+        let text = String::from_utf8(text).expect("a text");
+        text.matches(" of A in sitting 6\n").count()
+    };
+    let told = printed(&["from-bytes", "--books", words, "plans/sitting.plan"], b"");
+    assert_eq!(of_another(told), 2);
+    assert_eq!(of_another(printed(&["from-bytes"], &plan)), 0);
 }
 
 #[test]

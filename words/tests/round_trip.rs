@@ -9,7 +9,9 @@ use foreign::message_packet;
 use foreign::plans::plan;
 use foreign::random::Random;
 use foreign::rehearsal::{read, Plan};
-use words::books::Books;
+use foreign::sessions::EDGES;
+use foreign::sha256::hex;
+use words::books::{Books, Hints};
 use words::input::in_words;
 use words::parse::parse;
 use words::recognise::recognise;
@@ -18,7 +20,7 @@ const COUNT: u64 = 5_000;
 
 /// The plan's words are read back, and lead to the plan again.
 fn comes_back(bytes: &[u8]) -> String {
-    let words = in_words(bytes, &[]).expect("a good layout");
+    let words = in_words(bytes, &Hints::default()).expect("a good layout");
     let draft = parse(&words).unwrap_or_else(|error| panic!("{error} in\n{words}"));
     assert!(draft.bytes() == bytes, "{words}");
     words
@@ -37,7 +39,7 @@ fn random_plans() {
                 *senders.entry(kind(&plan)).or_insert(0) += 1;
             }
             Err(_) => {
-                let told = in_words(&bytes, &[]).expect_err("no words");
+                let told = in_words(&bytes, &Hints::default()).expect_err("no words");
                 assert!(told.starts_with("Refused with cause "), "{told}");
                 assert!(told.contains("\nAt byte "), "{told}");
                 badly += 1;
@@ -284,7 +286,7 @@ const B: &[u8] = b"Speaking";
 
 /// The words for a packet where A and B are known.
 fn found(packet: &[u8]) -> String {
-    let mut books = Books::new(4, 1);
+    let mut books = Books::new(0, 4, 1);
     books.add("A", A);
     books.add("B", B);
     recognise(&books, packet).to_string()
@@ -410,12 +412,82 @@ fn named_books() {
     let words = "boxes 3\nlimit 1\nbook Old \"2019\"\nbox 1 has \"2020\"\nbox 2 has \"2020\"\n\
         box 3 is bad\nfirst exchange\n3 to 1: share 1 of Old\n";
     let draft = parse(words).expect("good words");
-    let told = |named| in_words(&draft.bytes(), named).expect("a good layout");
-    assert!(told(&[]).contains("\n3 to 1: hex 07 01 "));
-    let named = draft.named();
-    assert_eq!(named, [("Old".to_string(), b"2019".to_vec())]);
-    assert!(told(&named).contains("book Old \"2019\"\nbook A \"2020\"\n"));
-    assert!(told(&named).contains("\n3 to 1: share 1 of Old\n"));
-    let more = [&named[..], &[("Other".to_string(), vec![9])]].concat();
-    assert!(!told(&more).contains("Other"));
+    let told = |hints: &Hints| in_words(&draft.bytes(), hints).expect("a good layout");
+    assert!(told(&Hints::default()).contains("\n3 to 1: hex 07 01 "));
+    let mut hints = draft.hints();
+    assert_eq!(hints.books, [("Old".to_string(), b"2019".to_vec())]);
+    assert!(told(&hints).contains("book Old \"2019\"\nbook A \"2020\"\n"));
+    assert!(told(&hints).contains("\n3 to 1: share 1 of Old\n"));
+    hints.books.push(("Other".to_string(), vec![9]));
+    assert!(!told(&hints).contains("Other"));
+}
+
+/// A plan with a number, which its bytes give back as it stands.
+const NUMBERED: &str = "boxes 4
+limit 1
+sitting 7
+sender 2
+
+book A \"Listening\"
+book B \"Reading\"
+root of A
+bit 1
+
+box 1 is good
+box 2 is bad
+box 3 is good
+box 4 is good
+
+sender's exchange
+2 to 1 3: book A
+2 to 4: book B
+
+first exchange
+2 to 4: share 4 of A
+
+second exchange
+2 to 4: share 2 of A, path 2 of B
+";
+
+/// 0 comes back where it is written out, and nowhere else.
+#[test]
+fn sitting_numbers() {
+    for number in EDGES {
+        let line = format!("sitting {number}\n");
+        let words = NUMBERED.replace("sitting 7\n", &line);
+        let bytes = parse(&words).expect("good words").bytes();
+        assert_eq!(comes_back(&bytes), words);
+        let root = Sharing::of(number, 4, 1, b"Listening").root;
+        let head = [&[4, 1, 15], &root[..], &[1, 2], &number.to_be_bytes()].concat();
+        assert!(bytes.starts_with(&head));
+    }
+    let words = NUMBERED.replace("sitting 7\n", "");
+    let bytes = parse(&words).expect("good words").bytes();
+    assert_eq!(comes_back(&bytes), words);
+    let written = NUMBERED.replace("sitting 7\n", "sitting 0\n");
+    let written = parse(&written).expect("good words").bytes();
+    assert_eq!(bytes[2..37], [&[7], &written[3..37]].concat());
+    assert_eq!(bytes[37..], written[41..]);
+}
+
+/// What is of other sittings comes back in words if these are spoken of, and in bytes if not.
+#[test]
+fn other_sittings() {
+    let words = NUMBERED
+        .replace("root of A\nbit 1", "root of A in sitting 0\nbit 0")
+        .replace("share 4 of A", "share 4 of A in sitting 4294967295")
+        .replace("path 2 of B", "path 2 of B in sitting 8");
+    let draft = parse(&words).expect("good words");
+    let hints = draft.hints();
+    assert_eq!(hints.sittings, [7, 0, u32::MAX, 8]);
+    let told = in_words(&draft.bytes(), &hints).expect("a good layout");
+    assert_eq!(told, words);
+    let told = comes_back(&draft.bytes());
+    let root = hex(&Sharing::of(0, 4, 1, b"Listening").root);
+    assert!(told.contains(&format!("\nroot {root}\n")), "{told}");
+    assert!(told.contains("\n2 to 4: hex 07 04 "), "{told}");
+    let named = words.replace(" in sitting 8", " in sitting 7");
+    let named = parse(&named).expect("good words");
+    let plain = parse(&words.replace(" in sitting 8", "")).expect("good words");
+    assert_eq!(named.bytes(), plain.bytes());
 }

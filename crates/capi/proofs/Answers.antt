@@ -68,49 +68,49 @@ unfolding called
 step-told H s S o p x c r q e f = f o ∙ ap (over s) (e ∙ ap (λ (y : Party). made H y c) q)
 
 -- the opening
-module _ (H : List ℕ → List ℕ) (n t own : ℕ) (m s z : List ℕ) where
-  pub open-refused : (openOf H n t own m .cause ≡ 0 → ⊥) → openCall H n t own m s z ≡ replies (packed (openOf H n t own m .cause) 0) s z
+module _ (H : List ℕ → List ℕ) (session n t own : ℕ) (m s z : List ℕ) where
+  pub open-refused : (openOf H session n t own m .cause ≡ 0 → ⊥) → openCall H session n t own m s z ≡ replies (packed (openOf H session n t own m .cause) 0) s z
   unfolding openCall
-  open-refused h = rw (ne-eqb (openOf H n t own m .cause) 0 h)
+  open-refused h = rw (ne-eqb (openOf H session n t own m .cause) 0 h)
 
-  module _ (fine : openOf H n t own m .cause ≡ 0) where
-    pub open-state : length s < stateLength → openCall H n t own m s z ≡ replies (packed 9 stateLength) s z
+  module _ (fine : openOf H session n t own m .cause ≡ 0) where
+    pub open-state : length s < stateLength → openCall H session n t own m s z ≡ replies (packed 9 stateLength) s z
     unfolding openCall
-    open-state h = rw (eq-eqb (openOf H n t own m .cause) 0 fine, lt-ltb (length s) stateLength h)
+    open-state h = rw (eq-eqb (openOf H session n t own m .cause) 0 fine, lt-ltb (length s) stateLength h)
 
     module _ (long : stateLength ≤ length s) where
-      pub open-root : length z < 32 → openCall H n t own m s z ≡ replies (packed 9 32) s z
+      pub open-root : length z < 32 → openCall H session n t own m s z ≡ replies (packed 9 32) s z
       unfolding openCall
-      open-root h = rw (eq-eqb (openOf H n t own m .cause) 0 fine, le-ltb (length s) stateLength long, lt-ltb (length z) 32 h)
+      open-root h = rw (eq-eqb (openOf H session n t own m .cause) 0 fine, le-ltb (length s) stateLength long, lt-ltb (length z) 32 h)
 
-      pub open-done : 32 ≤ length z → openCall H n t own m s z
-          ≡ replies (packed 0 32) (written (stateBytes (openOf H n t own m .state)) s .buffer) (written (openOf H n t own m .root) z .buffer)
+      pub open-done : 32 ≤ length z → openCall H session n t own m s z
+          ≡ replies (packed 0 32) (written (stateBytes (openOf H session n t own m .state)) s .buffer) (written (openOf H session n t own m .root) z .buffer)
       unfolding openCall
-      open-done h = rw (eq-eqb (openOf H n t own m .cause) 0 fine, le-ltb (length s) stateLength long, le-ltb (length z) 32 h)
+      open-done h = rw (eq-eqb (openOf H session n t own m .cause) 0 fine, le-ltb (length s) stateLength long, le-ltb (length z) 32 h)
 
 -- the opening by a named sender
-module _ (H : List ℕ → List ℕ) (n t own q : ℕ) (bs s z out : List ℕ) where
+module _ (H : List ℕ → List ℕ) (session n t own q : ℕ) (bs s z out : List ℕ) where
   abbrev begins : Begun
-  begins = openBySenderOf H n t own q bs out
+  begins = openBySenderOf H session n t own q bs out
 
   pub sender-refused : (senderCause n t own q bs ≡ 0 → ⊥)
-      → openBySenderCall H n t own q bs s z out ≡ opens (packed (senderCause n t own q bs) 0) s z out
+      → openBySenderCall H session n t own q bs s z out ≡ opens (packed (senderCause n t own q bs) 0) s z out
   unfolding openBySenderCall
   sender-refused h = rw (ne-eqb (senderCause n t own q bs) 0 h)
 
   module _ (fine : senderCause n t own q bs ≡ 0) where
-    pub sender-state : length s < stateLength → openBySenderCall H n t own q bs s z out ≡ opens (packed 9 stateLength) s z out
+    pub sender-state : length s < stateLength → openBySenderCall H session n t own q bs s z out ≡ opens (packed 9 stateLength) s z out
     unfolding openBySenderCall
     sender-state h = rw (eq-eqb (senderCause n t own q bs) 0 fine, lt-ltb (length s) stateLength h)
 
     module _ (long : stateLength ≤ length s) where
-      pub sender-root : length z < 32 → openBySenderCall H n t own q bs s z out ≡ opens (packed 9 32) s z out
+      pub sender-root : length z < 32 → openBySenderCall H session n t own q bs s z out ≡ opens (packed 9 32) s z out
       unfolding openBySenderCall
       sender-root h = rw (eq-eqb (senderCause n t own q bs) 0 fine, le-ltb (length s) stateLength long, lt-ltb (length z) 32 h)
 
       module _ (wide : 32 ≤ length z) where
         pub sender-short : (begins .opened .cause ≡ 0 → ⊥)
-            → openBySenderCall H n t own q bs s z out ≡ opens (packed (begins .opened .cause) (begins .value)) s z out
+            → openBySenderCall H session n t own q bs s z out ≡ opens (packed (begins .opened .cause) (begins .value)) s z out
         unfolding openBySenderCall
         sender-short h =
             rw (
@@ -120,7 +120,7 @@ module _ (H : List ℕ → List ℕ) (n t own q : ℕ) (bs s z out : List ℕ) w
               ne-eqb (begins .opened .cause) 0 h,
             )
 
-        pub sender-done : begins .opened .cause ≡ 0 → openBySenderCall H n t own q bs s z out
+        pub sender-done : begins .opened .cause ≡ 0 → openBySenderCall H session n t own q bs s z out
             ≡ opens (packed 0 (begins .value)) (written (stateBytes (begins .opened .state)) s .buffer) (written (begins .opened .root) z .buffer) (begins .buffer)
         unfolding openBySenderCall
         sender-done h =
@@ -134,9 +134,9 @@ module _ (H : List ℕ → List ℕ) (n t own q : ℕ) (bs s z out : List ℕ) w
   -- a packet that does not fit leaves its buffer
   pub sender-kept : senderCause n t own q bs ≡ 0 → (begins .opened .cause ≡ 0 → ⊥) → begins .buffer ≡ out
   sender-kept fine h = elim (decLt (length out) (length (packetBy n own q bs))) [
-    | yes l ↦ ap (λ (r : Begun). r .buffer) (begun-short n t own q bs H out fine l)
-    | no d ↦ absurd (h (ap (λ (r : Begun). r .opened .cause) (begun-given n t own q bs H out fine (omega arith))
-        ∙ ap (λ (o : Opened). o .cause) (party.open-given H n t own (messageBy own q bs) (cause-bounds n t own q bs fine .0))))
+    | yes l ↦ ap (λ (r : Begun). r .buffer) (begun-short n t own q bs H session out fine l)
+    | no d ↦ absurd (h (ap (λ (r : Begun). r .opened .cause) (begun-given n t own q bs H session out fine (omega arith))
+        ∙ ap (λ (o : Opened). o .cause) (party.open-given H session n t own (messageBy own q bs) (cause-bounds n t own q bs fine .0))))
   ]
 
 pub opens-are : (p P : ℕ) (s S z Z o O : List ℕ) → p ≡ P → s ≡ S → z ≡ Z → o ≡ O → opens p s z o ≡ opens P S Z O

@@ -4,7 +4,7 @@
 use mathlib.Core.Path.{_≡_, refl, sym, ap, subst, _∙_}
 use mathlib.Core.Bool.{Bool, true, false, cond}
 use mathlib.Core.List.{List, [], _∷_, map}
-use Prim.Native.Nat.{ℕ, _≤_}
+use Prim.Native.Nat.{ℕ, _^_, _≤_, _<_}
 use native.Mathlib.Decide.{ℕ-discrete}
 use native.Mathlib.Omega.{arith}
 use lib.Dec.{eqb}
@@ -19,7 +19,7 @@ use Rattle.party.specs.declared.Opened.{Opened}
 use Rattle.party.proofs.Causes.{fit-of}
 use Rattle.party.proofs.Progress.{message-short, held-short, result-short, end-whole}
 use Rattle.state_bytes.specs.Layout.{stateLength, stateOf}
-use Rattle.state_bytes.proofs.Reading.{root-32}
+use Rattle.state_bytes.proofs.Reading.{root-32, session-small}
 use Rattle.state_bytes.proofs.Inverse.{Storable, written-read, root-storable, bit-storable, first-storable, second-storable, end-storable}
 use Rattle.agreement.specs.Calls.{Call, agreeRoot, agreeBit, takeShares, takeRelays, made, events, final}
 use Rattle.agreement.proofs.Run.{refused-keeps, did2, did3, did4, did5, event}
@@ -41,31 +41,31 @@ either : (b : Bool) (y z : Party) → Storable y → Storable z → Storable (co
 either true y z f g = f
 either false y z f g = g
 
-module _ (H : List ℕ → List ℕ) (x : Party) (root : length (x .root) ≡ 32) where
+module _ (H : List ℕ → List ℕ) (x : Party) (four : x .seat .session < 2 ^ 32) (root : length (x .root) ≡ 32) where
   storable : (c : Call) → made H x c .cause ≡ 0 → Storable (made H x c .state)
   storable (agreeRoot z) e =
       let w = whole H x (agreeRoot z) e in
       let f = fit-of x w in
       subst (λ (r : Stepped). Storable (r .state)) (sym (did2 H x z e .1))
-      (bit-storable (x .seat) (f .high) (omega (arith, f .faults)) (f .last) (messageIn x) (message-short H x w) z (root-fine H x z e .1))
+      (bit-storable (x .seat) four (f .high) (omega (arith, f .faults)) (f .last) (messageIn x) (message-short H x w) z (root-fine H x z e .1))
   storable (agreeBit bit out) e =
       let w = whole H x (agreeBit bit out) e in
       let f = fit-of x w in
       subst (λ (r : Stepped). Storable (r .state)) (sym (did3 H x bit out e .2))
       (either (eqb bit 0) (atEnd (x .seat) nothing) (atFirst (x .seat) (messageIn x) (x .root))
-      (end-storable (x .seat) (f .high) (omega (arith, f .faults)) (f .last) nothing (omega arith))
-      (first-storable (x .seat) (f .high) (omega (arith, f .faults)) (f .last) (messageIn x) (message-short H x w) (x .root) root))
+      (end-storable (x .seat) four (f .high) (omega (arith, f .faults)) (f .last) nothing (omega arith))
+      (first-storable (x .seat) four (f .high) (omega (arith, f .faults)) (f .last) (messageIn x) (message-short H x w) (x .root) root))
   storable (takeShares inbox out) e =
       let w = whole H x (takeShares inbox out) e in
       let f = fit-of x w in
       subst (λ (r : Stepped). Storable (r .state)) (sym (did4 H x inbox out e .1))
-      (second-storable (x .seat) (f .high) (omega (arith, f .faults)) (f .last) (messageIn x) (message-short H x w) (x .root) root
+      (second-storable (x .seat) four (f .high) (omega (arith, f .faults)) (f .last) (messageIn x) (message-short H x w) (x .root) root
       (heldOf H x inbox) (held-short H x w inbox))
   storable (takeRelays inbox out) e =
       let w = whole H x (takeRelays inbox out) e in
       let f = fit-of x w in
       subst (λ (r : Stepped). Storable (r .state)) (sym (did5 H x inbox out e .1))
-      (end-storable (x .seat) (f .high) (omega (arith, f .faults)) (f .last) (resultOf H x inbox) (result-short H x w inbox))
+      (end-storable (x .seat) four (f .high) (omega (arith, f .faults)) (f .last) (resultOf H x inbox) (result-short H x w inbox))
 
 module _ (H : List ℕ → List ℕ) where
   -- one call: the buffer then says the state that the step gave back
@@ -75,7 +75,7 @@ module _ (H : List ℕ → List ℕ) where
       let r = made H (stateOf s) c in
       elim (ℕ-discrete (r .cause) 0) [
         | yes e ↦ ap (λ (g : Replies). stateOf (g .state)) (over-written s r e)
-            ∙ written-read (r .state) (storable H (stateOf s) (root-32 s) c e) s (accepted-long H s c e)
+            ∙ written-read (r .state) (storable H (stateOf s) (session-small s) (root-32 s) c e) s (accepted-long H s c e)
         | no e ↦ ap (λ (g : Replies). stateOf (g .state)) (over-left s r e) ∙ sym (refused-keeps H (stateOf s) c e)
       ]
 
@@ -108,12 +108,12 @@ module _ (H : List ℕ → List ℕ) where
       ∙ end-length (x .seat) r
 
   -- an accepted opening: the buffer then says the state that a party opens with
-  pub open-kept : (n t own : ℕ) (m s z : List ℕ) → openOf H n t own m .cause ≡ 0 → stateLength ≤ length s → 32 ≤ length z
-      → stateOf (openCall H n t own m s z .state) ≡ openOf H n t own m .state
-  open-kept n t own m s z e long room =
-      let o = opened-is H n t own m e in
+  pub open-kept : (session n t own : ℕ) (m s z : List ℕ) → session < 2 ^ 32 → openOf H session n t own m .cause ≡ 0 → stateLength ≤ length s → 32 ≤ length z
+      → stateOf (openCall H session n t own m s z .state) ≡ openOf H session n t own m .state
+  open-kept session n t own m s z four e long room =
+      let o = opened-is H session n t own m e in
       let b = open-bounds n t own (length m) (o .0) in
       let g = group-of n t (b .0) in
-      ap (λ (r : Replies). stateOf (r .state)) (open-done H n t own m s z e long room)
-      ∙ written-read (openOf H n t own m .state)
-      (subst (λ (r : Opened). Storable (r .state)) (sym (o .1)) (root-storable (seatOf n t own) (g .high) (g .faults) (b .2) m (b .3))) s long
+      ap (λ (r : Replies). stateOf (r .state)) (open-done H session n t own m s z e long room)
+      ∙ written-read (openOf H session n t own m .state)
+      (subst (λ (r : Opened). Storable (r .state)) (sym (o .1)) (root-storable (seatOf session n t own) four (g .high) (g .faults) (b .2) m (b .3))) s long

@@ -216,14 +216,14 @@ rebuild-small n t es out = elim (ℕ-discrete (groupCause n t) 0) [
   | no e ↦ subst Below (sym (rebuild-refused n t es out e)) (omega arith)
 ]
 
-pub with-root-small : (H : List ℕ → List ℕ) (n t : ℕ) (z es out : List ℕ) → rebuildWithRootOf H n t z es out .value < 2 ^ 32
-with-root-small H n t z es out = elim (ℕ-discrete (groupCause n t) 0) [
+pub with-root-small : (H : List ℕ → List ℕ) (session n t : ℕ) (z es out : List ℕ) → rebuildWithRootOf H session n t z es out .value < 2 ^ 32
+with-root-small H session n t z es out = elim (ℕ-discrete (groupCause n t) 0) [
   | yes e ↦ elim (ℕ-discrete (length z) 32) [
-    | yes w ↦ subst Below (sym (with-root-entries n t es out H z e w))
-        (answered-small (underRoot H n t z (entriesFound n t es)) out (short-under H n t z (entriesFound n t es) (short-entries n t es)))
-    | no w ↦ subst Below (sym (with-root-wide n t es out H z e w)) (omega arith)
+    | yes w ↦ subst Below (sym (with-root-entries n t es out H session z e w))
+        (answered-small (underRoot H session n t z (entriesFound n t es)) out (short-under H session n t z (entriesFound n t es) (short-entries n t es)))
+    | no w ↦ subst Below (sym (with-root-wide n t es out H session z e w)) (omega arith)
   ]
-  | no e ↦ subst Below (sym (with-root-refused n t es out H z e)) (omega arith)
+  | no e ↦ subst Below (sym (with-root-refused n t es out H session z e)) (omega arith)
 ]
 
 -- a digest

@@ -16,7 +16,7 @@ use Rattle.limits.specs.Limits.{maxParties, maxPath, maxShare, maxHashed, parti
 use Rattle.limits.proofs.Ranges.{parties-range, numbered-range}
 use Rattle.sha256.specs.Sha256.{sha256}
 use Rattle.merkle.specs.Answer.{Check, notChecked, answerOf}
-use Rattle.merkle.specs.Shares.{blank, sidesOf, passes, checkOf}
+use Rattle.merkle.specs.Shares.{frontLength, blank, sidesOf, passes, checkOf}
 use Rattle.merkle.proofs.Descend.{sides-fit}
 use Rattle.packet.specs.Format.{hashes, readOf}
 use Rattle.packet.specs.Answer.{placed, readAt, pathAt}
@@ -63,43 +63,43 @@ parts-of n p number from len count e = go (parties n) refl e
         }
 
 -- the path that lies as bytes, in an array or as it is
-module _ (n j : ℕ) (share path root : List ℕ) where
+module _ (session n j : ℕ) (share path root : List ℕ) where
   abbrev Count : ℕ
   Count = length path / 32
 
   same-passes : parties n ≡ true → numbered n j ≡ true
-      → passes sha256 n j share (pathAt path 0 Count) Count root ≡ passes sha256 n j share (hashes Count path) Count root
+      → passes sha256 session n j share (pathAt path 0 Count) Count root ≡ passes sha256 session n j share (hashes Count path) Count root
   unfolding passes
   same-passes p q =
       let few = sides-fit n (j - 1) (parties-range n p .1) (omega (arith, numbered-range n j q)) in
       elim (decLt maxPath Count) [
         | yes h ↦ rw (ne-eqb Count (length (sidesOf n j)) (λ e. absurd (omega (arith, e, few, h))))
-        | no h ↦ ap (λ (l : List (List ℕ)). passes sha256 n j share l Count root)
+        | no h ↦ ap (λ (l : List (List ℕ)). passes sha256 session n j share l Count root)
             (path-there path 0 Count (omega arith) (omega (arith, mul-div-le (length path) 32)))
-            ∙ passes-take n j share (hashes Count path) (replicate (maxPath - Count) blank) Count root (length-hashes Count path)
+            ∙ passes-take session n j share (hashes Count path) (replicate (maxPath - Count) blank) Count root (length-hashes Count path)
       ]
 
-  pub path-checked : checkOf sha256 n j share (pathAt path 0 Count) Count root ≡ checkOf sha256 n j share (hashes Count path) Count root
+  pub path-checked : checkOf sha256 session n j share (pathAt path 0 Count) Count root ≡ checkOf sha256 session n j share (hashes Count path) Count root
   unfolding checkOf
   path-checked = go (parties n) refl (numbered n j) refl
     where
       after : Bool → Check
-      after t = cond (ltb maxHashed (2 + length share)) (notChecked 4) (cond (not (eqb (length root) 32)) (notChecked 7) (answerOf t))
+      after t = cond (ltb maxHashed (frontLength session + length share)) (notChecked 4) (cond (not (eqb (length root) 32)) (notChecked 7) (answerOf t))
 
       go : (a : Bool) → parties n ≡ a → (b : Bool) → numbered n j ≡ b
-          → cond (not a) (notChecked 1) (cond (not b) (notChecked 3) (after (passes sha256 n j share (pathAt path 0 Count) Count root)))
-          ≡ cond (not a) (notChecked 1) (cond (not b) (notChecked 3) (after (passes sha256 n j share (hashes Count path) Count root)))
+          → cond (not a) (notChecked 1) (cond (not b) (notChecked 3) (after (passes sha256 session n j share (pathAt path 0 Count) Count root)))
+          ≡ cond (not a) (notChecked 1) (cond (not b) (notChecked 3) (after (passes sha256 session n j share (hashes Count path) Count root)))
       go false p b q = refl
       go true p false q = refl
       go true p true q = ap after (same-passes p q)
 
   pub check-uneven : (length path % 32 ≡ 0 → ⊥)
-      → checkPathCall sha256 n j share path root ≡ checkAnswer (checkOf sha256 n j share (hashes Count path) Count root .cause) false
+      → checkPathCall sha256 session n j share path root ≡ checkAnswer (checkOf sha256 session n j share (hashes Count path) Count root .cause) false
   unfolding checkPathCall
   check-uneven h = rw (ne-eqb (length path % 32) 0 h)
 
   pub check-whole : length path % 32 ≡ 0
-      → checkPathCall sha256 n j share path root
-      ≡ (let r = checkOf sha256 n j share (hashes Count path) Count root in checkAnswer (r .cause) (r .passed))
+      → checkPathCall sha256 session n j share path root
+      ≡ (let r = checkOf sha256 session n j share (hashes Count path) Count root in checkAnswer (r .cause) (r .passed))
   unfolding checkPathCall
   check-whole h = rw (eq-eqb (length path % 32) 0 h)

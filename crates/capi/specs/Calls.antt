@@ -35,7 +35,7 @@ abbrev pub versionOf : ℕ → ℕ → ℕ → ℕ
 versionOf major minor patch = major * 2 ^ 16 + minor * 2 ^ 8 + patch
 
 abbrev pub libraryVersion : ℕ
-libraryVersion = versionOf 2 2 0
+libraryVersion = versionOf 3 0 0
 
 -- a cause (0: accepted) in the upper 32 bits, a value in the lower
 unfoldable pub packed : ℕ → ℕ → ℕ
@@ -83,9 +83,9 @@ over s r = replies (numberOf r) (cond (eqb (r .cause) 0) (written (stateBytes (r
 
 module _ (H : List ℕ → List ℕ) where
   -- step 1: causes 1 to 4, then 9 for the state's buffer, then 9 for the root's
-  unfoldable pub openCall : ℕ → ℕ → ℕ → List ℕ → List ℕ → List ℕ → Replies
-  openCall n t own m s z =
-      let r = openOf H n t own m in
+  unfoldable pub openCall : ℕ → ℕ → ℕ → ℕ → List ℕ → List ℕ → List ℕ → Replies
+  openCall session n t own m s z =
+      let r = openOf H session n t own m in
       cond (not (eqb (r .cause) 0)) (replies (packed (r .cause) 0) s z)
       (cond (ltb (length s) stateLength) (replies (packed 9 stateLength) s z)
       (cond (ltb (length z) 32) (replies (packed 9 32) s z)
@@ -93,10 +93,10 @@ module _ (H : List ℕ → List ℕ) where
 
   -- step 1 by a named sender: causes 1 to 4, then 9 for the state's buffer, the root's and the packet's, in this order; the value is the packet's length, 0
   -- where none is written
-  unfoldable pub openBySenderCall : ℕ → ℕ → ℕ → ℕ → List ℕ → List ℕ → List ℕ → List ℕ → Opens
-  openBySenderCall n t own sender bs s z out =
+  unfoldable pub openBySenderCall : ℕ → ℕ → ℕ → ℕ → ℕ → List ℕ → List ℕ → List ℕ → List ℕ → Opens
+  openBySenderCall session n t own sender bs s z out =
       let k = senderCause n t own sender bs in
-      let r = openBySenderOf H n t own sender bs out in
+      let r = openBySenderOf H session n t own sender bs out in
       cond (not (eqb k 0)) (opens (packed k 0) s z out)
       (cond (ltb (length s) stateLength) (opens (packed 9 stateLength) s z out)
       (cond (ltb (length z) 32) (opens (packed 9 32) s z out)
@@ -118,6 +118,10 @@ stageCall s = unlessBroken (stateOf s) (packed 0 (stageNumber (stateOf s .stage)
 -- the party's own number
 unfoldable pub ownCall : List ℕ → ℕ
 ownCall s = unlessBroken (stateOf s) (packed 0 (stateOf s .seat .own))
+
+-- the number of its session
+unfoldable pub sessionCall : List ℕ → ℕ
+sessionCall s = unlessBroken (stateOf s) (packed 0 (stateOf s .seat .session))
 
 -- the length of the message that the party ended with; cause 6 where it waits, or ended with nothing
 abbrev pub lengthAnswer : Stage → ℕ
@@ -154,9 +158,9 @@ abbrev pub checkAnswer : ℕ → Bool → ℕ
 checkAnswer cause passed = packed cause (cond passed 1 0)
 
 module _ (H : List ℕ → List ℕ) where
-  unfoldable pub checkPathCall : ℕ → ℕ → List ℕ → List ℕ → List ℕ → ℕ
-  checkPathCall n j share path root =
-      let r = checkOf H n j share (hashes (length path / 32) path) (length path / 32) root in
+  unfoldable pub checkPathCall : ℕ → ℕ → ℕ → List ℕ → List ℕ → List ℕ → ℕ
+  checkPathCall session n j share path root =
+      let r = checkOf H session n j share (hashes (length path / 32) path) (length path / 32) root in
       checkAnswer (r .cause) (eqb (length path % 32) 0 && r .passed)
 
 -- what a function that writes into a lent buffer gives back, as one number
@@ -171,8 +175,8 @@ rebuildCall n t es out = filled (rebuildOf n t es out)
 
 -- the same under a root z, which is handed in before the entries
 module _ (H : List ℕ → List ℕ) where
-  unfoldable pub rebuildWithRootCall : ℕ → ℕ → List ℕ → List ℕ → List ℕ → Returned
-  rebuildWithRootCall n t z es out = filled (rebuildWithRootOf H n t z es out)
+  unfoldable pub rebuildWithRootCall : ℕ → ℕ → ℕ → List ℕ → List ℕ → List ℕ → Returned
+  rebuildWithRootCall session n t z es out = filled (rebuildWithRootOf H session n t z es out)
 
 -- SHA-256 of a message: causes 4 and 9
 unfoldable pub hashCall : List ℕ → List ℕ → Returned

@@ -14,7 +14,7 @@ ghost use Rattle.state_bytes.specs.Layout.{stateLength};
 ghost use Rattle.agreement.specs.Calls.{agreeRoot, agreeBit, takeShares, takeRelays};
 ghost use Rattle.capi.specs.Calls.{libraryVersion, packed, returned, replies, valueShown, over, openCall, opens, openBySenderCall, called, readPacketCall};
 ghost use Rattle.capi.specs.Calls.{readMessageCall, checkAnswer};
-ghost use Rattle.capi.specs.Calls.{stageCall, ownCall, lengthAnswer, resultLengthCall};
+ghost use Rattle.capi.specs.Calls.{stageCall, ownCall, sessionCall, lengthAnswer, resultLengthCall};
 ghost use Rattle.capi.specs.Calls.{checkPathCall, filled, sharesCall, rebuildCall, rebuildWithRootCall, hashCall};
 use buffer::Written;
 use merkle::Checked;
@@ -30,9 +30,9 @@ use party::Stage;
 use state_bytes::LENGTH;
 
 // The version of the library.
-const MAJOR: u32 = 2;
+const MAJOR: u32 = 3;
 
-const MINOR: u32 = 2;
+const MINOR: u32 = 0;
 
 const PATCH: u32 = 0;
 
@@ -60,6 +60,7 @@ pub extern "C" fn cipangohu_state_size() -> usize
 // Step 1. The state and the root are written only where both fit.
 #[no_mangle]
 pub extern "C" fn cipangohu_open(
+    session: u32,
     n: usize,
     t: usize,
     own: usize,
@@ -68,13 +69,13 @@ pub extern "C" fn cipangohu_open(
     root: &mut [u8],
 ) -> u64
     ensures { λ r. ⌜ replies r (now (state .exit)) (now (root .exit))
-        ≡ openCall sha256 n t own (now (message .entry)) (now (state .entry)) (now (root .entry)) ⌝ }
+        ≡ openCall sha256 session n t own (now (message .entry)) (now (state .entry)) (now (root .entry)) ⌝ }
 {
     let Opened {
         state: next,
         cause,
         root: digest,
-    } = Party::open(n, t, own, message);
+    } = Party::open(session, n, t, own, message);
     if cause != 0 {
         return pack(cause, 0);
     }
@@ -92,6 +93,7 @@ pub extern "C" fn cipangohu_open(
 // Step 1 by a named sender. The state, the root and the sender's packet are written only where all fit; the value is the length of that packet.
 #[no_mangle]
 pub extern "C" fn cipangohu_open_by_sender(
+    session: u32,
     n: usize,
     t: usize,
     own: usize,
@@ -102,7 +104,7 @@ pub extern "C" fn cipangohu_open_by_sender(
     out: &mut [u8],
 ) -> u64
     ensures { λ r. ⌜ opens r (now (state .exit)) (now (root .exit)) (now (out .exit))
-        ≡ openBySenderCall sha256 n t own sender (now (bytes .entry)) (now (state .entry)) (now (root .entry)) (now (out .entry)) ⌝ }
+        ≡ openBySenderCall sha256 session n t own sender (now (bytes .entry)) (now (state .entry)) (now (root .entry)) (now (out .entry)) ⌝ }
 {
     let cause = Party::sender_cause(n, t, own, sender, bytes);
     if cause != 0 {
@@ -114,7 +116,7 @@ pub extern "C" fn cipangohu_open_by_sender(
     if root.len() < 32 {
         return pack(9, 32);
     }
-    let OpenedBySender { opened, len } = Party::open_by_sender(n, t, own, sender, bytes, out);
+    let OpenedBySender { opened, len } = Party::open_by_sender(session, n, t, own, sender, bytes, out);
     let Opened {
         state: next,
         cause: short,
@@ -193,6 +195,18 @@ pub extern "C" fn cipangohu_own(state: &[u8]) -> u64
     pack(0, party.seat.own)
 }
 
+// The number of the session that the party sits in.
+#[no_mangle]
+pub extern "C" fn cipangohu_session(state: &[u8]) -> u64
+    ensures { λ r. ⌜ r ≡ sessionCall (now (state .entry)) ⌝ }
+{
+    let party = state_bytes::read(state);
+    if party.broken() {
+        return pack(5, 0);
+    }
+    pack(0, party.seat.session as usize)
+}
+
 // The length of the message that the party ended with.
 #[no_mangle]
 pub extern "C" fn cipangohu_result_length(state: &[u8]) -> u64
@@ -242,6 +256,7 @@ pub extern "C" fn cipangohu_read_packet(n: usize, packet: &[u8]) -> u64
 // Whether the path leads from share j of n to the root.
 #[no_mangle]
 pub extern "C" fn cipangohu_check_path(
+    session: u32,
     n: usize,
     j: usize,
     share: &[u8],
@@ -249,11 +264,11 @@ pub extern "C" fn cipangohu_check_path(
     root: &[u8],
 ) -> u64
     ensures { λ r. ⌜ r
-        ≡ checkPathCall sha256 n j (now (share .entry)) (now (path .entry)) (now (root .entry)) ⌝ }
+        ≡ checkPathCall sha256 session n j (now (share .entry)) (now (path .entry)) (now (root .entry)) ⌝ }
 {
     let count = path.len() / 32;
     let hashes = packet::path_at(path, 0, count);
-    let answer = merkle::check(n, j, share, hashes, count, root);
+    let answer = merkle::check(session, n, j, share, hashes, count, root);
     if path.len() % 32 != 0 {
         return check_answer(denied(answer));
     }
@@ -281,6 +296,7 @@ pub extern "C" fn cipangohu_rebuild(n: usize, t: usize, entries: &[u8], out: &mu
 // The message again from n entries, if it has this root.
 #[no_mangle]
 pub extern "C" fn cipangohu_rebuild_with_root(
+    session: u32,
     n: usize,
     t: usize,
     root: &[u8],
@@ -288,9 +304,9 @@ pub extern "C" fn cipangohu_rebuild_with_root(
     out: &mut [u8],
 ) -> u64
     ensures { λ r. ⌜ returned r (now (out .exit))
-        ≡ rebuildWithRootCall sha256 n t (now (root .entry)) (now (entries .entry)) (now (out .entry)) ⌝ }
+        ≡ rebuildWithRootCall sha256 session n t (now (root .entry)) (now (entries .entry)) (now (out .entry)) ⌝ }
 {
-    let answer = commitment::rebuild_with_root(n, t, root, entries, out);
+    let answer = commitment::rebuild_with_root(session, n, t, root, entries, out);
     number_of(answer)
 }
 

@@ -28,14 +28,14 @@ use Rattle.agreement.specs.Agreement.{Good, joinOver}
 use Rattle.agreement.specs.AgreedRoot as theirs
 use Rattle.agreement.proofs.Ended.{waits-none}
 use Rattle.agreement.proofs.AgreedRoot.{ends-under-its-root, no-invented-message, no-string-more, no-other-ending}
-use Rattle.claims.specs.Terms.{when, foremost, groupThen, unless, causeJoined, bookJoined, rooted, stepIn, first, Box, EndsWith, Clean, actOf, partyBox, Host, boxOf, party}
+use Rattle.claims.specs.Terms.{FourBytes, when, foremost, groupThen, unless, causeJoined, bookJoined, rooted, stepIn, first, Box, EndsWith, Clean, actOf, partyBox, Host, boxOf, party}
 use Rattle.claims.specs.AgreedRoot.{Told, Somebodys, RebuiltBooksHaveTheAgreedRoot}
 use Rattle.agreement.proofs.Mapped.{in-map, all-map, join-map}
 use Rattle.claims.proofs.Parties.{view, seen, view-step, view-first, was-ended, told, cleaned, sitting-tells}
 use Rattle.claims.proofs.Hosts.{either-same, boxes-same}
 
 -- the tool
-module _ (n t : ℕ) (z es out : List ℕ) where
+module _ (session n t : ℕ) (z es out : List ℕ) where
   abbrev ps : List Point
   ps = present 1 (bodies n es)
 
@@ -46,8 +46,8 @@ module _ (n t : ℕ) (z es out : List ℕ) where
   f = framed (n - t) s (take (n - t) ps)
 
   tool-told : let r = joined (n - t) s (take (n - t) ps) in
-      rebuildWithRootOf sha256 n t z es out ≡ unless (groupThen n t (when 7 (not (eqb (length z) 32)) ∷ when 8 (not (fills n es)) ∷ when 11 (ltb (length ps) (n - t))
-      ∷ causeJoined r ∷ when 15 (not (same (messageRoot sha256 n t (bookJoined r)) z)) ∷ [])) (bookJoined r) out
+      rebuildWithRootOf sha256 session n t z es out ≡ unless (groupThen n t (when 7 (not (eqb (length z) 32)) ∷ when 8 (not (fills n es)) ∷ when 11 (ltb (length ps) (n - t))
+      ∷ causeJoined r ∷ when 15 (not (same (messageRoot sha256 session n t (bookJoined r)) z)) ∷ [])) (bookJoined r) out
   unfolding rebuildWithRootOf recovered joined unframed groupCause foremost
   tool-told =
       go (not (parties n)) (leb n (2 * t)) (not (eqb (length z) 32)) (not (fills n es)) (ltb (length ps) (n - t))
@@ -56,9 +56,9 @@ module _ (n t : ℕ) (z es out : List ℕ) where
     where
       go : (a b w d e o u : Bool) (m : List ℕ) → let r = cond o (cause 12) (cond u (cause 12) (message m)) in
           cond (not (eqb (cond a 1 (cond b 2 0)) 0)) (gave (Refused (cond a 1 (cond b 2 0))) out)
-          (cond w (gave (Refused 7) out) (cond d (gave (Refused 8) out) (answered (underRoot sha256 n t z (cond e (cause 11) r)) out)))
+          (cond w (gave (Refused 7) out) (cond d (gave (Refused 8) out) (answered (underRoot sha256 session n t z (cond e (cause 11) r)) out)))
           ≡ unless (foremost (when 1 a ∷ when 2 b ∷ when 7 w ∷ when 8 d ∷ when 11 e ∷ causeJoined r
-          ∷ when 15 (not (same (messageRoot sha256 n t (bookJoined r)) z)) ∷ [])) (bookJoined r) out
+          ∷ when 15 (not (same (messageRoot sha256 session n t (bookJoined r)) z)) ∷ [])) (bookJoined r) out
       go true b w d e o u m = refl
       go false true w d e o u m = refl
       go false false true d e o u m = refl
@@ -66,7 +66,7 @@ module _ (n t : ℕ) (z es out : List ℕ) where
       go false false false false true o u m = refl
       go false false false false false true u m = refl
       go false false false false false false true m = refl
-      go false false false false false false false m = pick (same (messageRoot sha256 n t m) z)
+      go false false false false false false false m = pick (same (messageRoot sha256 session n t m) z)
         where
           pick : (v : Bool) → answered (cond v (message m) (cause 15)) out ≡ unless (foremost (when 15 (not v) ∷ [])) m out
           pick true = refl
@@ -74,30 +74,30 @@ module _ (n t : ℕ) (z es out : List ℕ) where
 
 -- step 5
 step5-told : (x : Party) (inbox m : List ℕ) → hasEnded (x .stage) ≡ false → happy sha256 x ≡ false → recoveredBy sha256 x inbox ≡ message m
-    → resultOf sha256 x inbox ≡ cond (same (messageRoot sha256 (x .seat .n) (x .seat .t) m) (x .root)) (settled m) nothing
+    → resultOf sha256 x inbox ≡ cond (same (messageRoot sha256 (x .seat .session) (x .seat .n) (x .seat .t) m) (x .root)) (settled m) nothing
 unfolding resultOf
 step5-told x inbox m w u e =
     ap (λ (o : Option Result). heldOr o (resultFound sha256 x inbox)) (waits-none x w) ∙ found-rebuilt sha256 x inbox u
-    ∙ ap (λ (a : Recovered). rebuilt (underRoot sha256 (x .seat .n) (x .seat .t) (x .root) a)) e
-    ∙ go (same (messageRoot sha256 (x .seat .n) (x .seat .t) m) (x .root))
+    ∙ ap (λ (a : Recovered). rebuilt (underRoot sha256 (x .seat .session) (x .seat .n) (x .seat .t) (x .root) a)) e
+    ∙ go (same (messageRoot sha256 (x .seat .session) (x .seat .n) (x .seat .t) m) (x .root))
   where
     go : (b : Bool) → rebuilt (cond b (message m) (cause 15)) ≡ cond b (settled m) nothing
     go true = refl
     go false = refl
 
 -- a party ends as it is seen to end
-unended : (n t : ℕ) (A : Good) (R : Result) → EndsWith (partyBox n t A) R → theirs.EndsWith sha256 n t A R
-unended n t A R (inl f) = inl f
-unended n t A R (inr k) =
-    let e = Memᴰ·of-map view (did sha256 n t (A .own) (A .message) (A .calls)) (k .1) in
+unended : (session n t : ℕ) (A : Good) (R : Result) → EndsWith (partyBox session n t A) R → theirs.EndsWith sha256 session n t A R
+unended session n t A R (inl f) = inl f
+unended session n t A R (inr k) =
+    let e = Memᴰ·of-map view (did sha256 session n t (A .own) (A .message) (A .calls)) (k .1) in
     let w = was-ended (e .0 .call) (e .0 .reply) (k .0) (some R) (e .2) in
     inr (e .0, e .1, sym (view-step (e .0 .call) (e .0 .reply)) ∙ ap stepIn (e .2), w .1)
 
-party-agreed : (n t : ℕ) (A : Good) (m : List ℕ) → EndsWith (partyBox n t A) (settled m)
-    → (z : List ℕ) × (b : ℕ) × (first 2 (partyBox n t A .acts) ≡ some (rooted z b)) × (messageRoot sha256 n t m ≡ z)
-party-agreed n t A m k =
-    let r = ends-under-its-root sha256 .any-list n t A m (unended n t A (settled m) k) in
-    let es = did sha256 n t (A .own) (A .message) (A .calls) in (
+party-agreed : (session n t : ℕ) (A : Good) (m : List ℕ) → EndsWith (partyBox session n t A) (settled m)
+    → (z : List ℕ) × (b : ℕ) × (first 2 (partyBox session n t A .acts) ≡ some (rooted z b)) × (messageRoot sha256 session n t m ≡ z)
+party-agreed session n t A m k =
+    let r = ends-under-its-root sha256 .any-list session n t A m (unended session n t A (settled m) k) in
+    let es = did sha256 session n t (A .own) (A .message) (A .calls) in (
       r .1,
       r .0 .reply .value,
       view-first 2 es ∙ ap seen (r .2) ∙ ap (λ (c : Call). some (actOf c (r .0 .reply))) (r .3),
@@ -105,65 +105,66 @@ party-agreed n t A m k =
     )
 
 -- all good boxes
-module _ (n t : ℕ) (good : List Good) (z : List ℕ) (bit : ℕ) (P : Told n t (map (partyBox n t) good) z bit) where
+module _ (session n t : ℕ) (good : List Good) (z : List ℕ) (bit : ℕ) (P : Told n t (map (partyBox session n t) good) z bit) where
   abbrev boxes : List Box
-  boxes = map (partyBox n t) good
+  boxes = map (partyBox session n t) good
 
-  party-invented : (A : Good) → List·Memᴰ A good → (R : Result) → EndsWith (partyBox n t A) R → Somebodys n t boxes (partyBox n t A) R
+  party-invented : (A : Good) → List·Memᴰ A good → (R : Result) → EndsWith (partyBox session n t A) R → Somebodys session n t boxes (partyBox session n t A) R
   party-invented A h R k =
-      go (no-invented-message sha256 sha256-length n t good z bit (told n t good z bit P) A h R (unended n t A R k))
+      go (no-invented-message sha256 sha256-length session n t good z bit (told session n t good z bit P) A h R (unended session n t A R k))
     where
-      go : theirs.Somebodys sha256 n t good A R → Somebodys n t boxes (partyBox n t A) R
+      go : theirs.Somebodys sha256 session n t good A R → Somebodys session n t boxes (partyBox session n t A) R
       go (inl e) = inl e
-      go (inr b) = inr (partyBox n t (b .0), in-map (partyBox n t) (b .1), b .2)
+      go (inr b) = inr (partyBox session n t (b .0), in-map (partyBox session n t) (b .1), b .2)
 
   parties-more : Clean boxes → (x : List ℕ) → List·Memᴰ x (joinOver (λ (A : Box). A .openedAndChecked ++ A .recoded) boxes)
       → List·Memᴰ x (joinOver (λ (A : Box). A .openedAndChecked) boxes)
   parties-more c x h =
-      subst (List·Memᴰ x) (sym (join-map (partyBox n t) (λ (A : Box). A .openedAndChecked) good))
-      (no-string-more sha256 sha256-length n t good z bit (told n t good z bit P) (cleaned n t good c) x
-      (subst (List·Memᴰ x) (join-map (partyBox n t) (λ (A : Box). A .openedAndChecked ++ A .recoded) good) h))
+      subst (List·Memᴰ x) (sym (join-map (partyBox session n t) (λ (A : Box). A .openedAndChecked) good))
+      (no-string-more sha256 sha256-length session n t good z bit (told session n t good z bit P) (cleaned session n t good c) x
+      (subst (List·Memᴰ x) (join-map (partyBox session n t) (λ (A : Box). A .openedAndChecked ++ A .recoded) good) h))
 
 -- and any, hosts too
-module _ (n t : ℕ) (good : List (Good ⊎ Host)) (z : List ℕ) (bit : ℕ) (P : Told n t (map (boxOf n t) good) z bit) where
+module _ (session n t : ℕ) (good : List (Good ⊎ Host)) (z : List ℕ) (bit : ℕ) (four : FourBytes session)
+    (P : Told n t (map (boxOf session n t) good) z bit) where
   abbrev ones : List Good
   ones = map party good
 
-  is : map (boxOf n t) good ≡ map (partyBox n t) ones
-  is = boxes-same n t good (λ g i. P .opened (boxOf n t g) (in-map (boxOf n t) i) .0)
+  is : map (boxOf session n t) good ≡ map (partyBox session n t) ones
+  is = boxes-same session n t four good (λ g i. P .opened (boxOf session n t g) (in-map (boxOf session n t) i) .0)
 
   abbrev Whose : List Box → Type 0
-  Whose boxes = (A : Box) → List·Memᴰ A boxes → (R : Result) → EndsWith A R → Somebodys n t boxes A R
+  Whose boxes = (A : Box) → List·Memᴰ A boxes → (R : Result) → EndsWith A R → Somebodys session n t boxes A R
 
   abbrev More : List Box → Type 0
   More boxes =
       Clean boxes → (x : List ℕ) → List·Memᴰ x (joinOver (λ (A : Box). A .openedAndChecked ++ A .recoded) boxes)
       → List·Memᴰ x (joinOver (λ (A : Box). A .openedAndChecked) boxes)
 
-  Q : Told n t (map (partyBox n t) ones) z bit
+  Q : Told n t (map (partyBox session n t) ones) z bit
   Q = subst (λ (boxes : List Box). Told n t boxes z bit) is P
 
-  boxes-invented : Whose (map (boxOf n t) good)
+  boxes-invented : Whose (map (boxOf session n t) good)
   boxes-invented =
-      subst Whose (sym is) (all-map (partyBox n t) (λ (A : Box). (R : Result) → EndsWith A R → Somebodys n t (map (partyBox n t) ones) A R) ones
-      (party-invented n t ones z bit Q))
+      subst Whose (sym is) (all-map (partyBox session n t) (λ (A : Box). (R : Result) → EndsWith A R → Somebodys session n t (map (partyBox session n t) ones) A R) ones
+      (party-invented session n t ones z bit Q))
 
-  boxes-more : More (map (boxOf n t) good)
-  boxes-more = subst More (sym is) (parties-more n t ones z bit Q)
+  boxes-more : More (map (boxOf session n t) good)
+  boxes-more = subst More (sym is) (parties-more session n t ones z bit Q)
 
-  boxes-before : Clean (map (boxOf n t) good) → (g : Good ⊎ Host) → List·Memᴰ g good → let A = party g in
-      let x = openOf sha256 n t (A .own) (A .message) .state in theirs.eventsUnchecked sha256 x (A .calls) ≡ events sha256 x (A .calls)
+  boxes-before : Clean (map (boxOf session n t) good) → (g : Good ⊎ Host) → List·Memᴰ g good → let A = party g in
+      let x = openOf sha256 session n t (A .own) (A .message) .state in theirs.eventsUnchecked sha256 x (A .calls) ≡ events sha256 x (A .calls)
   boxes-before c g h =
-      no-other-ending sha256 sha256-length n t ones z bit (told n t ones z bit Q) (cleaned n t ones (subst Clean is c)) (party g) (in-map party h)
+      no-other-ending sha256 sha256-length session n t ones z bit (told session n t ones z bit Q) (cleaned session n t ones (subst Clean is c)) (party g) (in-map party h)
 
 pub rebuilt-books-have-the-agreed-root : RebuiltBooksHaveTheAgreedRoot
 rebuilt-books-have-the-agreed-root =
     record {
       tool = tool-told;
       step5 = step5-told;
-      agreed = λ n t g m e k. let same = either-same n t g e in
-          subst (λ (A : Box). (z : List ℕ) × (b : ℕ) × (first 2 (A .acts) ≡ some (rooted z b)) × (messageRoot sha256 n t m ≡ z)) (sym same)
-          (party-agreed n t (party g) m (subst (λ (A : Box). EndsWith A (settled m)) same k));
+      agreed = λ session n t g m four e k. let same = either-same session n t four g e in
+          subst (λ (A : Box). (z : List ℕ) × (b : ℕ) × (first 2 (A .acts) ≡ some (rooted z b)) × (messageRoot sha256 session n t m ≡ z)) (sym same)
+          (party-agreed session n t (party g) m (subst (λ (A : Box). EndsWith A (settled m)) same k));
       sitting = λ n t good z bit P. (sitting-tells n t good z bit P, P .clean);
       as-before = boxes-before;
       no-string-more = boxes-more;

@@ -16,7 +16,8 @@ use Rattle.sha256.specs.Constants.{round-constants, initial-words}
 use Rattle.sha256.specs.Cases.{abc, two-blocks}
 use Rattle.sha256.proofs.Laws.{sha256-length}
 use Rattle.merkle.specs.Tree.{split, shape, size, nodeString, root, path}
-use Rattle.merkle.specs.Shares.{leafString, leafStrings}
+use Rattle.buffer.specs.Numbers.{fourBytes}
+use Rattle.merkle.specs.Shares.{sessionBytes, leafString, leafStrings}
 use Rattle.merkle.proofs.Shape.{split-largest, shape-leaf, shape-node, size-shape}
 use Rattle.merkle.proofs.Shares.{tree-root}
 use Rattle.merkle.proofs.Trees.{path-made}
@@ -75,36 +76,36 @@ unfolding path
 path-leaf ds = rw (shape-leaf 1 (omega arith))
 
 -- the leaf strings of a book's shares
-module _ (n t : ℕ) (m : List ℕ) (B : Book n t m) where
+module _ (session n t : ℕ) (m : List ℕ) (B : Book n t m) where
   c : Coded n t m
   c = coded n t m B
 
-  its-leaves : leafStrings n (shares n (n - t) m) ≡ leaves n t m
-  unfolding leafStrings leafString
+  its-leaves : leafStrings session n (shares n (n - t) m) ≡ leaves session n t m
+  unfolding leafStrings leafString sessionBytes fourBytes
   its-leaves =
       tabulate-cong n _ _ (λ i h. let e : i + 1 - 1 ≡ i = omega arith in
-      ap (λ (x : List ℕ). 0x00 ∷ (i + 1) ∷ x)
+      ap (λ (x : List ℕ). leafString session (i + 1) x)
       (ap (λ (k : ℕ). take (length (shares n (n - t) m) / n) (drop (k * (length (shares n (n - t) m) / n)) (shares n (n - t) m))) (sym e)
       ∙ cut n t m c (i + 1) (omega arith) (omega arith)))
 
-  its-root : messageRoot sha256 n t m ≡ root sha256 (shape n) (leaves n t m)
+  its-root : messageRoot sha256 session n t m ≡ root sha256 (shape n) (leaves session n t m)
   unfolding messageRoot
-  its-root = tree-root sha256 n (shares n (n - t) m) (fine n t m c) (c .low) (c .high) ∙ ap (root sha256 (shape n)) its-leaves
+  its-root = tree-root sha256 session n (shares n (n - t) m) (fine n t m c session) (c .low) (c .high) ∙ ap (root sha256 (shape n)) its-leaves
 
   module _ (j : ℕ) (first : 1 ≤ j) (last : j ≤ n) where
-    its-path : pathTo sha256 sha256-length n t m c j first last ≡ path sha256 (shape n) (j - 1) (leaves n t m)
+    its-path : pathTo sha256 sha256-length session n t m c j first last ≡ path sha256 (shape n) (j - 1) (leaves session n t m)
     its-path =
-        path-made sha256 sha256-length n (shares n (n - t) m) (fine n t m c) j first last ∙ ap (path sha256 (shape n) (j - 1)) its-leaves
+        path-made sha256 sha256-length session n (shares n (n - t) m) (fine n t m c session) j first last ∙ ap (path sha256 (shape n) (j - 1)) its-leaves
 
-    its-packet : classOf sha256 n j (messageRoot sha256 n t m) (packetWith sha256 n t m j)
-        ≡ valid (share (n - t) j m) (path sha256 (shape n) (j - 1) (leaves n t m))
+    its-packet : classOf sha256 session n j (messageRoot sha256 session n t m) (packetWith sha256 session n t m j)
+        ≡ valid (share (n - t) j m) (path sha256 (shape n) (j - 1) (leaves session n t m))
     its-packet =
-        packet-valid sha256 sha256-length n t m c j first last (messageRoot sha256 n t m) refl
+        packet-valid sha256 sha256-length session n t m c j first last (messageRoot sha256 session n t m) refl
         ∙ ap (valid (share (n - t) j m)) its-path
 
-    its-bytes : packetWith sha256 n t m j
+    its-bytes : packetWith sha256 session n t m j
         ≡ 0x07 ∷ j ∷ length (share (n - t) j m) / 256 ∷ length (share (n - t) j m) % 256
-        ∷ (share (n - t) j m ++ chained (path sha256 (shape n) (j - 1) (leaves n t m)))
+        ∷ (share (n - t) j m ++ chained (path sha256 (shape n) (j - 1) (leaves session n t m)))
     unfolding packetOf
     its-bytes = ap (λ (p : List (List ℕ)). packetOf j (share (n - t) j m) p) its-path
 
@@ -118,15 +119,15 @@ roots-and-paths-are-rfc-6962s =
       path-left = λ n i ds more. path-first n more i ds;
       path-right = λ n i ds more. path-others n more i ds;
       book-root = its-root;
-      book-path = λ n t j m B. its-bytes n t m B j;
+      book-path = λ session n t j m B. its-bytes session n t m B j;
     }
 
 pub a-root-has-one-book : ARootHasOneBook
 a-root-has-one-book =
     record {
-      passes = λ n t j m B. its-packet n t m B j;
-      binds = λ n t j m w x p B. valid-share sha256 sha256-length n t m (coded n t m B) (messageRoot sha256 n t m) refl j w x p;
-      one = λ n t m o B D. one-root sha256 sha256-length n t m o (coded n t m B) (coded n t o D) (B .bytes) (D .bytes);
+      passes = λ session n t j m B. its-packet session n t m B j;
+      binds = λ session n t j m w x p B. valid-share sha256 sha256-length session n t m (coded n t m B) (messageRoot sha256 session n t m) refl j w x p;
+      one = λ session n t m o B D. one-root sha256 sha256-length session n t m o (coded n t m B) (coded n t o D) (B .bytes) (D .bytes);
     }
 
 pub hashes-are-fips-180-4s : HashesAreFIPS180-4s

@@ -36,7 +36,7 @@ use Rattle.capi.specs.Lists.{lengthOf}
 use Rattle.capi.proofs.Answers.{value-fits, over-written, over-left, open-refused, open-state, open-root, open-done}
 use Rattle.capi.proofs.Small.{call-small, call-halves}
 use Rattle.capi.proofs.Kept.{call-kept, calls-kept, length-kept, open-kept}
-use Rattle.claims.specs.Terms.{Act, ended, Box, partyBox, Host, actSeen, actsSeen, hostBox, boxOf, partyOf, party}
+use Rattle.claims.specs.Terms.{FourBytes, Act, ended, Box, partyBox, Host, actSeen, actsSeen, hostBox, boxOf, partyOf, party}
 use Rattle.claims.specs.Claims.{HostOpeningTells, HostStepTells, EveryCallTellsItsOutcome, Sitting, AllGoodHostsEndWithOneResult}
 use Rattle.claims.specs.ReadAgain.{EveryReaderGetsIt}
 use Rattle.agreement.proofs.Mapped.{in-map, map-map, map-same}
@@ -64,16 +64,16 @@ host-step-tells s c =
     }
 
 -- the opening: its outcomes
-data Outcome (n t own : ℕ) (m s z : List ℕ) : Type 0 where
-  turned : openOf sha256 n t own m .cause ≢ 0 → Outcome n t own m s z
-  short-state : openOf sha256 n t own m .cause ≡ 0 → length s < stateLength → Outcome n t own m s z
-  short-root : openOf sha256 n t own m .cause ≡ 0 → stateLength ≤ length s → length z < 32 → Outcome n t own m s z
-  taken : openOf sha256 n t own m .cause ≡ 0 → stateLength ≤ length s → 32 ≤ length z → Outcome n t own m s z
+data Outcome (session n t own : ℕ) (m s z : List ℕ) : Type 0 where
+  turned : openOf sha256 session n t own m .cause ≢ 0 → Outcome session n t own m s z
+  short-state : openOf sha256 session n t own m .cause ≡ 0 → length s < stateLength → Outcome session n t own m s z
+  short-root : openOf sha256 session n t own m .cause ≡ 0 → stateLength ≤ length s → length z < 32 → Outcome session n t own m s z
+  taken : openOf sha256 session n t own m .cause ≡ 0 → stateLength ≤ length s → 32 ≤ length z → Outcome session n t own m s z
 
-outcome : (n t own : ℕ) (m s z : List ℕ) → Outcome n t own m s z
-outcome n t own m s z = go (ℕ-discrete (openOf sha256 n t own m .cause) 0) (decLt (length s) stateLength) (decLt (length z) 32)
+outcome : (session n t own : ℕ) (m s z : List ℕ) → Outcome session n t own m s z
+outcome session n t own m s z = go (ℕ-discrete (openOf sha256 session n t own m .cause) 0) (decLt (length s) stateLength) (decLt (length z) 32)
   where
-    go : Dec (openOf sha256 n t own m .cause ≡ 0) → Dec (length s < stateLength) → Dec (length z < 32) → Outcome n t own m s z
+    go : Dec (openOf sha256 session n t own m .cause ≡ 0) → Dec (length s < stateLength) → Dec (length z < 32) → Outcome session n t own m s z
     go (no d) a b = turned d
     go (yes e) (yes a) b = short-state e a
     go (yes e) (no a) (yes b) = short-root e (omega arith) b
@@ -83,58 +83,59 @@ pub upper : (k v : ℕ) → v < 2 ^ 32 → packed k v / 2 ^ 32 ≡ k
 unfolding packed
 upper k v h = omega (arith, h)
 
-module _ (n t own : ℕ) (m s z : List ℕ) where
+module _ (session n t own : ℕ) (m s z : List ℕ) where
   abbrev r : Opened
-  r = openOf sha256 n t own m
+  r = openOf sha256 session n t own m
 
   abbrev q : Replies
-  q = openCall sha256 n t own m s z
+  q = openCall sha256 session n t own m s z
 
   number-told : q .number ≡ cond (eqb (r .cause) 0)
       (cond (ltb (length s) stateLength) (packed 9 stateLength) (cond (ltb (length z) 32) (packed 9 32) (packed 0 32))) (packed (r .cause) 0)
-  number-told = go (outcome n t own m s z)
+  number-told = go (outcome session n t own m s z)
     where
-      go : Outcome n t own m s z → q .number ≡ cond (eqb (r .cause) 0)
+      go : Outcome session n t own m s z → q .number ≡ cond (eqb (r .cause) 0)
           (cond (ltb (length s) stateLength) (packed 9 stateLength) (cond (ltb (length z) 32) (packed 9 32) (packed 0 32))) (packed (r .cause) 0)
-      go (turned d) = rw (open-refused sha256 n t own m s z d, ne-eqb (r .cause) 0 d)
-      go (short-state e a) = rw (open-state sha256 n t own m s z e a, eq-eqb (r .cause) 0 e, lt-ltb (length s) stateLength a)
+      go (turned d) = rw (open-refused sha256 session n t own m s z d, ne-eqb (r .cause) 0 d)
+      go (short-state e a) = rw (open-state sha256 session n t own m s z e a, eq-eqb (r .cause) 0 e, lt-ltb (length s) stateLength a)
       go (short-root e a b) =
-          rw (open-root sha256 n t own m s z e a b, eq-eqb (r .cause) 0 e, le-ltb (length s) stateLength a, lt-ltb (length z) 32 b)
+          rw (open-root sha256 session n t own m s z e a b, eq-eqb (r .cause) 0 e, le-ltb (length s) stateLength a, lt-ltb (length z) 32 b)
       go (taken e a b) =
-          rw (open-done sha256 n t own m s z e a b, eq-eqb (r .cause) 0 e, le-ltb (length s) stateLength a, le-ltb (length z) 32 b)
+          rw (open-done sha256 session n t own m s z e a b, eq-eqb (r .cause) 0 e, le-ltb (length s) stateLength a, le-ltb (length z) 32 b)
 
   -- an opening that was taken
   taken-is : q .number / 2 ^ 32 ≡ 0 → (r .cause ≡ 0) × (stateLength ≤ length s) × (32 ≤ length z)
-  taken-is e = go (outcome n t own m s z)
+  taken-is e = go (outcome session n t own m s z)
     where
-      go : Outcome n t own m s z → (r .cause ≡ 0) × (stateLength ≤ length s) × (32 ≤ length z)
+      go : Outcome session n t own m s z → (r .cause ≡ 0) × (stateLength ≤ length s) × (32 ≤ length z)
       go (turned d) =
-          absurd (d (sym (upper (r .cause) 0 (omega arith)) ∙ sym (ap (λ (y : Replies). y .number / 2 ^ 32) (open-refused sha256 n t own m s z d)) ∙ e))
+          absurd (d (sym (upper (r .cause) 0 (omega arith)) ∙ sym (ap (λ (y : Replies). y .number / 2 ^ 32) (open-refused sha256 session n t own m s z d)) ∙ e))
       go (short-state c a) =
-          let nine : _≡_ {A = ℕ} 9 0 = sym (upper 9 stateLength (omega arith)) ∙ sym (ap (λ (y : Replies). y .number / 2 ^ 32) (open-state sha256 n t own m s z c a)) ∙ e in
+          let nine : _≡_ {A = ℕ} 9 0 = sym (upper 9 stateLength (omega arith)) ∙ sym (ap (λ (y : Replies). y .number / 2 ^ 32) (open-state sha256 session n t own m s z c a)) ∙ e in
           absurd (omega arith)
       go (short-root c a b) =
-          let nine : _≡_ {A = ℕ} 9 0 = sym (upper 9 32 (omega arith)) ∙ sym (ap (λ (y : Replies). y .number / 2 ^ 32) (open-root sha256 n t own m s z c a b)) ∙ e in
+          let nine : _≡_ {A = ℕ} 9 0 = sym (upper 9 32 (omega arith)) ∙ sym (ap (λ (y : Replies). y .number / 2 ^ 32) (open-root sha256 session n t own m s z c a b)) ∙ e in
           absurd (omega arith)
       go (taken c a b) = (c, a, b)
 
   opening-kept : q .number ≢ packed 0 32 → (q .state ≡ s) × (q .out ≡ z)
-  opening-kept d = go (outcome n t own m s z)
+  opening-kept d = go (outcome session n t own m s z)
     where
-      go : Outcome n t own m s z → (q .state ≡ s) × (q .out ≡ z)
-      go (turned c) = rw (open-refused sha256 n t own m s z c) (refl, refl)
-      go (short-state c a) = rw (open-state sha256 n t own m s z c a) (refl, refl)
-      go (short-root c a b) = rw (open-root sha256 n t own m s z c a b) (refl, refl)
-      go (taken c a b) = absurd (d (ap (λ (y : Replies). y .number) (open-done sha256 n t own m s z c a b)))
+      go : Outcome session n t own m s z → (q .state ≡ s) × (q .out ≡ z)
+      go (turned c) = rw (open-refused sha256 session n t own m s z c) (refl, refl)
+      go (short-state c a) = rw (open-state sha256 session n t own m s z c a) (refl, refl)
+      go (short-root c a b) = rw (open-root sha256 session n t own m s z c a b) (refl, refl)
+      go (taken c a b) = absurd (d (ap (λ (y : Replies). y .number) (open-done sha256 session n t own m s z c a b)))
 
   opening-written : q .number / 2 ^ 32 ≡ 0
-      → (q .state ≡ written (stateBytes (r .state)) s .buffer) × (q .out ≡ written (r .root) z .buffer) × (stateOf (q .state) ≡ r .state)
+      → (q .state ≡ written (stateBytes (r .state)) s .buffer) × (q .out ≡ written (r .root) z .buffer)
+      × (FourBytes session → stateOf (q .state) ≡ r .state)
   opening-written e =
       let a = taken-is e in
-      let o = open-done sha256 n t own m s z (a .0) (a .1) (a .2) in
-      (ap (λ (y : Replies). y .state) o, ap (λ (y : Replies). y .out) o, open-kept sha256 n t own m s z (a .0) (a .1) (a .2))
+      let o = open-done sha256 session n t own m s z (a .0) (a .1) (a .2) in
+      (ap (λ (y : Replies). y .state) o, ap (λ (y : Replies). y .out) o, λ four. open-kept sha256 session n t own m s z four (a .0) (a .1) (a .2))
 
-  host-opening-tells : HostOpeningTells s z r q
+  host-opening-tells : HostOpeningTells session s z r q
   host-opening-tells =
       record {
         number = number-told;
@@ -146,9 +147,9 @@ module _ (n t own : ℕ) (m s z : List ℕ) where
   pub root-length : r .cause ≡ 0 → length (r .root) ≡ 32
   unfolding messageRoot
   root-length c =
-      let o = opened-is sha256 n t own m c in
+      let o = opened-is sha256 session n t own m c in
       ap (λ (y : Opened). length (y .root)) (o .1)
-      ∙ length-root sha256 sha256-length n (shares n (n - t) m) (fine n t m (open-coded n t own m (o .0)))
+      ∙ length-root sha256 sha256-length session n (shares n (n - t) m) (fine n t m (open-coded n t own m (o .0)) session)
 
   root-given : q .number / 2 ^ 32 ≡ 0 → take 32 (q .out) ≡ r .root
   unfolding written
@@ -253,14 +254,14 @@ seen-all s (c ∷ cs) =
         rw (y, below e) (ap₂ (λ (d : Act) (ds : List Act). d ∷ ds) (seen-view s c e) r)
     go (off y) r = rw (y, above (eqb-false (made sha256 (stateOf s) c .cause) 0 y)) r
 
-pub box-same : (n t : ℕ) (h : Host) → hostBox n t h .cause ≡ 0 → hostBox n t h ≡ partyBox n t (partyOf h)
+pub box-same : (session n t : ℕ) → FourBytes session → (h : Host) → hostBox session n t h .cause ≡ 0 → hostBox session n t h ≡ partyBox session n t (partyOf h)
 unfolding did
-box-same n t h e =
+box-same session n t four h e =
     let own = h .own in
     let m = h .book in
-    let q = openCall sha256 n t own m (h .stateRoom) (h .rootRoom) in
-    let says = opening-written n t own m (h .stateRoom) (h .rootRoom) e .2 in
-    boxes (e ∙ sym (taken-is n t own m (h .stateRoom) (h .rootRoom) e .0)) (root-given n t own m (h .stateRoom) (h .rootRoom) e)
+    let q = openCall sha256 session n t own m (h .stateRoom) (h .rootRoom) in
+    let says = opening-written session n t own m (h .stateRoom) (h .rootRoom) e .2 four in
+    boxes (e ∙ sym (taken-is session n t own m (h .stateRoom) (h .rootRoom) e .0)) (root-given session n t own m (h .stateRoom) (h .rootRoom) e)
     (seen-all (q .state) (h .calls) ∙ ap (λ (y : Party). map view (accepted (events sha256 y (h .calls)))) says)
     (ap resultIn (calls-kept sha256 (q .state) (h .calls) ∙ ap (λ (y : Party). final sha256 y (h .calls)) says))
   where
@@ -271,22 +272,22 @@ box-same n t h e =
     boxes a b c d = rw (a, b, c, d)
 
 -- every good box is a party, seen as one
-pub either-same : (n t : ℕ) (g : Good ⊎ Host) → boxOf n t g .cause ≡ 0 → boxOf n t g ≡ partyBox n t (party g)
-either-same n t (inl A) e = refl
-either-same n t (inr h) e = box-same n t h e
+pub either-same : (session n t : ℕ) → FourBytes session → (g : Good ⊎ Host) → boxOf session n t g .cause ≡ 0 → boxOf session n t g ≡ partyBox session n t (party g)
+either-same session n t four (inl A) e = refl
+either-same session n t four (inr h) e = box-same session n t four h e
 
-pub boxes-same : (n t : ℕ) (good : List (Good ⊎ Host)) → ((g : Good ⊎ Host) → List·Memᴰ g good → boxOf n t g .cause ≡ 0)
-    → map (boxOf n t) good ≡ map (partyBox n t) (map party good)
-boxes-same n t good opened =
-    map-same (boxOf n t) (λ (g : Good ⊎ Host). partyBox n t (party g)) good (λ g i. either-same n t g (opened g i))
-    ∙ sym (map-map party (partyBox n t) good)
+pub boxes-same : (session n t : ℕ) → FourBytes session → (good : List (Good ⊎ Host)) → ((g : Good ⊎ Host) → List·Memᴰ g good → boxOf session n t g .cause ≡ 0)
+    → map (boxOf session n t) good ≡ map (partyBox session n t) (map party good)
+boxes-same session n t four good opened =
+    map-same (boxOf session n t) (λ (g : Good ⊎ Host). partyBox session n t (party g)) good (λ g i. either-same session n t four g (opened g i))
+    ∙ sym (map-map party (partyBox session n t) good)
 
-pub hosts-read : (n t : ℕ) (good : List (Good ⊎ Host)) (z : List ℕ) (bit : ℕ) → Sitting n t (map (boxOf n t) good) z bit
-    → EveryReaderGetsIt n t (map (boxOf n t) good) z bit
-hosts-read n t good z bit P =
-    let same = boxes-same n t good (λ g i. P .opened (boxOf n t g) (in-map (boxOf n t) i) .0) in
+pub hosts-read : (session n t : ℕ) (good : List (Good ⊎ Host)) (z : List ℕ) (bit : ℕ) → FourBytes session → Sitting n t (map (boxOf session n t) good) z bit
+    → EveryReaderGetsIt n t (map (boxOf session n t) good) z bit
+hosts-read session n t good z bit four P =
+    let same = boxes-same session n t four good (λ g i. P .opened (boxOf session n t g) (in-map (boxOf session n t) i) .0) in
     subst (λ (boxes : List Box). EveryReaderGetsIt n t boxes z bit) (sym same)
-    (every-reader-gets-it n t (map party good) z bit (subst (λ (boxes : List Box). Sitting n t boxes z bit) same P))
+    (every-reader-gets-it session n t (map party good) z bit (subst (λ (boxes : List Box). Sitting n t boxes z bit) same P))
 
 pub all-good-hosts-end-with-one-result : AllGoodHostsEndWithOneResult
-all-good-hosts-end-with-one-result n t good z bit P = let r = hosts-read n t good z bit P in (r .0, r .1)
+all-good-hosts-end-with-one-result session n t good z bit four P = let r = hosts-read session n t good z bit four P in (r .0, r .1)

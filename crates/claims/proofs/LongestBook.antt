@@ -53,10 +53,10 @@ last k = elim (ℕ-discrete k 0) [
   | no d ↦ rw (ne-eqb k 0 d)
 ]
 
-opening-judged : (n t own : ℕ) (m : List ℕ) → groupCause n t ≡ 0 → numbered n own ≡ true → openOf sha256 n t own m .cause ≡ when 4 (ltb maxMessage (length m))
+opening-judged : (session n t own : ℕ) (m : List ℕ) → groupCause n t ≡ 0 → numbered n own ≡ true → openOf sha256 session n t own m .cause ≡ when 4 (ltb maxMessage (length m))
 unfolding foremost
-opening-judged n t own m e o =
-    tells .opening n t own m .cause ∙ grouped n t (when 3 (not (numbered n own)) ∷ when 4 (ltb maxMessage (length m)) ∷ []) e
+opening-judged session n t own m e o =
+    tells .opening session n t own m .cause ∙ grouped n t (when 3 (not (numbered n own)) ∷ when 4 (ltb maxMessage (length m)) ∷ []) e
     ∙ rw o (last (when 4 (ltb maxMessage (length m))))
 
 long-frame : (b s : ℕ) (us : List Point) → maxMessage < size (framed b s us) → joined b s us ≡ cause 12
@@ -164,12 +164,12 @@ room-enough x c h q = go (way (broken x)) (not (eqb (turnOf (x .stage)) (stepOf 
         wrongs a k d (rw (b, fits) at e)
 
 -- an opening on bytes
-opening-room : (n t own : ℕ) (m s z : List ℕ) → stateLength ≤ length s → 32 ≤ length z → openCall sha256 n t own m s z .number / 2 ^ 32 ≢ 9
+opening-room : (session n t own : ℕ) (m s z : List ℕ) → stateLength ≤ length s → 32 ≤ length z → openCall sha256 session n t own m s z .number / 2 ^ 32 ≢ 9
 unfolding foremost
-opening-room n t own m s z a b q = go (ℕ-discrete (openOf sha256 n t own m .cause) 0)
+opening-room session n t own m s z a b q = go (ℕ-discrete (openOf sha256 session n t own m .cause) 0)
   where
-    told : openCall sha256 n t own m s z .number ≡ cond (eqb (openOf sha256 n t own m .cause) 0) (packed 0 32) (packed (openOf sha256 n t own m .cause) 0)
-    told = tells .host-opening n t own m s z .number ∙ rw (le-ltb (length s) stateLength a, le-ltb (length z) 32 b)
+    told : openCall sha256 session n t own m s z .number ≡ cond (eqb (openOf sha256 session n t own m .cause) 0) (packed 0 32) (packed (openOf sha256 session n t own m .cause) 0)
+    told = tells .host-opening session n t own m s z .number ∙ rw (le-ltb (length s) stateLength a, le-ltb (length z) 32 b)
 
     never : (a b c d : Bool) → foremost (when 1 a ∷ when 2 b ∷ when 3 c ∷ when 4 d ∷ []) ≡ 9 → ⊥
     never true b c d e = omega arith
@@ -178,13 +178,13 @@ opening-room n t own m s z a b q = go (ℕ-discrete (openOf sha256 n t own m .ca
     never false false false true e = omega arith
     never false false false false e = omega arith
 
-    go : Dec (openOf sha256 n t own m .cause ≡ 0) → ⊥
+    go : Dec (openOf sha256 session n t own m .cause ≡ 0) → ⊥
     go (yes e) = let f : packed 0 32 / 2 ^ 32 ≡ 9 = sym (ap (λ (i : ℕ). i / 2 ^ 32) (told ∙ rw e)) ∙ q in omega (arith, upper 0 32 (omega arith), f)
     go (no d) =
-        let f : packed (openOf sha256 n t own m .cause) 0 / 2 ^ 32 ≡ 9 =
-        sym (ap (λ (i : ℕ). i / 2 ^ 32) (told ∙ rw (ne-eqb (openOf sha256 n t own m .cause) 0 d))) ∙ q in
+        let f : packed (openOf sha256 session n t own m .cause) 0 / 2 ^ 32 ≡ 9 =
+        sym (ap (λ (i : ℕ). i / 2 ^ 32) (told ∙ rw (ne-eqb (openOf sha256 session n t own m .cause) 0 d))) ∙ q in
         never (not (parties n)) (leb n (2 * t)) (not (numbered n own)) (ltb maxMessage (length m))
-        (sym (tells .opening n t own m .cause) ∙ sym (upper (openOf sha256 n t own m .cause) 0 (omega arith)) ∙ f)
+        (sym (tells .opening session n t own m .cause) ∙ sym (upper (openOf sha256 session n t own m .cause) 0 (omega arith)) ∙ f)
 
 pub books-have-one-greatest-length : BooksHaveOneGreatestLength
 unfolding foremost

@@ -37,14 +37,14 @@ use Rattle.state_bytes.specs.Layout.{stateLength, stateBytes, stateOf}
 use Rattle.capi.specs.Calls.{packed, Replies, Opens, opens, openBySenderCall}
 use Rattle.capi.proofs.Answers.{open-done, sender-refused, sender-state, sender-root, sender-short, sender-done}
 use Rattle.capi.proofs.Kept.{open-kept, calls-kept}
-use Rattle.claims.specs.Terms.{Act, when, foremost, groupThen, Box, actOf, partyBox, OpenedBox, openerParty, SenderHost, openerHost, openerOf}
+use Rattle.claims.specs.Terms.{FourBytes, Act, when, foremost, groupThen, Box, actOf, partyBox, OpenedBox, openerParty, SenderHost, openerHost, openerOf}
 use Rattle.claims.specs.Claims.{Sitting, OneResult, bytesSent}
 use Rattle.claims.specs.OneSender.{OpensBySender, SenderSitting, bytesInAll, SendersBook, AllSettle, OneSendsAllSettle}
 use Rattle.claims.proofs.Parties.{view, premises, bytes, conclusions}
 use Rattle.claims.proofs.Hosts.{upper, root-length, seen-all}
 
 -- the opening
-module _ (n t own q : ℕ) (bs out : List ℕ) where
+module _ (session n t own q : ℕ) (bs out : List ℕ) where
   abbrev m : List ℕ
   m = messageBy own q bs
 
@@ -52,7 +52,7 @@ module _ (n t own q : ℕ) (bs out : List ℕ) where
   p = packetBy n own q bs
 
   abbrev r : Begun
-  r = openBySenderOf sha256 n t own q bs out
+  r = openBySenderOf sha256 session n t own q bs out
 
   abbrev k : ℕ
   k = senderCause n t own q bs
@@ -71,22 +71,22 @@ module _ (n t own q : ℕ) (bs out : List ℕ) where
       go false false false false true = refl
       go false false false false false = refl
 
-  fits : k ≡ 0 → length p ≤ length out → r ≡ record { opened = openOf sha256 n t own m; value = length p; buffer = spliced out 0 p }
-  fits f l = begun-given n t own q bs sha256 out f l
+  fits : k ≡ 0 → length p ≤ length out → r ≡ record { opened = openOf sha256 session n t own m; value = length p; buffer = spliced out 0 p }
+  fits f l = begun-given n t own q bs sha256 session out f l
 
-  opens-none : k ≡ 0 → openOf sha256 n t own m .cause ≡ 0
-  opens-none f = ap (λ (o : Opened). o .cause) (open-given sha256 n t own m (cause-bounds n t own q bs f .0))
+  opens-none : k ≡ 0 → openOf sha256 session n t own m .cause ≡ 0
+  opens-none f = ap (λ (o : Opened). o .cause) (open-given sha256 session n t own m (cause-bounds n t own q bs f .0))
 
   -- with cause 9 behind them
   cause-is : r .opened .cause ≡ cond (eqb k 0) (when 9 (ltb (length out) (length p))) k
   cause-is = elim (ℕ-discrete k 0) [
     | yes f ↦ elim (decLt (length out) (length p)) [
-      | yes l ↦ ap (λ (b : Begun). b .opened .cause) (begun-short n t own q bs sha256 out f l)
+      | yes l ↦ ap (λ (b : Begun). b .opened .cause) (begun-short n t own q bs sha256 session out f l)
           ∙ sym (rw (eq-eqb k 0 f, lt-ltb (length out) (length p) l))
       | no d ↦ ap (λ (b : Begun). b .opened .cause) (fits f (omega arith)) ∙ opens-none f
           ∙ sym (rw (eq-eqb k 0 f, le-ltb (length out) (length p) (omega arith)))
     ]
-    | no d ↦ ap (λ (b : Begun). b .opened .cause) (begun-refused n t own q bs sha256 out d) ∙ sym (rw (ne-eqb k 0 d))
+    | no d ↦ ap (λ (b : Begun). b .opened .cause) (begun-refused n t own q bs sha256 session out d) ∙ sym (rw (ne-eqb k 0 d))
   ]
 
   last : (a b c d e f : Bool) → let g = foremost (when 1 a ∷ when 2 b ∷ when 3 c ∷ when 3 d ∷ when 4 e ∷ []) in
@@ -100,7 +100,7 @@ module _ (n t own q : ℕ) (bs out : List ℕ) where
   last false false false false false true = refl
   last false false false false false false = refl
 
-  opening-told : OpensBySender n t own q out m p r
+  opening-told : OpensBySender session n t own q out m p r
   opening-told =
       record {
         cause = cause-is ∙ ap (λ (g : ℕ). cond (eqb g 0) (when 9 (ltb (length out) (length p))) g) listed
@@ -113,20 +113,20 @@ module _ (n t own q : ℕ) (bs out : List ℕ) where
           → (r .opened ≡ refusedOpening (r .opened .cause)) × (r .value ≡ cond (eqb (r .opened .cause) 9) (length p) 0) × (r .buffer ≡ out)
       turned d = elim (ℕ-discrete k 0) [
         | yes f ↦ elim (decLt (length out) (length p)) [
-          | yes l ↦ rw (begun-short n t own q bs sha256 out f l) (refl, refl, refl)
+          | yes l ↦ rw (begun-short n t own q bs sha256 session out f l) (refl, refl, refl)
           | no g ↦ absurd (d (ap (λ (b : Begun). b .opened .cause) (fits f (omega arith)) ∙ opens-none f))
         ]
-        | no g ↦ rw (begun-refused n t own q bs sha256 out g) (refl, sym (rw (ne-eqb k 9 (λ e. omega (arith, cause-small n t own q bs)))), refl)
+        | no g ↦ rw (begun-refused n t own q bs sha256 session out g) (refl, sym (rw (ne-eqb k 9 (λ e. omega (arith, cause-small n t own q bs)))), refl)
       ]
 
-      taken : r .opened .cause ≡ 0 → (r .opened ≡ openOf sha256 n t own m) × (r .value ≡ length p) × (r .buffer ≡ spliced out 0 p)
+      taken : r .opened .cause ≡ 0 → (r .opened ≡ openOf sha256 session n t own m) × (r .value ≡ length p) × (r .buffer ≡ spliced out 0 p)
       taken e =
-          let f = accepted-fits n t own q bs sha256 out e in
+          let f = accepted-fits n t own q bs sha256 session out e in
           let g = fits (f .0) (f .1) in
           (ap (λ (b : Begun). b .opened) g, ap (λ (b : Begun). b .value) g, ap (λ (b : Begun). b .buffer) g)
 
 -- a party that opened by a sender is one that opened with the book that it read
-module _ (n t : ℕ) (A : Begins) where
+module _ (session n t : ℕ) (A : Begins) where
   abbrev seenFrom : Opened → Box
   seenFrom o =
       record {
@@ -136,44 +136,44 @@ module _ (n t : ℕ) (A : Begins) where
         root = o .root;
         acts = map (λ (e : Event). actOf (e .call) (e .reply)) (accepted (events sha256 (o .state) (A .calls)));
         result = resultIn (final sha256 (o .state) (A .calls));
-        openedAndChecked = openedAndChecked sha256 n t (A .own) (partyIn A .message) (A .calls);
-        recoded = recoded sha256 n t (A .own) (partyIn A .message) (A .calls);
+        openedAndChecked = openedAndChecked sha256 session n t (A .own) (partyIn A .message) (A .calls);
+        recoded = recoded sha256 session n t (A .own) (partyIn A .message) (A .calls);
       }
 
-  party-same : openerParty n t A .box .cause ≡ 0 → openerParty n t A .box ≡ partyBox n t (partyIn A)
+  party-same : openerParty session n t A .box .cause ≡ 0 → openerParty session n t A .box ≡ partyBox session n t (partyIn A)
   unfolding did
-  party-same e = ap seenFrom (accepted-opens n t (A .own) (A .sender) (A .bytes) sha256 (A .out) e)
+  party-same e = ap seenFrom (accepted-opens n t (A .own) (A .sender) (A .bytes) sha256 session (A .out) e)
 
 -- all good boxes, as such parties
-module _ (n t : ℕ) (good : List Begins) (q : ℕ) (z : List ℕ) (bit : ℕ) (P : SenderSitting n t (map (openerParty n t) good) q z bit) where
+module _ (session n t : ℕ) (good : List Begins) (q : ℕ) (z : List ℕ) (bit : ℕ) (P : SenderSitting n t (map (openerParty session n t) good) q z bit) where
   abbrev ones : List Good
   ones = map partyIn good
 
   abbrev boxesOf : List OpenedBox → List Box
   boxesOf = map (λ (A : OpenedBox). A .box)
 
-  opened : (A : Begins) → List·Memᴰ A good → openerParty n t A .box .cause ≡ 0
-  opened A h = P .sitting .opened (openerParty n t A .box) (in-map (λ (B : OpenedBox). B .box) (in-map (openerParty n t) h)) .0
+  opened : (A : Begins) → List·Memᴰ A good → openerParty session n t A .box .cause ≡ 0
+  opened A h = P .sitting .opened (openerParty session n t A .box) (in-map (λ (B : OpenedBox). B .box) (in-map (openerParty session n t) h)) .0
 
-  same : boxesOf (map (openerParty n t) good) ≡ map (partyBox n t) ones
+  same : boxesOf (map (openerParty session n t) good) ≡ map (partyBox session n t) ones
   same =
-      map-map (openerParty n t) (λ (B : OpenedBox). B .box) good
-      ∙ map-same (λ (A : Begins). openerParty n t A .box) (λ (A : Begins). partyBox n t (partyIn A)) good (λ A h. party-same n t A (opened A h))
-      ∙ sym (map-map partyIn (partyBox n t) good)
+      map-map (openerParty session n t) (λ (B : OpenedBox). B .box) good
+      ∙ map-same (λ (A : Begins). openerParty session n t A .box) (λ (A : Begins). partyBox session n t (partyIn A)) good (λ A h. party-same session n t A (opened A h))
+      ∙ sym (map-map partyIn (partyBox session n t) good)
 
-  sits : Sitting n t (map (partyBox n t) ones) z bit
+  sits : Sitting n t (map (partyBox session n t) ones) z bit
   sits = subst (λ (l : List Box). Sitting n t l z bit) same (P .sitting)
 
-  supposed : broadcast.Premises sha256 n t good q z bit
+  supposed : broadcast.Premises sha256 session n t good q z bit
   supposed =
-      let Q = premises n t ones z bit sits in
+      let Q = premises session n t ones z bit sits in
       let numbers : map (λ (A : Good). A .own) ones ≡ map (λ (A : Begins). A .own) good = map-map partyIn (λ (A : Good). A .own) good in
       record {
         opened = record {
           accepted = opened;
-          named = λ A h. P .named (openerParty n t A) (in-map (openerParty n t) h);
+          named = λ A h. P .named (openerParty session n t A) (in-map (openerParty session n t) h);
           bytes = λ A h. Q .opened .bytes (partyIn A) (in-map partyIn h);
-          delivered = λ S hS e A h d. P .delivered (openerParty n t S) (openerParty n t A) (in-map (openerParty n t) hS) (in-map (openerParty n t) h) e d;
+          delivered = λ S hS e A h d. P .delivered (openerParty session n t S) (openerParty session n t A) (in-map (openerParty session n t) hS) (in-map (openerParty session n t) h) e d;
           apart = ap different (sym numbers) ∙ Q .opened .apart;
           bad = subst (λ (l : List ℕ). absent n 1 l ≤ t) numbers (Q .opened .bad);
         };
@@ -184,26 +184,26 @@ module _ (n t : ℕ) (good : List Begins) (q : ℕ) (z : List ℕ) (bit : ℕ) (
       }
 
   -- the bytes
-  later-same : bytesSent n t (boxesOf (map (openerParty n t) good)) z bit ≡ agreement.sent sha256 n t ones
-  later-same = ap (λ (l : List Box). bytesSent n t l z bit) same ∙ bytes n t ones z bit sits
+  later-same : bytesSent n t (boxesOf (map (openerParty session n t) good)) z bit ≡ agreement.sent sha256 session n t ones
+  later-same = ap (λ (l : List Box). bytesSent n t l z bit) same ∙ bytes session n t ones z bit sits
 
-  bytes-same : bytesInAll n t (map (openerParty n t) good) q z bit ≡ sentInAll sha256 n t good
+  bytes-same : bytesInAll n t (map (openerParty session n t) good) q z bit ≡ sentInAll sha256 session n t good
   bytes-same =
       ap₂ (λ (a b : ℕ). a + b)
-      (sum-map (openerParty n t) (λ (A : OpenedBox). (n - 1) * length (A .packet)) (λ (A : Begins). (n - 1) * length (gave sha256 n t good A)) (λ A. refl) good)
+      (sum-map (openerParty session n t) (λ (A : OpenedBox). (n - 1) * length (A .packet)) (λ (A : Begins). (n - 1) * length (gave sha256 session n t good A)) (λ A. refl) good)
       later-same
 
-  parties-settle : (R : Result) × SendersBook n t (map (openerParty n t) good) q z bit R
+  parties-settle : (R : Result) × SendersBook n t (map (openerParty session n t) good) q z bit R
   parties-settle =
-      let a = broadcast-sha256 n t good q z bit supposed in
+      let a = broadcast-sha256 session n t good q z bit supposed in
       let R = a .0 in
       let S = a .1 in (
         R,
         record {
-          one = subst (λ (l : List Box). OneResult n t l z bit R) (sym same) (conclusions n t ones z bit sits R (S .agreed));
-          senders = all-map (openerParty n t) (λ (B : OpenedBox). B .box .own ≡ q → R ≡ settled (B .handed)) good (S .senders);
-          bound = λ m e. rw (bytes-same, length-map good (openerParty n t)) (S .bound m e);
-          bad-sender = λ d. bytes-same ∙ S .bound-bad (λ A h. d (openerParty n t A) (in-map (openerParty n t) h)) ∙ sym later-same;
+          one = subst (λ (l : List Box). OneResult n t l z bit R) (sym same) (conclusions session n t ones z bit sits R (S .agreed));
+          senders = all-map (openerParty session n t) (λ (B : OpenedBox). B .box .own ≡ q → R ≡ settled (B .handed)) good (S .senders);
+          bound = λ m e. rw (bytes-same, length-map good (openerParty session n t)) (S .bound m e);
+          bad-sender = λ d. bytes-same ∙ S .bound-bad (λ A h. d (openerParty session n t A) (in-map (openerParty session n t) h)) ∙ sym later-same;
         },
       )
 
@@ -216,7 +216,7 @@ lower v h = omega (arith, h)
 abbrev beginsOf : SenderHost → Begins
 beginsOf h = record { own = h .own; sender = h .sender; bytes = h .handed; out = h .packetRoom; calls = h .calls }
 
-module _ (n t : ℕ) (h : SenderHost) where
+module _ (session n t : ℕ) (four : FourBytes session) (h : SenderHost) where
   abbrev s : List ℕ
   s = h .stateRoom
 
@@ -224,29 +224,29 @@ module _ (n t : ℕ) (h : SenderHost) where
   w = h .rootRoom
 
   abbrev b : Begun
-  b = openBySenderOf sha256 n t (h .own) (h .sender) (h .handed) (h .packetRoom)
+  b = openBySenderOf sha256 session n t (h .own) (h .sender) (h .handed) (h .packetRoom)
 
   abbrev Q : Opens
-  Q = openBySenderCall sha256 n t (h .own) (h .sender) (h .handed) s w (h .packetRoom)
+  Q = openBySenderCall sha256 session n t (h .own) (h .sender) (h .handed) s w (h .packetRoom)
 
   small : b .value < 2 ^ 32
-  small = omega (arith, value-fits n t (h .own) (h .sender) (h .handed) sha256 (h .packetRoom))
+  small = omega (arith, value-fits n t (h .own) (h .sender) (h .handed) sha256 session (h .packetRoom))
 
   -- its opening was taken, and there was room for all that it writes
   host-taken : Q .number / 2 ^ 32 ≡ 0 → (b .opened .cause ≡ 0) × (stateLength ≤ length s) × (32 ≤ length w)
       × (Q ≡ opens (packed 0 (b .value)) (written (stateBytes (b .opened .state)) s .buffer) (written (b .opened .root) w .buffer) (b .buffer))
   host-taken e = elim (ℕ-discrete c 0) [
-    | no d ↦ absurd (d (told c 0 (omega arith) (sender-refused sha256 n t (h .own) (h .sender) (h .handed) s w (h .packetRoom) d)))
+    | no d ↦ absurd (d (told c 0 (omega arith) (sender-refused sha256 session n t (h .own) (h .sender) (h .handed) s w (h .packetRoom) d)))
     | yes f ↦ elim (decLt (length s) stateLength) [
       | yes l ↦ absurd (let z : _≡_ {A = ℕ} 9 0 =
-          told 9 stateLength (omega arith) (sender-state sha256 n t (h .own) (h .sender) (h .handed) s w (h .packetRoom) f l) in omega arith)
+          told 9 stateLength (omega arith) (sender-state sha256 session n t (h .own) (h .sender) (h .handed) s w (h .packetRoom) f l) in omega arith)
       | no a ↦ elim (decLt (length w) 32) [
         | yes l ↦ absurd (let z : _≡_ {A = ℕ} 9 0 =
-            told 9 32 (omega arith) (sender-root sha256 n t (h .own) (h .sender) (h .handed) s w (h .packetRoom) f (omega arith) l) in omega arith)
+            told 9 32 (omega arith) (sender-root sha256 session n t (h .own) (h .sender) (h .handed) s w (h .packetRoom) f (omega arith) l) in omega arith)
         | no g ↦ elim (ℕ-discrete (b .opened .cause) 0) [
           | no d ↦ absurd (d (told (b .opened .cause) (b .value) small
-              (sender-short sha256 n t (h .own) (h .sender) (h .handed) s w (h .packetRoom) f (omega arith) (omega arith) d)))
-          | yes k ↦ (k, omega arith, omega arith, sender-done sha256 n t (h .own) (h .sender) (h .handed) s w (h .packetRoom) f (omega arith) (omega arith) k)
+              (sender-short sha256 session n t (h .own) (h .sender) (h .handed) s w (h .packetRoom) f (omega arith) (omega arith) d)))
+          | yes k ↦ (k, omega arith, omega arith, sender-done sha256 session n t (h .own) (h .sender) (h .handed) s w (h .packetRoom) f (omega arith) (omega arith) k)
         ]
       ]
     ]
@@ -258,20 +258,20 @@ module _ (n t : ℕ) (h : SenderHost) where
       told : (k v : ℕ) → v < 2 ^ 32 → {x y z : List ℕ} → Q ≡ opens (packed k v) x y z → k ≡ 0
       told k v l q = sym (upper k v l) ∙ sym (ap (λ (y : Opens). y .number / 2 ^ 32) q) ∙ e
 
-  host-same : Q .number / 2 ^ 32 ≡ 0 → openerHost n t h ≡ openerParty n t (beginsOf h)
+  host-same : Q .number / 2 ^ 32 ≡ 0 → openerHost session n t h ≡ openerParty session n t (beginsOf h)
   unfolding written
   host-same e =
       let a = host-taken e in
       let own = h .own in
       let m = messageBy own (h .sender) (h .handed) in
-      let opens-as = accepted-opens n t own (h .sender) (h .handed) sha256 (h .packetRoom) (a .0) in
-      let none : openOf sha256 n t own m .cause ≡ 0 = sym (ap (λ (o : Opened). o .cause) opens-as) ∙ a .0 in
-      let wide : length (b .opened .root) ≡ 32 = ap (λ (o : Opened). length (o .root)) opens-as ∙ root-length n t own m s w none in
+      let opens-as = accepted-opens n t own (h .sender) (h .handed) sha256 session (h .packetRoom) (a .0) in
+      let none : openOf sha256 session n t own m .cause ≡ 0 = sym (ap (λ (o : Opened). o .cause) opens-as) ∙ a .0 in
+      let wide : length (b .opened .root) ≡ 32 = ap (λ (o : Opened). length (o .root)) opens-as ∙ root-length session n t own m s w none in
       let kept : stateOf (Q .state) ≡ b .opened .state =
       ap (λ (y : Opens). stateOf (y .state)) (a .3)
       ∙ ap (λ (o : Opened). stateOf (written (stateBytes (o .state)) s .buffer)) opens-as
-      ∙ sym (ap (λ (y : Replies). stateOf (y .state)) (open-done sha256 n t own m s w none (a .1) (a .2)))
-      ∙ open-kept sha256 n t own m s w none (a .1) (a .2) ∙ sym (ap (λ (o : Opened). o .state) opens-as) in
+      ∙ sym (ap (λ (y : Replies). stateOf (y .state)) (open-done sha256 session n t own m s w none (a .1) (a .2)))
+      ∙ open-kept sha256 session n t own m s w four none (a .1) (a .2) ∙ sym (ap (λ (o : Opened). o .state) opens-as) in
       let root : take 32 (Q .root) ≡ b .opened .root =
       ap (λ (y : Opens). take 32 (y .root)) (a .3)
       ∙ ap (λ (g : Given). take 32 (g .buffer)) (written-done (b .opened .root) w (omega (arith, wide, a .2)))
@@ -303,19 +303,19 @@ abbrev begins : Begins ⊎ SenderHost → Begins
 begins (inl A) = A
 begins (inr h) = beginsOf h
 
-either-same : (n t : ℕ) (g : Begins ⊎ SenderHost) → openerOf n t g .box .cause ≡ 0 → openerOf n t g ≡ openerParty n t (begins g)
-either-same n t (inl A) e = refl
-either-same n t (inr h) e = host-same n t h e
+either-same : (session n t : ℕ) → FourBytes session → (g : Begins ⊎ SenderHost) → openerOf session n t g .box .cause ≡ 0 → openerOf session n t g ≡ openerParty session n t (begins g)
+either-same session n t four (inl A) e = refl
+either-same session n t four (inr h) e = host-same session n t four h e
 
 all-settle : AllSettle openerOf
-all-settle n t good q z bit P =
-    let opened : (g : Begins ⊎ SenderHost) → List·Memᴰ g good → openerOf n t g .box .cause ≡ 0 =
-    (λ g i. P .sitting .opened (openerOf n t g .box) (in-map (λ (B : OpenedBox). B .box) (in-map (openerOf n t) i)) .0) in
-    let same : map (openerOf n t) good ≡ map (openerParty n t) (map begins good) =
-    map-same (openerOf n t) (λ (g : Begins ⊎ SenderHost). openerParty n t (begins g)) good (λ g i. either-same n t g (opened g i))
-    ∙ sym (map-map begins (openerParty n t) good) in
+all-settle session n t good q z bit four P =
+    let opened : (g : Begins ⊎ SenderHost) → List·Memᴰ g good → openerOf session n t g .box .cause ≡ 0 =
+    (λ g i. P .sitting .opened (openerOf session n t g .box) (in-map (λ (B : OpenedBox). B .box) (in-map (openerOf session n t) i)) .0) in
+    let same : map (openerOf session n t) good ≡ map (openerParty session n t) (map begins good) =
+    map-same (openerOf session n t) (λ (g : Begins ⊎ SenderHost). openerParty session n t (begins g)) good (λ g i. either-same session n t four g (opened g i))
+    ∙ sym (map-map begins (openerParty session n t) good) in
     subst (λ (l : List OpenedBox). (R : Result) × SendersBook n t l q z bit R) (sym same)
-    (parties-settle n t (map begins good) q z bit (subst (λ (l : List OpenedBox). SenderSitting n t l q z bit) same P))
+    (parties-settle session n t (map begins good) q z bit (subst (λ (l : List OpenedBox). SenderSitting n t l q z bit) same P))
 
 -- a packet of map 7, a share's, is not read as a book's
 no-book : (r : List ℕ) → readMessage (0x07 ∷ r) ≡ nothingRead

@@ -120,26 +120,26 @@ sitting-tells n t good z bit P =
     }
 
 -- the strings of boxes are those of their parties
-pub cleaned : (n t : ℕ) (good : List Good) → Clean (map (partyBox n t) good) → TheirClean sha256 n t good
-cleaned n t good c x y h k =
-    let theirs = join-map (partyBox n t) (λ (B : Box). B .openedAndChecked) good in
+pub cleaned : (session n t : ℕ) (good : List Good) → Clean (map (partyBox session n t) good) → TheirClean sha256 session n t good
+cleaned session n t good c x y h k =
+    let theirs = join-map (partyBox session n t) (λ (B : Box). B .openedAndChecked) good in
     c x y (rw theirs h) (rw theirs k)
 
-module _ (n t : ℕ) (good : List Good) (z : List ℕ) (bit : ℕ) where
+module _ (session n t : ℕ) (good : List Good) (z : List ℕ) (bit : ℕ) where
   abbrev box : Good → Box
-  box = partyBox n t
+  box = partyBox session n t
 
   abbrev In : Good → Type 0
   In A = List·Memᴰ A good
 
   -- a party's first event of step k
   event : (k : ℕ) (A : Good) (d : Act) → first k (box A .acts) ≡ some d
-      → (e : Event) × (step sha256 n t good k A ≡ some e) × (view e ≡ d)
-  event k A d q = unseen (step sha256 n t good k A) d (sym (view-first k (did sha256 n t (A .own) (A .message) (A .calls))) ∙ q)
+      → (e : Event) × (step sha256 session n t good k A ≡ some e) × (view e ≡ d)
+  event k A d q = unseen (step sha256 session n t good k A) d (sym (view-first k (did sha256 session n t (A .own) (A .message) (A .calls))) ∙ q)
 
   -- boxes that are told one root and one bit
   module _ (P : Told n t (map box good) z bit) where
-    pub told : TheirTold sha256 n t good z bit
+    pub told : TheirTold sha256 session n t good z bit
     told =
         record {
           bytes = λ A h. P .opened (box A) (in-map box h) .1;
@@ -148,21 +148,21 @@ module _ (n t : ℕ) (good : List Good) (z : List ℕ) (bit : ℕ) where
           vote = λ v f. P .bit-rule v (all-map box (λ (B : Box). first 2 (B .acts) ≡ some (rooted z v)) good (voted v f));
         }
       where
-        second : (A : Good) → In A → (e : Event) × (step sha256 n t good 2 A ≡ some e) × (e .call ≡ agreeRoot z)
+        second : (A : Good) → In A → (e : Event) × (step sha256 session n t good 2 A ≡ some e) × (e .call ≡ agreeRoot z)
         second A h =
             let s = P .root (box A) (in-map box h) in
             let e = event 2 A (rooted z (s .0)) (s .1) in
             (e .0, e .1, was-rooted (e .0 .call) (e .0 .reply) z (s .0) (e .2) .0)
 
-        third : (A : Good) → In A → (e : Event) → step sha256 n t good 3 A ≡ some e → (out : List ℕ) × (e .call ≡ agreeBit bit out)
+        third : (A : Good) → In A → (e : Event) → step sha256 session n t good 3 A ≡ some e → (out : List ℕ) × (e .call ≡ agreeBit bit out)
         third A h e f =
-            let es = did sha256 n t (A .own) (A .message) (A .calls) in
+            let es = did sha256 session n t (A .own) (A .message) (A .calls) in
             let c = is-third (e .call) (first-in 3 es e f .1) in
             let seen-is : first 3 (box A .acts) ≡ some (sent (c .0) (take (e .reply .value) (e .reply .buffer))) =
             view-first 3 es ∙ ap seen f ∙ ap (λ (k : Call). some (actOf k (e .reply))) (c .2) in
             (c .1, c .2 ∙ ap (λ (b : ℕ). agreeBit b (c .1)) (P .same-bit (box A) (in-map box h) (c .0) _ seen-is))
 
-        voted : (v : ℕ) → ((A : Good) → In A → bitGiven (step sha256 n t good 2 A) ≡ some v) → (A : Good) → In A
+        voted : (v : ℕ) → ((A : Good) → In A → bitGiven (step sha256 session n t good 2 A) ≡ some v) → (A : Good) → In A
             → first 2 (box A .acts) ≡ some (rooted z v)
         voted v f A h =
             let s = P .root (box A) (in-map box h) in
@@ -172,7 +172,7 @@ module _ (n t : ℕ) (good : List Good) (z : List ℕ) (bit : ℕ) where
             s .1 ∙ ap (λ (k : ℕ). some (rooted z k)) (sym b ∙ q)
 
   module _ (P : Sitting n t (map box good) z bit) where
-    pub premises : Premises sha256 n t good z bit
+    pub premises : Premises sha256 session n t good z bit
     premises =
         record {
           opened = record {
@@ -192,30 +192,30 @@ module _ (n t : ℕ) (good : List Good) (z : List ℕ) (bit : ℕ) where
             vote = told (sitting-tells n t (map box good) z bit P) .vote;
           };
           delivered = λ b1. record { firstInbox = came b1; secondInbox = relay-came b1 };
-          clean = cleaned n t good (P .clean);
+          clean = cleaned session n t good (P .clean);
         }
       where
-        third : (A : Good) → In A → (e : Event) × (out : List ℕ) × (step sha256 n t good 3 A ≡ some e) × (e .call ≡ agreeBit bit out)
+        third : (A : Good) → In A → (e : Event) × (out : List ℕ) × (step sha256 session n t good 3 A ≡ some e) × (e .call ≡ agreeBit bit out)
         third A h =
             let s = P .step3 (box A) (in-map box h) in
             let e = event 3 A (sent bit (s .0)) (s .1) in
             let w = was-sent (e .0 .call) (e .0 .reply) bit (s .0) (e .2) in
             (e .0, w .0, e .1, w .1)
 
-        fourth : bit ≡ 1 → (A : Good) → In A → (e : Event) × (step sha256 n t good 4 A ≡ some e)
+        fourth : bit ≡ 1 → (A : Good) → In A → (e : Event) × (step sha256 session n t good 4 A ≡ some e)
         fourth b1 A h =
             let s = P .step4 b1 (box A) (in-map box h) in
             let e = event 4 A (relayed (s .0) (s .1)) (s .2) in
             (e .0, e .1)
 
-        fifth : bit ≡ 1 → (A : Good) → In A → (e : Event) × (step sha256 n t good 5 A ≡ some e)
+        fifth : bit ≡ 1 → (A : Good) → In A → (e : Event) × (step sha256 session n t good 5 A ≡ some e)
         fifth b1 A h =
             let s = P .step5 b1 (box A) (in-map box h) in
             let e = event 5 A (ended (s .0) (s .1)) (s .2) in
             (e .0, e .1)
 
         came : bit ≡ 1 → (A : Good) → In A → (B : Good) → In B → A .own ≢ B .own
-            → heard n (B .own) (step sha256 n t good 4 A) ≡ packetTo n (A .own) (step sha256 n t good 3 B)
+            → heard n (B .own) (step sha256 session n t good 4 A) ≡ packetTo n (A .own) (step sha256 session n t good 3 B)
         came b1 A hA B hB d =
             let s = P .step4 b1 (box A) (in-map box hA) in
             let e = event 4 A (relayed (s .0) (s .1)) (s .2) in
@@ -228,7 +228,7 @@ module _ (n t : ℕ) (good : List Good) (z : List ℕ) (bit : ℕ) where
             ∙ sym (ap (packetTo n (A .own)) (f .1) ∙ ap (entry n (A .own)) w)
 
         relay-came : bit ≡ 1 → (A : Good) → In A → (B : Good) → In B → A .own ≢ B .own
-            → heard n (B .own) (step sha256 n t good 5 A) ≡ wrote (step sha256 n t good 4 B)
+            → heard n (B .own) (step sha256 session n t good 5 A) ≡ wrote (step sha256 session n t good 4 B)
         relay-came b1 A hA B hB d =
             let s = P .step5 b1 (box A) (in-map box hA) in
             let e = event 5 A (ended (s .0) (s .1)) (s .2) in
@@ -240,22 +240,22 @@ module _ (n t : ℕ) (good : List Good) (z : List ℕ) (bit : ℕ) where
             ∙ P .second-inbox b1 (box A) (in-map box hA) (box B) (in-map box hB) d (s .0) (o .0) (o .1) (s .1) (s .2) (o .2)
             ∙ sym (ap wrote (f .1) ∙ w)
 
-    pub bytes : bytesSent n t (map box good) z bit ≡ allSent sha256 n t good
+    pub bytes : bytesSent n t (map box good) z bit ≡ allSent sha256 session n t good
     unfolding sentBy
     bytes =
-        sum-map box (λ (B : Box). sumOver (bytesIn n) (B .acts)) (λ (A : Good). sentBy sha256 n t (A .own) (A .message) (A .calls))
-        (λ A. view-sent n (did sha256 n t (A .own) (A .message) (A .calls))) good
+        sum-map box (λ (B : Box). sumOver (bytesIn n) (B .acts)) (λ (A : Good). sentBy sha256 session n t (A .own) (A .message) (A .calls))
+        (λ A. view-sent n (did sha256 session n t (A .own) (A .message) (A .calls))) good
 
-    given : (R : Result) → Conclusions sha256 n t good bit R → bit ≡ 1 → (A : Good) → In A
+    given : (R : Result) → Conclusions sha256 session n t good bit R → bit ≡ 1 → (A : Good) → In A
         → (inbox : List ℕ) × (first 5 (box A .acts) ≡ some (ended inbox (some R)))
     given R C b1 A h =
         let s = P .step5 b1 (box A) (in-map box h) in
         let e = event 5 A (ended (s .0) (s .1)) (s .2) in
         let r = was-ended (e .0 .call) (e .0 .reply) (s .0) (s .1) (e .2) .1 in
-        let i = first-in 5 (did sha256 n t (A .own) (A .message) (A .calls)) (e .0) (e .1) in
+        let i = first-in 5 (did sha256 session n t (A .own) (A .message) (A .calls)) (e .0) (e .1) in
         (s .0, s .2 ∙ ap (λ (k : Option Result). some (ended (s .0) k)) (sym r ∙ C .gives A h (e .0) (i .0) (i .1)))
 
-    pub conclusions : (R : Result) → Conclusions sha256 n t good bit R → OneResult n t (map box good) z bit R
+    pub conclusions : (R : Result) → Conclusions sha256 session n t good bit R → OneResult n t (map box good) z bit R
     conclusions R C =
         record {
           held = all-map box (λ (B : Box). B .result ≡ some R) good (C .holds);
@@ -272,17 +272,17 @@ module _ (n t : ℕ) (good : List Good) (z : List ℕ) (bit : ℕ) where
         whose (inl e) = inl e
         whose (inr a) = inr (box (a .0), in-map box (a .1), a .2)
 
-pub every-reader-gets-it : (n t : ℕ) (good : List Good) (z : List ℕ) (bit : ℕ) → Sitting n t (map (partyBox n t) good) z bit
-    → EveryReaderGetsIt n t (map (partyBox n t) good) z bit
-every-reader-gets-it n t good z bit P =
-    let r = agreement-sha256 n t good z bit (premises n t good z bit P) in
+pub every-reader-gets-it : (session n t : ℕ) (good : List Good) (z : List ℕ) (bit : ℕ) → Sitting n t (map (partyBox session n t) good) z bit
+    → EveryReaderGetsIt n t (map (partyBox session n t) good) z bit
+every-reader-gets-it session n t good z bit P =
+    let r = agreement-sha256 session n t good z bit (premises session n t good z bit P) in
     let C = r .1 in (
       r .0,
-      conclusions n t good z bit P (r .0) C,
+      conclusions session n t good z bit P (r .0) C,
       C .void,
-      all-map (partyBox n t) (λ (B : Box). (inbox : List ℕ) (q : Option Result) → List·Memᴰ (ended inbox q) (B .acts) → q ≡ some (r .0)) good
-          (λ A h. readers (did sha256 n t (A .own) (A .message) (A .calls)) (r .0) (C .gives A h)),
+      all-map (partyBox session n t) (λ (B : Box). (inbox : List ℕ) (q : Option Result) → List·Memᴰ (ended inbox q) (B .acts) → q ≡ some (r .0)) good
+          (λ A h. readers (did sha256 session n t (A .own) (A .message) (A .calls)) (r .0) (C .gives A h)),
     )
 
 pub all-good-boxes-end-with-one-result : AllGoodBoxesEndWithOneResult
-all-good-boxes-end-with-one-result n t good z bit P = let r = every-reader-gets-it n t good z bit P in (r .0, r .1)
+all-good-boxes-end-with-one-result session n t good z bit four P = let r = every-reader-gets-it session n t good z bit P in (r .0, r .1)

@@ -30,12 +30,13 @@ use Rattle.agreement.proofs.Run.{endedWith, did5, event}
 use Rattle.agreement.proofs.Lists.{same-some}
 use Rattle.agreement.proofs.Later.{did-both, gave, later-result, later-sent, later-checked, later-recoded}
 use Rattle.state_bytes.specs.Layout.{stateBytes, stateOf}
+use Rattle.state_bytes.proofs.Reading.{session-small}
 use Rattle.state_bytes.proofs.Inverse.{written-again, end-storable}
 use Rattle.capi.specs.Calls.{packed, valueShown, Replies, numberOf, over, replies, called}
 use Rattle.capi.proofs.Answers.{over-written, replies-are}
 use Rattle.capi.proofs.Sound.{whole, accepted-long}
 use Rattle.capi.proofs.Kept.{call-kept}
-use Rattle.claims.specs.Terms.{when, foremost, lent, wrong, next, ended, Box, partyBox, Host, boxOf, partyOf, further, NothingMore}
+use Rattle.claims.specs.Terms.{FourBytes, when, foremost, lent, wrong, next, ended, Box, partyBox, Host, boxOf, partyOf, further, NothingMore}
 use Rattle.claims.specs.ReadAgain.{GivesAgain, ResultsAreReadAgain}
 use Rattle.claims.proofs.Steps.{opening-tells, done, ends, step-tells}
 use Rattle.claims.proofs.Parties.{view, readers, view-sent}
@@ -168,7 +169,7 @@ module _ (s : List ℕ) (c : Call) (R : Result) (inbox room : List ℕ) (e : mad
       ∙ ap (λ (r : Stepped). replies (numberOf r) (written (stateBytes (r .state)) S .buffer) (r .buffer)) is
       ∙ replies-are _ _ _ _ _ _ (ap (packed 0) (shown R))
       (ap (λ (b : List ℕ). written (stateBytes y) b .buffer) bytes
-      ∙ written-again y (end-storable (x .seat) (f .high) (omega (arith, f .faults)) (f .last) R (short-end (x .seat) R sound)) s (accepted-long sha256 s c e)
+      ∙ written-again y (end-storable (x .seat) (session-small s) (f .high) (omega (arith, f .faults)) (f .last) R (short-end (x .seat) R sound)) s (accepted-long sha256 s c e)
       ∙ sym bytes)
       (ends x R room)
     where
@@ -190,7 +191,7 @@ one-accepted : (x : Party) (c : Call) → made sha256 x c .cause ≡ 0 → accep
 unfolding accepted events
 one-accepted x c e = rw (eq-eqb (made sha256 x c .cause) 0 e)
 
-module _ (n t : ℕ) (A : Good) (R : Result) (h : partyBox n t A .result ≡ some R) where
+module _ (session n t : ℕ) (A : Good) (R : Result) (h : partyBox session n t A .result ≡ some R) where
   abbrev i : ℕ
   i = A .own
 
@@ -203,52 +204,52 @@ module _ (n t : ℕ) (A : Good) (R : Result) (h : partyBox n t A .result ≡ som
   abbrev longer : List Call → Good
   longer more = record { own = i; message = m; calls = cs ++ more }
 
-  party-later : (more : List Call) → NothingMore n (partyBox n t A) (partyBox n t (longer more))
+  party-later : (more : List Call) → NothingMore n (partyBox session n t A) (partyBox session n t (longer more))
   unfolding sentBy
   party-later more =
-      let held = later-result sha256 n t i m cs R h more in
+      let held = later-result sha256 session n t i m cs R h more in
       record {
         held = held ∙ sym h;
-        readings = λ inbox r k. readers (did sha256 n t i m (cs ++ more)) R (gave sha256 n t i m (cs ++ more) R held) inbox r k ∙ sym h;
-        sent = view-sent n (did sha256 n t i m (cs ++ more)) ∙ later-sent sha256 n t i m cs R h more ∙ sym (view-sent n (did sha256 n t i m cs));
-        hashed = (later-checked sha256 n t i m cs R h more, later-recoded sha256 n t i m cs R h more);
+        readings = λ inbox r k. readers (did sha256 session n t i m (cs ++ more)) R (gave sha256 session n t i m (cs ++ more) R held) inbox r k ∙ sym h;
+        sent = view-sent n (did sha256 session n t i m (cs ++ more)) ∙ later-sent sha256 session n t i m cs R h more ∙ sym (view-sent n (did sha256 session n t i m cs));
+        hashed = (later-checked sha256 session n t i m cs R h more, later-recoded sha256 session n t i m cs R h more);
       }
 
-  party-next : (inbox out : List ℕ) → partyBox n t A .cause ≡ 0 → length (resultBytes R) ≤ length out
-      → partyBox n t (longer (takeRelays inbox out ∷ [])) .acts ≡ partyBox n t A .acts ++ (ended inbox (some R) ∷ [])
+  party-next : (inbox out : List ℕ) → partyBox session n t A .cause ≡ 0 → length (resultBytes R) ≤ length out
+      → partyBox session n t (longer (takeRelays inbox out ∷ [])) .acts ≡ partyBox session n t A .acts ++ (ended inbox (some R) ∷ [])
   unfolding foremost
   party-next inbox out e fits =
       let c = takeRelays inbox out in
-      let fin = final sha256 (openOf sha256 n t i m .state) cs in
+      let fin = final sha256 (openOf sha256 session n t i m .state) cs in
       let g = gives-again fin R h inbox out in
-      let sound = final-whole (openOf sha256 n t i m .state) cs (opening-tells n t i m .accepted e .2) in
+      let sound = final-whole (openOf sha256 session n t i m .state) cs (opening-tells session n t i m .accepted e .2) in
       let a : made sha256 fin c .cause ≡ 0 = g .cause ∙ rw (sound, le-ltb (length out) (length (resultBytes R)) fits) in
-      ap (map view) (did-both sha256 n t i m cs (c ∷ []) ∙ ap (λ (l : List Event). did sha256 n t i m cs ++ l) (one-accepted fin c a))
-      ∙ map-append view (did sha256 n t i m cs) (event sha256 fin c ∷ [])
-      ∙ ap (λ (r : Option Result). partyBox n t A .acts ++ (ended inbox r ∷ [])) (g .given a .2)
+      ap (map view) (did-both sha256 session n t i m cs (c ∷ []) ∙ ap (λ (l : List Event). did sha256 session n t i m cs ++ l) (one-accepted fin c a))
+      ∙ map-append view (did sha256 session n t i m cs) (event sha256 fin c ∷ [])
+      ∙ ap (λ (r : Option Result). partyBox session n t A .acts ++ (ended inbox r ∷ [])) (g .given a .2)
 
 -- and any good box
 abbrev longerHost : Host → List Call → Host
 longerHost k more = record { own = k .own; book = k .book; stateRoom = k .stateRoom; rootRoom = k .rootRoom; calls = k .calls ++ more }
 
-module _ (n t : ℕ) (R : Result) where
-  later : (g : Good ⊎ Host) (more : List Call) → boxOf n t g .cause ≡ 0 → boxOf n t g .result ≡ some R
-      → NothingMore n (boxOf n t g) (boxOf n t (further more g))
-  later (inl A) more e h = party-later n t A R h more
+module _ (session n t : ℕ) (four : FourBytes session) (R : Result) where
+  later : (g : Good ⊎ Host) (more : List Call) → boxOf session n t g .cause ≡ 0 → boxOf session n t g .result ≡ some R
+      → NothingMore n (boxOf session n t g) (boxOf session n t (further more g))
+  later (inl A) more e h = party-later session n t A R h more
   later (inr k) more e h =
-      let a = box-same n t k e in
-      subst (λ (after : Box). NothingMore n (boxOf n t (inr k)) after) (sym (box-same n t (longerHost k more) e))
-      (subst (λ (before : Box). NothingMore n before (partyBox n t (partyOf (longerHost k more)))) (sym a)
-      (party-later n t (partyOf k) R (sym (ap (λ (B : Box). B .result) a) ∙ h) more))
+      let a = box-same session n t four k e in
+      subst (λ (after : Box). NothingMore n (boxOf session n t (inr k)) after) (sym (box-same session n t four (longerHost k more) e))
+      (subst (λ (before : Box). NothingMore n before (partyBox session n t (partyOf (longerHost k more)))) (sym a)
+      (party-later session n t (partyOf k) R (sym (ap (λ (B : Box). B .result) a) ∙ h) more))
 
-  next-reader : (g : Good ⊎ Host) (inbox out : List ℕ) → boxOf n t g .cause ≡ 0 → boxOf n t g .result ≡ some R
-      → length (resultBytes R) ≤ length out → boxOf n t (further (takeRelays inbox out ∷ []) g) .acts ≡ boxOf n t g .acts ++ (ended inbox (some R) ∷ [])
-  next-reader (inl A) inbox out e h fits = party-next n t A R h inbox out e fits
+  next-reader : (g : Good ⊎ Host) (inbox out : List ℕ) → boxOf session n t g .cause ≡ 0 → boxOf session n t g .result ≡ some R
+      → length (resultBytes R) ≤ length out → boxOf session n t (further (takeRelays inbox out ∷ []) g) .acts ≡ boxOf session n t g .acts ++ (ended inbox (some R) ∷ [])
+  next-reader (inl A) inbox out e h fits = party-next session n t A R h inbox out e fits
   next-reader (inr k) inbox out e h fits =
-      let a = box-same n t k e in
-      let b = box-same n t (longerHost k (takeRelays inbox out ∷ [])) e in
+      let a = box-same session n t four k e in
+      let b = box-same session n t four (longerHost k (takeRelays inbox out ∷ [])) e in
       ap (λ (B : Box). B .acts) b
-      ∙ party-next n t (partyOf k) R (sym (ap (λ (B : Box). B .result) a) ∙ h) inbox out (sym (ap (λ (B : Box). B .cause) a) ∙ e) fits
+      ∙ party-next session n t (partyOf k) R (sym (ap (λ (B : Box). B .result) a) ∙ h) inbox out (sym (ap (λ (B : Box). B .cause) a) ∙ e) fits
       ∙ ap (λ (B : Box). B .acts ++ (ended inbox (some R) ∷ [])) (sym a)
 
 pub results-are-read-again : ResultsAreReadAgain
@@ -258,7 +259,7 @@ results-are-read-again =
       others = λ x R c h. others x R h c;
       first = first-reading;
       screen = screen;
-      next = λ n t g R. next-reader n t R g;
-      later = λ n t g R. later n t R g;
+      next = λ session n t g R inbox out four. next-reader session n t four R g inbox out;
+      later = λ session n t g R more four. later session n t four R g more;
       one = hosts-read;
     }

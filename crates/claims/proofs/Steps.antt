@@ -58,39 +58,39 @@ or-none k = go (way (eqb k 0))
     go (on e) = rw e (sym (eqb-true k 0 e))
     go (off e) = rw e
 
-opening-told : (n t own : ℕ) (m : List ℕ) → openOf sha256 n t own m .cause
+opening-told : (session n t own : ℕ) (m : List ℕ) → openOf sha256 session n t own m .cause
     ≡ groupThen n t (when 3 (not (numbered n own)) ∷ when 4 (ltb maxMessage (length m)) ∷ [])
 unfolding openOf openCause groupCause
-opening-told n t own m =
+opening-told session n t own m =
     either (not (eqb (openCause n t own (length m)) 0)) _ _ ∙ or-none (openCause n t own (length m))
     ∙ open-foremost (not (parties n)) (leb n (2 * t)) (not (numbered n own)) (ltb maxMessage (length m))
 
-opening-refused : (n t own : ℕ) (m : List ℕ) → openOf sha256 n t own m .cause ≢ 0
-    → (openOf sha256 n t own m .state ≡ blankState) × (openOf sha256 n t own m .root ≡ blank)
-opening-refused n t own m d = go (way (eqb (openCause n t own (length m)) 0))
+opening-refused : (session n t own : ℕ) (m : List ℕ) → openOf sha256 session n t own m .cause ≢ 0
+    → (openOf sha256 session n t own m .state ≡ blankState) × (openOf sha256 session n t own m .root ≡ blank)
+opening-refused session n t own m d = go (way (eqb (openCause n t own (length m)) 0))
   where
-    go : Way (eqb (openCause n t own (length m)) 0) → (openOf sha256 n t own m .state ≡ blankState) × (openOf sha256 n t own m .root ≡ blank)
-    go (on e) = absurd (d (ap (λ (r : Opened). r .cause) (open-given sha256 n t own m (eqb-true (openCause n t own (length m)) 0 e))))
-    go (off e) = rw (open-refused sha256 n t own m (eqb-false (openCause n t own (length m)) 0 e)) (refl, refl)
+    go : Way (eqb (openCause n t own (length m)) 0) → (openOf sha256 session n t own m .state ≡ blankState) × (openOf sha256 session n t own m .root ≡ blank)
+    go (on e) = absurd (d (ap (λ (r : Opened). r .cause) (open-given sha256 session n t own m (eqb-true (openCause n t own (length m)) 0 e))))
+    go (off e) = rw (open-refused sha256 session n t own m (eqb-false (openCause n t own (length m)) 0 e)) (refl, refl)
 
-opening-accepted : (n t own : ℕ) (m : List ℕ) → openOf sha256 n t own m .cause ≡ 0 → (openOf sha256 n t own m .state ≡ atRoot (seatOf n t own) m)
-    × (openOf sha256 n t own m .root ≡ messageRoot sha256 n t m) × (broken (openOf sha256 n t own m .state) ≡ false)
-opening-accepted n t own m e =
-    let o = opened-is sha256 n t own m e in
+opening-accepted : (session n t own : ℕ) (m : List ℕ) → openOf sha256 session n t own m .cause ≡ 0 → (openOf sha256 session n t own m .state ≡ atRoot (seatOf session n t own) m)
+    × (openOf sha256 session n t own m .root ≡ messageRoot sha256 session n t m) × (broken (openOf sha256 session n t own m .state) ≡ false)
+opening-accepted session n t own m e =
+    let o = opened-is sha256 session n t own m e in
     let b = open-bounds n t own (length m) (o .0) in
     let g = group-of n t (b .0) in (
       ap (λ (r : Opened). r .state) (o .1),
       ap (λ (r : Opened). r .root) (o .1),
-      ap (λ (r : Opened). broken (r .state)) (o .1) ∙ root-whole (seatOf n t own) (g .low) (g .high) (g .faults) (b .1) (b .2) m (b .3),
+      ap (λ (r : Opened). broken (r .state)) (o .1) ∙ root-whole (seatOf session n t own) (g .low) (g .high) (g .faults) (b .1) (b .2) m (b .3),
     )
 
-pub opening-tells : (n t own : ℕ) (m : List ℕ) → OpeningTells n t own m (openOf sha256 n t own m)
-opening-tells n t own m =
+pub opening-tells : (session n t own : ℕ) (m : List ℕ) → OpeningTells session n t own m (openOf sha256 session n t own m)
+opening-tells session n t own m =
     record {
-      cause = opening-told n t own m;
-      refused = opening-refused n t own m;
-      accepted = opening-accepted n t own m;
-      lawful = open-accepted sha256 n t own m;
+      cause = opening-told session n t own m;
+      refused = opening-refused session n t own m;
+      accepted = opening-accepted session n t own m;
+      lawful = open-accepted sha256 session n t own m;
     }
 
 -- a step: causes 5 and 6, then its argument's; then that of its buffer

@@ -16,12 +16,14 @@ use Rattle.sha256.specs.Sha256.{sha256, hashOf}
 use Rattle.sha256.specs.declared.Hashed.{Hashed}
 use Rattle.merkle.specs.Answer.{notCounted, countOf, Check, notChecked, answerOf}
 use Rattle.merkle.specs.Tree.{shape, sides}
-use Rattle.merkle.specs.Shares.{blank, leafString, same, passes, pathLengthOf, checkOf}
+use Rattle.buffer.specs.Numbers.{fourBytes}
+use Rattle.merkle.specs.Shares.{blank, sessionBytes, leafString, frontLength, same, passes, pathLengthOf, checkOf}
+use Rattle.merkle.proofs.Written.{length-leafString}
 use Rattle.merkle.proofs.Judged.{passes-true, passes-same, same-refl}
 use Rattle.packet.specs.Format.{Reading, silence, unreadable, shared, readOf}
 use Rattle.packet.specs.Answer.{causeIn, placed, readAt}
 use Rattle.packet.specs.declared.Packet.the-variants as packet
-use Rattle.claims.specs.Terms.{when, foremost, groupThen, unless, causeJoined, bookJoined, unread, Leads}
+use Rattle.claims.specs.Terms.{when, foremost, groupThen, unless, causeJoined, bookJoined, unread, leaf, Leads}
 
 -- shares
 pub shares-told : (n t : ℕ) (m out : List ℕ)
@@ -73,12 +75,17 @@ hash-told m = go (ltb maxHashed (length m))
     go true = refl
     go false = refl
 
+-- a leaf string's length
+front : (session j : ℕ) (x : List ℕ) → length (leaf session j x) ≡ frontLength session + length x
+unfolding leafString sessionBytes fourBytes
+front session j x = length-leafString session j x
+
 -- the path check
-module _ (n j : ℕ) (x : List ℕ) (p : List (List ℕ)) (k : ℕ) (z : List ℕ) where
-  pub check-told : checkOf sha256 n j x p k z .cause
-      ≡ foremost (when 1 (not (parties n)) ∷ when 3 (not (numbered n j)) ∷ when 4 (ltb maxHashed (2 + length x)) ∷ when 7 (not (eqb (length z) 32)) ∷ [])
+module _ (session n j : ℕ) (x : List ℕ) (p : List (List ℕ)) (k : ℕ) (z : List ℕ) where
+  pub check-told : checkOf sha256 session n j x p k z .cause
+      ≡ foremost (when 1 (not (parties n)) ∷ when 3 (not (numbered n j)) ∷ when 4 (ltb maxHashed (length (leaf session j x))) ∷ when 7 (not (eqb (length z) 32)) ∷ [])
   unfolding checkOf foremost
-  check-told = go (not (parties n)) (not (numbered n j)) (ltb maxHashed (2 + length x)) (not (eqb (length z) 32)) (passes sha256 n j x p k z)
+  check-told = rw (front session j x) (go (not (parties n)) (not (numbered n j)) (ltb maxHashed (frontLength session + length x)) (not (eqb (length z) 32)) (passes sha256 session n j x p k z))
     where
       go : (a b d e q : Bool)
           → cond a (notChecked 1) (cond b (notChecked 3) (cond d (notChecked 4) (cond e (notChecked 7) (answerOf q)))) .cause
@@ -92,12 +99,12 @@ module _ (n j : ℕ) (x : List ℕ) (p : List (List ℕ)) (k : ℕ) (z : List �
   abbrev tested : Bool → Bool → Bool → Bool → Bool → Check
   tested a b d e q = cond a (notChecked 1) (cond b (notChecked 3) (cond d (notChecked 4) (cond e (notChecked 7) (answerOf q))))
 
-  pub check-yes : let r = checkOf sha256 n j x p k z in
-      (r .passed ≡ true → (r .cause ≡ 0) × Leads n j x p k z) × (r .cause ≡ 0 → Leads n j x p k z → r .passed ≡ true)
-  unfolding checkOf leafString
+  pub check-yes : let r = checkOf sha256 session n j x p k z in
+      (r .passed ≡ true → (r .cause ≡ 0) × Leads session n j x p k z) × (r .cause ≡ 0 → Leads session n j x p k z → r .passed ≡ true)
+  unfolding checkOf leafString sessionBytes fourBytes
   check-yes = (
-    λ h. let g = passed a b d e q h in (g .0, passes-true sha256 n j x p k z (g .1)),
-    λ h l. taken a b d e q h ∙ passes-same sha256 n j x p k z (l .0) ∙ ap (λ (y : List ℕ). same y z) (l .1) ∙ same-refl z,
+    λ h. let g = passed a b d e q h in (g .0, passes-true sha256 session n j x p k z (g .1)),
+    λ h l. taken a b d e q h ∙ passes-same sha256 session n j x p k z (l .0) ∙ ap (λ (y : List ℕ). same y z) (l .1) ∙ same-refl z,
   )
     where
       a : Bool
@@ -107,13 +114,13 @@ module _ (n j : ℕ) (x : List ℕ) (p : List (List ℕ)) (k : ℕ) (z : List �
       b = not (numbered n j)
 
       d : Bool
-      d = ltb maxHashed (2 + length x)
+      d = ltb maxHashed (frontLength session + length x)
 
       e : Bool
       e = not (eqb (length z) 32)
 
       q : Bool
-      q = passes sha256 n j x p k z
+      q = passes sha256 session n j x p k z
 
       passed : (a b d e q : Bool) → tested a b d e q .passed ≡ true → (tested a b d e q .cause ≡ 0) × (q ≡ true)
       passed true b d e q h = absurd (false≢true h)

@@ -36,14 +36,14 @@ use Rattle.agreement.specs.Agreement.{different, absent, sumOver}
 use Rattle.state_bytes.specs.Layout.{stateLength, stateBytes, stateOf}
 use Rattle.capi.specs.Calls.{packed, valueShown, Replies, openCall, called}
 use Rattle.claims.specs.Terms.{when, foremost, groupThen, lent, wrong, due, next, answered, outcome, unless, causeJoined, bookJoined, unread}
-use Rattle.claims.specs.Terms.{Leads, leaves, exampleMessages, exampleDigests, rooted, sent, relayed, ended, first, bytesIn, Box, Clean, partyBox, boxOf}
+use Rattle.claims.specs.Terms.{FourBytes, leaf, Leads, leaves, exampleMessages, exampleDigests, rooted, sent, relayed, ended, first, bytesIn, Box, Clean, partyBox, boxOf}
 
 -- DEMAND 1. The opening, a step on any state, and both on bytes: the cause, what a refusal keeps, what an accepted call gives, and that a lawful one is
 -- accepted. Cause 9 tells the length needed
-pub record OpeningTells (n t own : ℕ) (m : List ℕ) (r : Opened) : Type 0 where
+pub record OpeningTells (session n t own : ℕ) (m : List ℕ) (r : Opened) : Type 0 where
   pub cause : r .cause ≡ groupThen n t (when 3 (not (numbered n own)) ∷ when 4 (ltb maxMessage (length m)) ∷ [])
   pub refused : r .cause ≢ 0 → (r .state ≡ blankState) × (r .root ≡ blank)
-  pub accepted : r .cause ≡ 0 → (r .state ≡ atRoot (seatOf n t own) m) × (r .root ≡ messageRoot sha256 n t m) × (broken (r .state) ≡ false)
+  pub accepted : r .cause ≡ 0 → (r .state ≡ atRoot (seatOf session n t own) m) × (r .root ≡ messageRoot sha256 session n t m) × (broken (r .state) ≡ false)
   pub lawful : 1 ≤ n → n ≤ maxParties → 2 * t < n → 1 ≤ own → own ≤ n → length m ≤ maxMessage → r .cause ≡ 0
 
 pub record StepTells (x : Party) (c : Call) (r : Stepped) : Type 0 where
@@ -55,12 +55,12 @@ pub record StepTells (x : Party) (c : Call) (r : Stepped) : Type 0 where
   pub lawful : broken x ≡ false → turnOf (x .stage) ≡ stepOf c → wrong x c ≡ 0 → length (due x c) ≤ length (lent c) → r .cause ≡ 0
   pub answer : (r .cause ≡ causeOf (r .answer)) × (r .value ≡ valueOf (r .answer)) × (r .result ≡ resultGiven (r .answer) (r .buffer))
 
-pub record HostOpeningTells (s z : List ℕ) (r : Opened) (q : Replies) : Type 0 where
+pub record HostOpeningTells (session : ℕ) (s z : List ℕ) (r : Opened) (q : Replies) : Type 0 where
   pub number : q .number ≡ cond (eqb (r .cause) 0)
       (cond (ltb (length s) stateLength) (packed 9 stateLength) (cond (ltb (length z) 32) (packed 9 32) (packed 0 32))) (packed (r .cause) 0)
   pub refused : q .number ≢ packed 0 32 → (q .state ≡ s) × (q .out ≡ z)
   pub accepted : q .number ≡ packed 0 32 → (q .state ≡ written (stateBytes (r .state)) s .buffer) × (q .out ≡ written (r .root) z .buffer)
-      × (stateOf (q .state) ≡ r .state)
+      × (FourBytes session → stateOf (q .state) ≡ r .state)
 
 -- the value fits below the cause; step 5's is 1 for a book and 0 for nothing
 pub record HostStepTells (s : List ℕ) (c : Call) (r : Stepped) (q : Replies) : Type 0 where
@@ -69,9 +69,9 @@ pub record HostStepTells (s : List ℕ) (c : Call) (r : Stepped) (q : Replies) :
   pub accepted : r .cause ≡ 0 → (q .state ≡ written (stateBytes (r .state)) s .buffer) × (q .out ≡ r .buffer) × (stateOf (q .state) ≡ r .state)
 
 pub record EveryCallTellsItsOutcome : Type 0 where
-  pub opening : (n t own : ℕ) (m : List ℕ) → OpeningTells n t own m (openOf sha256 n t own m)
+  pub opening : (session n t own : ℕ) (m : List ℕ) → OpeningTells session n t own m (openOf sha256 session n t own m)
   pub step : (x : Party) (c : Call) → StepTells x c (made sha256 x c)
-  pub host-opening : (n t own : ℕ) (m s z : List ℕ) → HostOpeningTells s z (openOf sha256 n t own m) (openCall sha256 n t own m s z)
+  pub host-opening : (session n t own : ℕ) (m s z : List ℕ) → HostOpeningTells session s z (openOf sha256 session n t own m) (openCall sha256 session n t own m s z)
   pub host-step : (s : List ℕ) (c : Call) → HostStepTells s c (made sha256 (stateOf s) c) (called sha256 s c)
   -- the tools: shares, rebuilding from the n - t lowest-numbered shares present, hash, path and its check, packet. On bytes, and of a state that is asked for its
   -- stage, own number or result's length, their contracts are the definitions of `capi`
@@ -81,11 +81,11 @@ pub record EveryCallTellsItsOutcome : Type 0 where
   pub hash : (m : List ℕ) → hashOf m ≡ record { cause = when 4 (ltb maxHashed (length m)); digest = cond (ltb maxHashed (length m)) blank (sha256 m) }
   pub path-length : (n j : ℕ) → (pathLengthOf n j .cause ≡ foremost (when 1 (not (parties n)) ∷ when 3 (not (numbered n j)) ∷ []))
       × (pathLengthOf n j .hashes ≡ cond (eqb (pathLengthOf n j .cause) 0) (length (sides (shape n) (j - 1))) 0)
-  pub check : (n j : ℕ) (x : List ℕ) (p : List (List ℕ)) (k : ℕ) (z : List ℕ) → checkOf sha256 n j x p k z .cause
-      ≡ foremost (when 1 (not (parties n)) ∷ when 3 (not (numbered n j)) ∷ when 4 (ltb maxHashed (2 + length x)) ∷ when 7 (not (eqb (length z) 32)) ∷ [])
+  pub check : (session n j : ℕ) (x : List ℕ) (p : List (List ℕ)) (k : ℕ) (z : List ℕ) → checkOf sha256 session n j x p k z .cause
+      ≡ foremost (when 1 (not (parties n)) ∷ when 3 (not (numbered n j)) ∷ when 4 (ltb maxHashed (length (leaf session j x))) ∷ when 7 (not (eqb (length z) 32)) ∷ [])
   -- yes exactly if the path has the right length and folds to the root, whoever made it
-  pub check-yes : (n j : ℕ) (x : List ℕ) (p : List (List ℕ)) (k : ℕ) (z : List ℕ) → let r = checkOf sha256 n j x p k z in
-      (r .passed ≡ true → (r .cause ≡ 0) × Leads n j x p k z) × (r .cause ≡ 0 → Leads n j x p k z → r .passed ≡ true)
+  pub check-yes : (session n j : ℕ) (x : List ℕ) (p : List (List ℕ)) (k : ℕ) (z : List ℕ) → let r = checkOf sha256 session n j x p k z in
+      (r .passed ≡ true → (r .cause ≡ 0) × Leads session n j x p k z) × (r .cause ≡ 0 → Leads session n j x p k z → r .passed ≡ true)
   pub packet : (n : ℕ) (p : List ℕ) → causeIn (readAt n p 0) ≡ foremost (when 1 (not (parties n)) ∷ when 10 (unread (readOf n p)) ∷ [])
 
 -- DEMAND 2. A book among n boxes of which t may be bad, within the limits
@@ -121,20 +121,20 @@ pub record RootsAndPathsAreRFC6962s : Type 0 where
   pub path-right : (n i : ℕ) (ds : List (List ℕ)) → 2 ≤ n → split n ≤ i → path sha256 (shape n) i ds
       ≡ path sha256 (shape (n - split n)) (i - split n) (drop (split n) ds) ++ (root sha256 (shape (split n)) (take (split n) ds) ∷ [])
   -- these are the root that a box opens with, and the path in the packet with share j
-  pub book-root : (n t : ℕ) (m : List ℕ) → Book n t m → messageRoot sha256 n t m ≡ root sha256 (shape n) (leaves n t m)
-  pub book-path : (n t j : ℕ) (m : List ℕ) → Book n t m → 1 ≤ j → j ≤ n → let x = share (n - t) j m in packetWith sha256 n t m j
-      ≡ 0x07 ∷ j ∷ length x / 256 ∷ length x % 256 ∷ (x ++ chained (path sha256 (shape n) (j - 1) (leaves n t m)))
+  pub book-root : (session n t : ℕ) (m : List ℕ) → Book n t m → messageRoot sha256 session n t m ≡ root sha256 (shape n) (leaves session n t m)
+  pub book-path : (session n t j : ℕ) (m : List ℕ) → Book n t m → 1 ≤ j → j ≤ n → let x = share (n - t) j m in packetWith sha256 session n t m j
+      ≡ 0x07 ∷ j ∷ length x / 256 ∷ length x % 256 ∷ (x ++ chained (path sha256 (shape n) (j - 1) (leaves session n t m)))
 
 -- the packet with a share of a book passes under its root; whatever passes, whoever made it, has the book's share, and two books with one root are one,
 -- or else two different strings that were hashed have one hash
 pub record ARootHasOneBook : Type 0 where
-  pub passes : (n t j : ℕ) (m : List ℕ) → Book n t m → 1 ≤ j → j ≤ n → classOf sha256 n j (messageRoot sha256 n t m) (packetWith sha256 n t m j)
-      ≡ valid (share (n - t) j m) (path sha256 (shape n) (j - 1) (leaves n t m))
-  pub binds : (n t j : ℕ) (m packet x : List ℕ) (p : List (List ℕ)) → Book n t m
-      → classOf sha256 n j (messageRoot sha256 n t m) packet ≡ valid x p
-      → (x ≡ share (n - t) j m) ⊎ Collision sha256 (classStrings sha256 n j packet) (codingStrings sha256 n (shares n (n - t) m))
-  pub one : (n t : ℕ) (m o : List ℕ) → Book n t m → Book n t o → messageRoot sha256 n t m ≡ messageRoot sha256 n t o
-      → (m ≡ o) ⊎ Collision sha256 (codingStrings sha256 n (shares n (n - t) m)) (codingStrings sha256 n (shares n (n - t) o))
+  pub passes : (session n t j : ℕ) (m : List ℕ) → Book n t m → 1 ≤ j → j ≤ n → classOf sha256 session n j (messageRoot sha256 session n t m) (packetWith sha256 session n t m j)
+      ≡ valid (share (n - t) j m) (path sha256 (shape n) (j - 1) (leaves session n t m))
+  pub binds : (session n t j : ℕ) (m packet x : List ℕ) (p : List (List ℕ)) → Book n t m
+      → classOf sha256 session n j (messageRoot sha256 session n t m) packet ≡ valid x p
+      → (x ≡ share (n - t) j m) ⊎ Collision sha256 (classStrings sha256 session n j packet) (codingStrings sha256 session n (shares n (n - t) m))
+  pub one : (session n t : ℕ) (m o : List ℕ) → Book n t m → Book n t o → messageRoot sha256 session n t m ≡ messageRoot sha256 session n t o
+      → (m ≡ o) ⊎ Collision sha256 (codingStrings sha256 session n (shares n (n - t) m)) (codingStrings sha256 session n (shares n (n - t) o))
 
 pub record HashesAreFIPS180-4s : Type 0 where
   -- 4.2.2 and 5.3.3: the constants are the bits of cube and square roots of the first primes; and the published examples. The rest of the standard is the
@@ -149,7 +149,7 @@ module _ (n t : ℕ) (good : List Box) (z : List ℕ) (bit : ℕ) where
   All P = (A : Box) → List·Memᴰ A good → P A
 
   pub record Sitting : Type 0 where
-    -- all opened with n, t and a book of bytes, under different numbers; the numbers up to n that none of them has are bad, at most t
+    -- all opened with n, t and a book of bytes, under different numbers (and with one sitting number, which makes them boxes: EndWithOneResult); the numbers up to n that none of them has are bad, at most t
     pub opened : All (λ A. (A .cause ≡ 0) × Bytes (A .book))
     pub numbers : different (map (λ (A : Box). A .own) good) ≡ true
     pub bad : absent n 1 (map (λ (A : Box). A .own) good) ≤ t
@@ -183,9 +183,9 @@ module _ (n t : ℕ) (good : List Box) (z : List ℕ) (bit : ℕ) where
         → bytesSent ≤ 2 * length good * (n - 1) * (4 + shareLength (n - t) (length m) + 32 * height n)
     pub free : R ≡ nothing → bytesSent ≡ 0
 
-abbrev pub EndWithOneResult : {A : Type 0} → (ℕ → ℕ → A → Box) → Type 0
-EndWithOneResult {A} box = (n t : ℕ) (good : List A) (z : List ℕ) (bit : ℕ) → Sitting n t (map (box n t) good) z bit
-    → (R : Result) × OneResult n t (map (box n t) good) z bit R
+abbrev pub EndWithOneResult : {A : Type 0} → (ℕ → ℕ → ℕ → A → Box) → Type 0
+EndWithOneResult {A} box = (session n t : ℕ) (good : List A) (z : List ℕ) (bit : ℕ) → FourBytes session → Sitting n t (map (box session n t) good) z bit
+    → (R : Result) × OneResult n t (map (box session n t) good) z bit R
 
 -- parties with their states; and boxes of which any may be hosts, with bytes
 abbrev pub AllGoodBoxesEndWithOneResult : Type 0

@@ -28,8 +28,8 @@ use Rattle.claims.specs.Terms.{when, lent, unless, roomFor, resultLength
 pub record BooksHaveOneGreatestLength : Type 0 where
   pub two-more : maxShare ≡ maxMessage + 2
   -- cause 4: an opening and the coder, where n, t and the own number are in their ranges
-  pub opening : (n t own : ℕ) (m : List ℕ) → groupCause n t ≡ 0 → numbered n own ≡ true
-      → openOf sha256 n t own m .cause ≡ when 4 (ltb maxMessage (length m))
+  pub opening : (session n t own : ℕ) (m : List ℕ) → groupCause n t ≡ 0 → numbered n own ≡ true
+      → openOf sha256 session n t own m .cause ≡ when 4 (ltb maxMessage (length m))
   pub coder : (n t : ℕ) (m out : List ℕ) → groupCause n t ≡ 0 → encodeOf n t m out ≡ unless (when 4 (ltb maxMessage (length m))) (shares n (n - t) m) out
   -- cause 12: a frame of b blocks of s bytes that is a message's gives it back; shares that are joined to one, as rebuilding and step 5 do, give none where it
   -- states a greater length
@@ -47,5 +47,5 @@ pub record BooksHaveOneGreatestLength : Type 0 where
   -- cause 9: no opening and no step that is lent its room is refused for it, on a state or on bytes; and all shares of a message have room
   pub room : (x : Party) (c : Call) → roomFor c ≤ length (lent c) → made sha256 x c .cause ≢ 9
   pub host-room : (s : List ℕ) (c : Call) → roomFor c ≤ length (lent c) → called sha256 s c .number / 2 ^ 32 ≢ 9
-  pub host-opening : (n t own : ℕ) (m s z : List ℕ) → stateLength ≤ length s → 32 ≤ length z → openCall sha256 n t own m s z .number / 2 ^ 32 ≢ 9
+  pub host-opening : (session n t own : ℕ) (m s z : List ℕ) → stateLength ≤ length s → 32 ≤ length z → openCall sha256 session n t own m s z .number / 2 ^ 32 ≢ 9
   pub shares-room : (n t : ℕ) (m : List ℕ) → groupCause n t ≡ 0 → length m ≤ maxMessage → length (shares n (n - t) m) ≤ maxShares

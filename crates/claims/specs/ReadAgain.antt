@@ -20,7 +20,7 @@ use Rattle.agreement.specs.Calls.{Call, takeRelays, stepOf, made}
 use Rattle.agreement.specs.Agreement.{Good}
 use Rattle.state_bytes.specs.Layout.{stateOf}
 use Rattle.capi.specs.Calls.{packed, valueShown, replies, called}
-use Rattle.claims.specs.Terms.{when, foremost, lent, ended, Box, Host, boxOf, further, NothingMore}
+use Rattle.claims.specs.Terms.{when, foremost, lent, ended, FourBytes, Box, Host, boxOf, further, NothingMore}
 use Rattle.claims.specs.Claims.{All, Sitting, OneResult}
 
 -- step 5 on any state that holds the result R, with any inbox: causes 5 and 9 alone, which change nothing, and cause 9 tells the book's length; else R, the
@@ -50,10 +50,10 @@ pub record ResultsAreReadAgain : Type 0 where
       → resultIn (stateOf (q .state)) ≡ some R → length (resultBytes R) ≤ length room
       → called sha256 (q .state) (takeRelays inbox room) ≡ replies (packed 0 (valueShown (some R) 0)) (q .state) (spliced room 0 (resultBytes R))
   -- a good box that has ended: a further reader with room for the book is accepted and given it; whatever the box is called with, nothing changes
-  pub next : (n t : ℕ) (g : Good ⊎ Host) (R : Result) (inbox out : List ℕ) → boxOf n t g .cause ≡ 0 → boxOf n t g .result ≡ some R
-      → length (resultBytes R) ≤ length out → boxOf n t (further (takeRelays inbox out ∷ []) g) .acts ≡ boxOf n t g .acts ++ (ended inbox (some R) ∷ [])
-  pub later : (n t : ℕ) (g : Good ⊎ Host) (R : Result) (more : List Call) → boxOf n t g .cause ≡ 0 → boxOf n t g .result ≡ some R
-      → NothingMore n (boxOf n t g) (boxOf n t (further more g))
+  pub next : (session n t : ℕ) (g : Good ⊎ Host) (R : Result) (inbox out : List ℕ) → FourBytes session → boxOf session n t g .cause ≡ 0 → boxOf session n t g .result ≡ some R
+      → length (resultBytes R) ≤ length out → boxOf session n t (further (takeRelays inbox out ∷ []) g) .acts ≡ boxOf session n t g .acts ++ (ended inbox (some R) ∷ [])
+  pub later : (session n t : ℕ) (g : Good ⊎ Host) (R : Result) (more : List Call) → FourBytes session → boxOf session n t g .cause ≡ 0 → boxOf session n t g .result ≡ some R
+      → NothingMore n (boxOf session n t g) (boxOf session n t (further more g))
   -- under the premises of demand 3, unchanged: what they suppose of step 5 they suppose of the first accepted one
-  pub one : (n t : ℕ) (good : List (Good ⊎ Host)) (z : List ℕ) (bit : ℕ) → Sitting n t (map (boxOf n t) good) z bit
-      → EveryReaderGetsIt n t (map (boxOf n t) good) z bit
+  pub one : (session n t : ℕ) (good : List (Good ⊎ Host)) (z : List ℕ) (bit : ℕ) → FourBytes session → Sitting n t (map (boxOf session n t) good) z bit
+      → EveryReaderGetsIt n t (map (boxOf session n t) good) z bit

@@ -5,7 +5,7 @@ use mathlib.Core.Bool.{Bool, true, false, cond, not, _||_}
 use mathlib.Core.List.{List, [], _∷_, _++_, map, List·Memᴰ}
 use mathlib.Core.Logic.{_⊎_, inl, inr}
 use mathlib.Core.Option.{Option, none, some}
-use Prim.Native.Nat.{ℕ, _+_, _-_, _*_, _/_, _%_, _^_}
+use Prim.Native.Nat.{ℕ, _+_, _-_, _*_, _/_, _%_, _^_, _<_}
 use lib.Dec.{leb, ltb, eqb}
 use lib.ListN.{length, take}
 use Rattle.limits.specs.Limits.{maxMessage, parties}
@@ -118,14 +118,23 @@ unread silence = false
 unread unreadable = true
 unread (shared number share path) = false
 
--- the first k hashes of a path are as many as n and j give, and fold from share j to the root z
-abbrev pub Leads : ℕ → ℕ → List ℕ → List (List ℕ) → ℕ → List ℕ → Type 0
-Leads n j x p k z =
-    (k ≡ length (sides (shape n) (j - 1))) × (folded sha256 (sides (shape n) (j - 1)) (take k p) (sha256 (0x00 ∷ j ∷ x)) ≡ z)
+-- a sitting's number, `session`, has four bytes
+abbrev pub FourBytes : ℕ → Type 0
+FourBytes session = session < 2 ^ 32
 
--- leaf string j of a book is 0x00, j and share j
-abbrev pub leaves : ℕ → ℕ → List ℕ → List (List ℕ)
-leaves n t m = tabulate n (λ i. 0x00 ∷ (i + 1) ∷ share (n - t) (i + 1) m)
+-- a leaf string is 0x00, the sitting's number, the highest byte first, but nothing for number 0, then j and the share
+abbrev pub leaf : ℕ → ℕ → List ℕ → List ℕ
+leaf session j x =
+    0x00 ∷ (cond (eqb session 0) [] (session / 2 ^ 24 % 256 ∷ session / 2 ^ 16 % 256 ∷ session / 2 ^ 8 % 256 ∷ session % 256 ∷ []) ++ (j ∷ x))
+
+-- the first k hashes of a path are as many as n and j give, and fold from share j to the root z
+abbrev pub Leads : ℕ → ℕ → ℕ → List ℕ → List (List ℕ) → ℕ → List ℕ → Type 0
+Leads session n j x p k z =
+    (k ≡ length (sides (shape n) (j - 1))) × (folded sha256 (sides (shape n) (j - 1)) (take k p) (sha256 (leaf session j x)) ≡ z)
+
+-- leaf string j of a book is that of share j
+abbrev pub leaves : ℕ → ℕ → ℕ → List ℕ → List (List ℕ)
+leaves session n t m = tabulate n (λ i. leaf session (i + 1) (share (n - t) (i + 1) m))
 
 -- NIST's two examples for SHA-256, of one block and of two, and their digests
 abbrev pub exampleMessages : List (List ℕ)
@@ -199,17 +208,17 @@ actOf (agreeBit bit out) r = sent bit (take (r .value) (r .buffer))
 actOf (takeShares inbox out) r = relayed inbox (take (r .value) (r .buffer))
 actOf (takeRelays inbox out) r = ended inbox (r .result)
 
-abbrev pub partyBox : ℕ → ℕ → Good → Box
-partyBox n t A =
+abbrev pub partyBox : ℕ → ℕ → ℕ → Good → Box
+partyBox session n t A =
     record {
       own = A .own;
       book = A .message;
-      cause = openOf sha256 n t (A .own) (A .message) .cause;
-      root = openOf sha256 n t (A .own) (A .message) .root;
-      acts = map (λ (e : Event). actOf (e .call) (e .reply)) (did sha256 n t (A .own) (A .message) (A .calls));
-      result = resultAfter sha256 n t (A .own) (A .message) (A .calls);
-      openedAndChecked = openedAndChecked sha256 n t (A .own) (A .message) (A .calls);
-      recoded = recoded sha256 n t (A .own) (A .message) (A .calls);
+      cause = openOf sha256 session n t (A .own) (A .message) .cause;
+      root = openOf sha256 session n t (A .own) (A .message) .root;
+      acts = map (λ (e : Event). actOf (e .call) (e .reply)) (did sha256 session n t (A .own) (A .message) (A .calls));
+      result = resultAfter sha256 session n t (A .own) (A .message) (A .calls);
+      openedAndChecked = openedAndChecked sha256 session n t (A .own) (A .message) (A .calls);
+      recoded = recoded sha256 session n t (A .own) (A .message) (A .calls);
     }
 
 -- a host of the C interface: its number and book, the buffers that it lends to the opening, for the state and for the root, and the calls that it makes
@@ -235,9 +244,9 @@ actsSeen s (c ∷ cs) =
     let r = called sha256 s c in cond (ltb (r .number) (2 ^ 32)) (actSeen c r ∷ actsSeen (r .state) cs) (actsSeen (r .state) cs)
 
 -- as a box; its result is what the state's bytes say after all calls
-abbrev pub hostBox : ℕ → ℕ → Host → Box
-hostBox n t h =
-    let r = openCall sha256 n t (h .own) (h .book) (h .stateRoom) (h .rootRoom) in
+abbrev pub hostBox : ℕ → ℕ → ℕ → Host → Box
+hostBox session n t h =
+    let r = openCall sha256 session n t (h .own) (h .book) (h .stateRoom) (h .rootRoom) in
     record {
       own = h .own;
       book = h .book;
@@ -245,14 +254,14 @@ hostBox n t h =
       root = take 32 (r .out);
       acts = actsSeen (r .state) (h .calls);
       result = resultIn (stateOf (left sha256 (r .state) (h .calls)));
-      openedAndChecked = openedAndChecked sha256 n t (h .own) (h .book) (h .calls);
-      recoded = recoded sha256 n t (h .own) (h .book) (h .calls);
+      openedAndChecked = openedAndChecked sha256 session n t (h .own) (h .book) (h .calls);
+      recoded = recoded sha256 session n t (h .own) (h .book) (h .calls);
     }
 
 -- either
-abbrev pub boxOf : ℕ → ℕ → Good ⊎ Host → Box
-boxOf n t (inl A) = partyBox n t A
-boxOf n t (inr h) = hostBox n t h
+abbrev pub boxOf : ℕ → ℕ → ℕ → Good ⊎ Host → Box
+boxOf session n t (inl A) = partyBox session n t A
+boxOf session n t (inr h) = hostBox session n t h
 
 -- the party with the number, book and calls of a good box
 abbrev pub partyOf : Host → Good
@@ -286,10 +295,10 @@ pub record OpenedBox : Type 0 where
   pub packet : List ℕ
 
 -- a party; its calls are on the state that this opening gave
-abbrev pub openerParty : ℕ → ℕ → Begins → OpenedBox
-openerParty n t A =
+abbrev pub openerParty : ℕ → ℕ → ℕ → Begins → OpenedBox
+openerParty session n t A =
     let m = messageBy (A .own) (A .sender) (A .bytes) in
-    let r = openBySenderOf sha256 n t (A .own) (A .sender) (A .bytes) (A .out) in
+    let r = openBySenderOf sha256 session n t (A .own) (A .sender) (A .bytes) (A .out) in
     record {
       box = record {
         own = A .own;
@@ -298,8 +307,8 @@ openerParty n t A =
         root = r .opened .root;
         acts = map (λ (e : Event). actOf (e .call) (e .reply)) (accepted (events sha256 (r .opened .state) (A .calls)));
         result = resultIn (final sha256 (r .opened .state) (A .calls));
-        openedAndChecked = openedAndChecked sha256 n t (A .own) m (A .calls);
-        recoded = recoded sha256 n t (A .own) m (A .calls);
+        openedAndChecked = openedAndChecked sha256 session n t (A .own) m (A .calls);
+        recoded = recoded sha256 session n t (A .own) m (A .calls);
       };
       sender = A .sender;
       handed = A .bytes;
@@ -316,10 +325,10 @@ pub record SenderHost : Type 0 where
   pub packetRoom : List ℕ
   pub calls : List Call
 
-abbrev pub openerHost : ℕ → ℕ → SenderHost → OpenedBox
-openerHost n t h =
+abbrev pub openerHost : ℕ → ℕ → ℕ → SenderHost → OpenedBox
+openerHost session n t h =
     let m = messageBy (h .own) (h .sender) (h .handed) in
-    let r = openBySenderCall sha256 n t (h .own) (h .sender) (h .handed) (h .stateRoom) (h .rootRoom) (h .packetRoom) in
+    let r = openBySenderCall sha256 session n t (h .own) (h .sender) (h .handed) (h .stateRoom) (h .rootRoom) (h .packetRoom) in
     record {
       box = record {
         own = h .own;
@@ -328,8 +337,8 @@ openerHost n t h =
         root = take 32 (r .root);
         acts = actsSeen (r .state) (h .calls);
         result = resultIn (stateOf (left sha256 (r .state) (h .calls)));
-        openedAndChecked = openedAndChecked sha256 n t (h .own) m (h .calls);
-        recoded = recoded sha256 n t (h .own) m (h .calls);
+        openedAndChecked = openedAndChecked sha256 session n t (h .own) m (h .calls);
+        recoded = recoded sha256 session n t (h .own) m (h .calls);
       };
       sender = h .sender;
       handed = h .handed;
@@ -337,6 +346,6 @@ openerHost n t h =
     }
 
 -- either
-abbrev pub openerOf : ℕ → ℕ → Begins ⊎ SenderHost → OpenedBox
-openerOf n t (inl A) = openerParty n t A
-openerOf n t (inr h) = openerHost n t h
+abbrev pub openerOf : ℕ → ℕ → ℕ → Begins ⊎ SenderHost → OpenedBox
+openerOf session n t (inl A) = openerParty session n t A
+openerOf session n t (inr h) = openerHost session n t h

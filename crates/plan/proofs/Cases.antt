@@ -9,10 +9,11 @@ use borrow.Author.Tests.{le-ltb, le-leb, lt-leb}
 use lib.Dec.{leb, eqb}
 use lib.ListN.{length, take, drop, replicate, length-append}
 use Rattle.limits.specs.Limits.{maxMessage, maxPlan, parties, numbered, groupCause}
+use Rattle.buffer.specs.Numbers.{number}
 use Rattle.buffer.specs.Entries.{size, body, rest}
 use Rattle.buffer.proofs.Entries.{entry, entry-body}
 use Rattle.plan.specs.Layout.{every, walk, skipEntry, partyEntry, skipBlock, packetFrom, fieldBytes, rootIn, bitIn, goodIn, exchangeIn, endOf, laidOut}
-use Rattle.plan.specs.Layout.{wordAt, sessionOf, holders, behindBooks, senderPacket}
+use Rattle.plan.specs.Layout.{sessionOf, holders, behindBooks, senderPacket}
 use Rattle.plan.specs.Plan.{planCause, planOf}
 use Rattle.plan.proofs.Blocks.{entry-skipped}
 
@@ -23,7 +24,7 @@ worked =
 
 pub worked-read : planOf worked
     ≡ record { cause = 0; n = 3; t = 1; options = 0; sender = 0; session = 0; good = 3; holders = 3; books = 5; packets = 13; exchanges = 13 }
-unfolding parties groupCause size rest skipEntry skipBlock every numbered body partyEntry wordAt sessionOf holders behindBooks exchangeIn walk fieldBytes endOf laidOut planCause planOf
+unfolding parties groupCause size rest skipEntry skipBlock every numbered body partyEntry number sessionOf holders behindBooks exchangeIn walk fieldBytes endOf laidOut planCause planOf
 worked-read = refl
 
 pub worked-book : partyEntry 3 3 2 (drop 5 worked) ≡ 0x41 ∷ 0x42 ∷ []
@@ -102,21 +103,21 @@ inSession i = 0x03 ∷ 0x01 ∷ 0x08 ∷ (i ++ drop 3 worked)
 
 pub session-read : planOf (inSession (0x00 ∷ 0x00 ∷ 0x00 ∷ 0x07 ∷ []))
     ≡ record { cause = 0; n = 3; t = 1; options = 8; sender = 0; session = 7; good = 3; holders = 3; books = 9; packets = 17; exchanges = 17 }
-unfolding parties groupCause size rest skipEntry skipBlock every numbered body partyEntry wordAt sessionOf holders behindBooks exchangeIn walk fieldBytes endOf laidOut planCause planOf
+unfolding parties groupCause size rest skipEntry skipBlock every numbered body partyEntry number sessionOf holders behindBooks exchangeIn walk fieldBytes endOf laidOut planCause planOf
 session-read = refl
 
 pub session-zero : planOf (inSession (replicate 4 0x00))
     ≡ record { cause = 0; n = 3; t = 1; options = 8; sender = 0; session = 0; good = 3; holders = 3; books = 9; packets = 17; exchanges = 17 }
-unfolding parties groupCause size rest skipEntry skipBlock every numbered body partyEntry wordAt sessionOf holders behindBooks exchangeIn walk fieldBytes endOf laidOut planCause planOf
+unfolding parties groupCause size rest skipEntry skipBlock every numbered body partyEntry number sessionOf holders behindBooks exchangeIn walk fieldBytes endOf laidOut planCause planOf
 session-zero = refl
 
 pub session-high : sessionOf (inSession (0x01 ∷ 0x00 ∷ 0x00 ∷ 0x00 ∷ [])) ≡ 0x01000000
-unfolding fieldBytes wordAt sessionOf
+unfolding fieldBytes number sessionOf
 session-high = refl
 
 pub session-behind-sender : planOf (0x03 ∷ 0x01 ∷ 0x0C ∷ 0x02 ∷ 0x00 ∷ 0x00 ∷ 0x01 ∷ 0x02 ∷ drop 4 (sends 2 (0x00 ∷ 0x01 ∷ 0x41 ∷ [])))
     ≡ record { cause = 0; n = 3; t = 1; options = 12; sender = 2; session = 258; good = 3; holders = 2; books = 10; packets = 13; exchanges = 13 }
-unfolding parties groupCause size rest skipEntry skipBlock every numbered body partyEntry wordAt sessionOf holders behindBooks exchangeIn walk fieldBytes endOf laidOut planCause planOf
+unfolding parties groupCause size rest skipEntry skipBlock every numbered body partyEntry number sessionOf holders behindBooks exchangeIn walk fieldBytes endOf laidOut planCause planOf
 session-behind-sender = refl
 
 pub session-cut : planCause (take 6 (inSession (replicate 4 0x00))) ≡ 13

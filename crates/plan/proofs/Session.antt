@@ -2,10 +2,13 @@
 use mathlib.Core.Path.{_≡_}
 use mathlib.Core.Bool.{Bool, true, false, cond}
 use mathlib.Core.List.{List}
-use Prim.Native.Nat.{ℕ, _+_, _<_, _^_}
+use Prim.Native.Nat.{ℕ, _<_, _^_}
 use native.Mathlib.Omega.{arith}
+use lib.ListN.{drop}
 use Rattle.buffer.specs.Bounds.{Bytes}
-use Rattle.plan.specs.Layout.{fieldAt, optionsIn, wordAt, sessionOption, hasSession, sessionIn, sessionOf}
+use Rattle.buffer.proofs.Bounds.{drop-bytes}
+use Rattle.buffer.proofs.Numbers.{number-bytes}
+use Rattle.plan.specs.Layout.{fieldAt, optionsIn, sessionOption, hasSession, sessionIn, sessionOf}
 use Rattle.plan.specs.Plan.{planCause, planOf}
 
 module _ (s : List ℕ) where
@@ -23,14 +26,10 @@ module _ (s : List ℕ) where
   session-is e = rw e
 
   module _ (b : Bytes s) where
-    word-below : (at : ℕ) → wordAt s at < 2 ^ 32
-    unfolding wordAt
-    word-below at = omega (arith, b at, b (at + 1), b (at + 2), b (at + 3))
-
     pub session-below : sessionOf s < 2 ^ 32
     unfolding sessionOf
     session-below = go (hasSession s)
       where
         go : (given : Bool) → cond given (sessionIn s) 0 < 2 ^ 32
-        go true = word-below (fieldAt (optionsIn s) sessionOption)
+        go true = let at = fieldAt (optionsIn s) sessionOption in number-bytes (drop at s) (drop-bytes at s b)
         go false = omega arith

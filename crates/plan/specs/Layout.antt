@@ -4,11 +4,12 @@
 use mathlib.Core.Bool.{Bool, true, false, cond, not, _&&_, _||_}
 use mathlib.Core.List.{List, [], _∷_}
 use mathlib.Core.Option.{Option, none, some}
-use Prim.Native.Nat.{ℕ, zero, suc, _+_, _-_, _*_, _/_, _%_, _^_}
+use Prim.Native.Nat.{ℕ, zero, suc, _+_, _-_, _/_, _%_, _^_}
 use lib.Dec.{ltb, leb, eqb}
 use lib.ListN.{length, getD, take, drop}
 use Rattle.limits.specs.Limits.{maxMessage, numbered}
 use Rattle.buffer.specs.Entries.{size, body, rest}
+use Rattle.buffer.specs.Numbers.{number}
 
 -- a map has two bytes, and names party p by the value two to the p - 1
 abbrev pub mapWidth : ℕ
@@ -146,15 +147,11 @@ hasSender s = names (optionsIn s) senderOption
 abbrev pub senderIn : List ℕ → ℕ
 senderIn s = getD s (fieldAt (optionsIn s) senderOption) 0
 
--- the four bytes at an offset as one number, the highest first
-unfoldable pub wordAt : List ℕ → ℕ → ℕ
-wordAt s at = getD s at 0 * 2 ^ 24 + getD s (at + 1) 0 * 2 ^ 16 + getD s (at + 2) 0 * 2 ^ 8 + getD s (at + 3) 0
-
 abbrev pub hasSession : List ℕ → Bool
 hasSession s = names (optionsIn s) sessionOption
 
 abbrev pub sessionIn : List ℕ → ℕ
-sessionIn s = wordAt s (fieldAt (optionsIn s) sessionOption)
+sessionIn s = number (drop (fieldAt (optionsIn s) sessionOption) s)
 
 -- the session's number, which is document 02's sitting number (No. 6): the one that is given, or 0
 unfoldable pub sessionOf : List ℕ → ℕ

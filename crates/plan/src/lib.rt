@@ -1,7 +1,7 @@
 // The plan of a rehearsal: what its bytes say, and why it is refused.
 ghost use mathlib.Core.Path.{_≡_};
 ghost use mathlib.Core.Bool.{true, not, _&&_};
-ghost use Prim.Native.Nat.{_+_, _-_, _*_, _≤_, _<_, _^_};
+ghost use Prim.Native.Nat.{_+_, _-_, _≤_, _<_, _^_};
 ghost use lib.Dec.{ltb};
 ghost use lib.ListN.{length, take, drop};
 ghost use Rattle.limits.specs.Limits.{maxParties, numbered};
@@ -280,21 +280,13 @@ fn sender_of(plan: &[u8], options: usize, n: usize, good: usize) -> Source
 
 // The session's number: the one that a plan gives, or 0.
 fn session_of(plan: &[u8], options: usize) -> u32
-    requires { ⌜ (options ≡ optionsIn (now plan)) × (goodAt (now plan) ≤ length (now plan)) ⌝ }
+    requires { ⌜ options ≡ optionsIn (now plan) ⌝ }
     ensures { λ r. ⌜ r ≡ sessionOf (now (plan .entry)) ⌝ }
 {
     if names(options, SESSION) {
-        let at = field_at(options, SESSION);
-        return word(plan[at], plan[at + 1], plan[at + 2], plan[at + 3]);
+        return buffer::number_at(plan, field_at(options, SESSION));
     }
     0
-}
-
-// Four bytes as one number, the highest first.
-fn word(a: u8, b: u8, c: u8, d: u8) -> u32
-    ensures { λ r. ⌜ r ≡ a * 2 ^ 24 + b * 2 ^ 16 + c * 2 ^ 8 + d ⌝ }
-{
-    (a as u32) * 16777216 + (b as u32) * 65536 + (c as u32) * 256 + (d as u32)
 }
 
 // Whether a plan names a sender that is none of n parties.

@@ -18,7 +18,7 @@ use Rattle.packet.specs.Format.{entryOf}
 use Rattle.party.specs.State.{settled}
 use Rattle.agreement.specs.Agreement.{Clean}
 use Rattle.agreement.proofs.Instances.{each}
-use Rattle.plan.specs.Layout.{holders, unnamed, every, walk, skipEntries, partyEntry, booksFit, skipBlock, fieldBytes, booksIn, laidOut}
+use Rattle.plan.specs.Layout.{sessionOf, holders, unnamed, every, walk, skipEntries, partyEntry, booksFit, skipBlock, fieldBytes, booksIn, laidOut}
 use Rattle.plan.proofs.Blocks.{entry-skipped}
 use Rattle.plan.proofs.Reading.{end-at, fine}
 use Rattle.session.specs.Session.{messageOf, agreedBit, sameRoots, sameBits, unlawful, sessionCause, endsWith, goodParty, goodParties}
@@ -89,9 +89,9 @@ module _ (m a b c d : List ℕ) where
     unfolding sessionCause parties groupCause size fieldBytes
     taken = rw (fine s (omega arith) refl fits laid refl (books-fit short), lawful)
 
-    pub settles : (wide : (x : List ℕ) → length (H x) ≡ 32) (bytes : Bytes s) → Clean H 3 1 (goodParties H s)
+    pub settles : (wide : (x : List ℕ) → length (H x) ≡ 32) (bytes : Bytes s) → Clean H 0 3 1 (goodParties H s)
         → (endsWith H s 1 ≡ settled m) × (endsWith H s 2 ≡ settled m)
-    unfolding eachGood messageOf size fieldBytes
+    unfolding eachGood messageOf sessionOf size fieldBytes
     settles wide bytes clean =
         let r = one-result H wide s bytes taken clean in
         let e = r .1 .agreed .common m (each (goodParty H s 1) (goodParty H s 2) (λ A. A .message ≡ m) (messages .0) (messages .1)) in

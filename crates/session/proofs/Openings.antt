@@ -21,7 +21,7 @@ use Rattle.commitment.proofs.Opening.{open-fine}
 use Rattle.party.specs.Steps.{openOf}
 use Rattle.party.specs.Sender.{messageBy, packetBy, senderCause, Begun}
 use Rattle.party.proofs.Sender.{read-short, sender-message, other-message, message-bytes, cause-none, packet-fits, begun-given}
-use Rattle.plan.specs.Layout.{nIn, tIn, hasSender, senderIn, booksIn, holders, goodSender, senderPacket}
+use Rattle.plan.specs.Layout.{sessionOf, nIn, tIn, hasSender, senderIn, booksIn, holders, goodSender, senderPacket}
 use Rattle.plan.specs.Layout as layout
 use Rattle.plan.specs.Plan.{planCause}
 use Rattle.plan.proofs.Accepted.{Accepted, accepted, sender-there, book-short, entry-bytes, sender-bytes}
@@ -81,15 +81,15 @@ module _ (s : List ℕ) (taken : planCause s ≡ 0) where
           (numbered-within (nIn s) (senderIn s) (q .0) (q .1)) short
 
       begins : (p : ℕ) (bs : List ℕ) → 1 ≤ p → p ≤ nIn s → length (messageBy p (senderIn s) bs) ≤ maxMessage
-          → openedBySender H s p bs .opened ≡ openOf H (nIn s) (tIn s) p (messageBy p (senderIn s) bs)
+          → openedBySender H s p bs .opened ≡ openOf H (sessionOf s) (nIn s) (tIn s) p (messageBy p (senderIn s) bs)
       unfolding openedBySender
       begins p bs one last short =
           let c = no-cause p bs one last short in
-          ap (λ (r : Begun). r .opened) (begun-given (nIn s) (tIn s) p (senderIn s) bs H room c
+          ap (λ (r : Begun). r .opened) (begun-given (nIn s) (tIn s) p (senderIn s) bs H (sessionOf s) room c
           (omega (arith, packet-fits (nIn s) (tIn s) p (senderIn s) bs c, length-replicate {A = ℕ} maxMessagePacket 0)))
 
       opened-by : (p : ℕ) → 1 ≤ p → p ≤ nIn s
-          → openedBySender H s p (handedTo H s p) .opened ≡ openOf H (nIn s) (tIn s) p (messageBy p (senderIn s) (handedTo H s p))
+          → openedBySender H s p (handedTo H s p) .opened ≡ openOf H (sessionOf s) (nIn s) (tIn s) p (messageBy p (senderIn s) (handedTo H s p))
       opened-by p one last = begins p (handedTo H s p) one last (handed-short p)
 
       -- what the sender wrote
@@ -101,7 +101,7 @@ module _ (s : List ℕ) (taken : planCause s ≡ 0) where
           let r = sender-there s plan there in
           let short : length (messageBy q q b) ≤ maxMessage = omega (arith, ap length (sender-message q q b refl), book-fits q) in
           let c = no-cause q b (r .0) (r .1) short in
-          ap (λ (r : Begun). take (r .value) (r .buffer)) (begun-given (nIn s) (tIn s) q q b H room c
+          ap (λ (r : Begun). take (r .value) (r .buffer)) (begun-given (nIn s) (tIn s) q q b H (sessionOf s) room c
           (omega (arith, packet-fits (nIn s) (tIn s) q q b c, length-replicate {A = ℕ} maxMessagePacket 0)))
           ∙ take-spliced room (packetBy (nIn s) q q b)
 
@@ -136,12 +136,12 @@ module _ (s : List ℕ) (taken : planCause s ≡ 0) where
         go false e = book-bytes small p
 
     -- every opening is the ordinary one
-    pub opened-is : (p : ℕ) → 1 ≤ p → p ≤ nIn s → opened H s p ≡ openOf H (nIn s) (tIn s) p (messageOf H s p)
+    pub opened-is : (p : ℕ) → 1 ≤ p → p ≤ nIn s → opened H s p ≡ openOf H (sessionOf s) (nIn s) (tIn s) p (messageOf H s p)
     unfolding opened messageOf
     opened-is p one last = go (hasSender s) refl
       where
         go : (b : Bool) → hasSender s ≡ b
-            → cond b (openedBySender H s p (handedTo H s p) .opened) (openOf H (nIn s) (tIn s) p (bookOf s p))
-            ≡ openOf H (nIn s) (tIn s) p (cond b (messageBy p (senderIn s) (handedTo H s p)) (bookOf s p))
+            → cond b (openedBySender H s p (handedTo H s p) .opened) (openOf H (sessionOf s) (nIn s) (tIn s) p (bookOf s p))
+            ≡ openOf H (sessionOf s) (nIn s) (tIn s) p (cond b (messageBy p (senderIn s) (handedTo H s p)) (bookOf s p))
         go true e = opened-by e p one last
         go false e = refl

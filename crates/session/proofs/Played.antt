@@ -57,7 +57,7 @@ use Rattle.agreement.proofs.Ran.{opened-is as opened-is-open}
 use Rattle.agreement.proofs.Lists.{same-some, first-in}
 use Rattle.agreement.proofs.Agreement.{agreement, agreement-sha256}
 use Rattle.agreement.proofs.Broadcast.{broadcast}
-use Rattle.plan.specs.Layout.{unnamed, nIn, tIn, hasRoot, hasBit, hasSender, rootIn, senderIn, goodIn, goodSender, exchangeIn}
+use Rattle.plan.specs.Layout.{sessionOf, unnamed, nIn, tIn, hasRoot, hasBit, hasSender, rootIn, senderIn, goodIn, goodSender, exchangeIn}
 use Rattle.plan.specs.Layout as layout
 use Rattle.plan.specs.Plan.{planCause}
 use Rattle.plan.proofs.Accepted.{Accepted, accepted as plan-taken, lowest-named, root-length}
@@ -109,6 +109,9 @@ linesOf s R zero p = []
 linesOf s R (suc k) p = cond (isGood s p) (lineWith p R) [] ++ linesOf s R k (p + 1)
 
 module _ (H : List ℕ → List ℕ) (wide : (x : List ℕ) → length (H x) ≡ 32) (s : List ℕ) (bytes : Bytes s) (ok : sessionCause H s ≡ 0) where
+  abbrev session : ℕ
+  session = sessionOf s
+
   abbrev n : ℕ
   n = nIn s
 
@@ -169,9 +172,9 @@ module _ (H : List ℕ → List ℕ) (wide : (x : List ℕ) → length (H x) ≡
   unfolding messageRoot
   root-long p one last =
       let c = coded p in
-      let fits = opened-is-open H n t p (messageOf H s p) (open-accepted H n t p (messageOf H s p) (c .low) (c .high) (c .faults) one last (c .short)) .0 in
-      ap (λ (o : Opened). length (o .root)) (opened-is s (causes .0) H p one last ∙ open-given H n t p (messageOf H s p) fits)
-      ∙ length-root H wide n (shares n (n - t) (messageOf H s p)) (fine n t (messageOf H s p) c)
+      let fits = opened-is-open H session n t p (messageOf H s p) (open-accepted H session n t p (messageOf H s p) (c .low) (c .high) (c .faults) one last (c .short)) .0 in
+      ap (λ (o : Opened). length (o .root)) (opened-is s (causes .0) H p one last ∙ open-given H session n t p (messageOf H s p) fits)
+      ∙ length-root H wide session n (shares n (n - t) (messageOf H s p)) (fine n t (messageOf H s p) c session)
 
   z-long : length z ≡ 32
   unfolding agreedRoot
@@ -215,34 +218,34 @@ module _ (H : List ℕ → List ℕ) (wide : (x : List ℕ) → length (H x) ≡
     c = coded p
 
     abbrev X1 : Party
-    X1 = atBit (seatOf n t p) m z
+    X1 = atBit (seatOf session n t p) m z
 
     abbrev X2 : Party
-    X2 = atFirst (seatOf n t p) m z
+    X2 = atFirst (seatOf session n t p) m z
 
     open-cause : openCause n t p (length m) ≡ 0
-    open-cause = opened-is-open H n t p m (open-accepted H n t p m (c .low) (c .high) (c .faults) one last (c .short)) .0
+    open-cause = opened-is-open H session n t p m (open-accepted H session n t p m (c .low) (c .high) (c .faults) one last (c .short)) .0
 
-    opened-to : opened H s p ≡ opening H n t p m
+    opened-to : opened H s p ≡ opening H session n t p m
     opened-to = opened-is s (causes .0) H p one last
 
-    opened-as : opened H s p ≡ record { state = atRoot (seatOf n t p) m; cause = 0; root = messageRoot H n t m }
-    opened-as = opened-to ∙ open-given H n t p m open-cause
+    opened-as : opened H s p ≡ record { state = atRoot (seatOf session n t p) m; cause = 0; root = messageRoot H session n t m }
+    opened-as = opened-to ∙ open-given H session n t p m open-cause
 
     -- step 2
-    turn-root : turnOf (atRoot (seatOf n t p) m .stage) ≡ 2
+    turn-root : turnOf (atRoot (seatOf session n t p) m .stage) ≡ 2
     unfolding atRoot
     turn-root = refl
 
-    with-root : withRoot (atRoot (seatOf n t p) m) z ≡ X1
+    with-root : withRoot (atRoot (seatOf session n t p) m) z ≡ X1
     unfolding atRoot
-    with-root = ap (λ (b : List ℕ). atBit (seatOf n t p) b z) (message-root (seatOf n t p) m z)
+    with-root = ap (λ (b : List ℕ). atBit (seatOf session n t p) b z) (message-root (seatOf session n t p) m z)
 
     made-2 : step2 H s p ≡ gives X1 (Happy (happy H X1)) []
     unfolding step2
     made-2 =
-        let x : Party = atRoot (seatOf n t p) m in
-        let w = root-whole (seatOf n t p) (c .low) (c .high) (c .faults) one last m (c .short) in
+        let x : Party = atRoot (seatOf session n t p) m in
+        let w = root-whole (seatOf session n t p) (c .low) (c .high) (c .faults) one last m (c .short) in
         ap (λ (o : Opened). steps.agreeRootOf H (o .state) z) opened-as
         ∙ root-given H x z (root-fine x z (state-fine 2 x w turn-root) z-long)
         ∙ ap (λ (y : Party). gives y (Happy (happy H y)) []) with-root
@@ -251,7 +254,7 @@ module _ (H : List ℕ → List ℕ) (wide : (x : List ℕ) → length (H x) ≡
     state-2 = ap (λ (b : Stepped). b .state) made-2
 
     -- step 3
-    turn-bit : turnOf (atBit (seatOf n t p) m z .stage) ≡ 3
+    turn-bit : turnOf (atBit (seatOf session n t p) m z .stage) ≡ 3
     unfolding atBit
     turn-bit = refl
 
@@ -259,30 +262,30 @@ module _ (H : List ℕ → List ℕ) (wide : (x : List ℕ) → length (H x) ≡
     room3 = replicate maxOutbox 0
 
     fits-3 : length (outboxOf H X1 bit) ≤ length room3
-    fits-3 = omega (arith, outbox-fits H wide (seatOf n t p) m z c bit, length-replicate {A = ℕ} maxOutbox 0)
+    fits-3 = omega (arith, outbox-fits H wide (seatOf session n t p) m z c bit, length-replicate {A = ℕ} maxOutbox 0)
 
     cause-3 : step3 H s p .cause ≡ 0
     unfolding step3
     cause-3 =
         ap (λ (x : Party). steps.agreeBitOf H x bit room3 .cause) state-2
-        ∙ bit-accepted H X1 (bit-whole (seatOf n t p) (c .low) (c .high) (c .faults) one last m (c .short) z) bit room3 turn-bit bit-low fits-3
+        ∙ bit-accepted H X1 (bit-whole (seatOf session n t p) (c .low) (c .high) (c .faults) one last m (c .short) z) bit room3 turn-bit bit-low fits-3
 
     -- what step 3 leaves, by the laws of calls
-    state-3 : step3 H s p .state ≡ cond (eqb bit 0) (atEnd (seatOf n t p) nothing) X2
+    state-3 : step3 H s p .state ≡ cond (eqb bit 0) (atEnd (seatOf session n t p) nothing) X2
     unfolding step3 made atBit
     state-3 =
         let e : made H X1 (agreeBit bit room3) .cause ≡ 0 =
         sym (ap (λ (x : Party). steps.agreeBitOf H x bit room3 .cause) state-2) ∙ cause-3 in
         ap (λ (x : Party). steps.agreeBitOf H x bit room3 .state) state-2
         ∙ ap (λ (r : Stepped). r .state) (did3 H X1 bit room3 e .2)
-        ∙ ap (λ (b : List ℕ). cond (eqb bit 0) (atEnd (seatOf n t p) nothing) (atFirst (seatOf n t p) b z)) (message-bit (seatOf n t p) m z)
+        ∙ ap (λ (b : List ℕ). cond (eqb bit 0) (atEnd (seatOf session n t p) nothing) (atFirst (seatOf session n t p) b z)) (message-bit (seatOf session n t p) m z)
 
     -- steps 4 and 5, on bit 1
     module _ (b1 : bit ≡ 1) where
       waits : step3 H s p .state ≡ X2
-      waits = state-3 ∙ ap (λ (b : Bool). cond b (atEnd (seatOf n t p) nothing) X2) (ne-eqb bit 0 (λ q. omega arith))
+      waits = state-3 ∙ ap (λ (b : Bool). cond b (atEnd (seatOf session n t p) nothing) X2) (ne-eqb bit 0 (λ q. omega arith))
 
-      turn-first : turnOf (atFirst (seatOf n t p) m z .stage) ≡ 4
+      turn-first : turnOf (atFirst (seatOf session n t p) m z .stage) ≡ 4
       unfolding atFirst
       turn-first = refl
 
@@ -296,13 +299,13 @@ module _ (H : List ℕ → List ℕ) (wide : (x : List ℕ) → length (H x) ≡
       unfolding step4 firstInbox inboxTo atFirst
       cause-4 =
           let fits : length (relayOf H X2 (firstInbox H s p)) ≤ length room4 =
-          omega (arith, relay-fits H wide (seatOf n t p) m z c one last (firstInbox H s p), length-replicate {A = ℕ} maxOutbox 0) in
+          omega (arith, relay-fits H wide (seatOf session n t p) m z c one last (firstInbox H s p), length-replicate {A = ℕ} maxOutbox 0) in
           ap (λ (x : Party). steps.takeSharesOf H x (firstInbox H s p) room4 .cause) waits
-          ∙ shares-accepted H X2 (first-whole (seatOf n t p) (c .low) (c .high) (c .faults) one last m (c .short) z) (firstInbox H s p) room4 turn-first
+          ∙ shares-accepted H X2 (first-whole (seatOf session n t p) (c .low) (c .high) (c .faults) one last m (c .short) z) (firstInbox H s p) room4 turn-first
           (filled (λ k. firstFrom p (k + 1))) fits
 
       abbrev X3 : Party
-      X3 = atSecond (seatOf n t p) m z (heldOf H X2 (firstInbox H s p))
+      X3 = atSecond (seatOf session n t p) m z (heldOf H X2 (firstInbox H s p))
 
       state-4 : step4 H s p .state ≡ X3
       unfolding step4 made atFirst
@@ -311,7 +314,7 @@ module _ (H : List ℕ → List ℕ) (wide : (x : List ℕ) → length (H x) ≡
           sym (ap (λ (x : Party). steps.takeSharesOf H x (firstInbox H s p) room4 .cause) waits) ∙ cause-4 in
           ap (λ (x : Party). steps.takeSharesOf H x (firstInbox H s p) room4 .state) waits
           ∙ ap (λ (r : Stepped). r .state) (did4 H X2 (firstInbox H s p) room4 e .1)
-          ∙ ap (λ (b : List ℕ). atSecond (seatOf n t p) b z (heldOf H X2 (firstInbox H s p))) (message-first (seatOf n t p) m z)
+          ∙ ap (λ (b : List ℕ). atSecond (seatOf session n t p) b z (heldOf H X2 (firstInbox H s p))) (message-first (seatOf session n t p) m z)
 
       turn-second : turnOf (X3 .stage) ≡ 5
       unfolding atSecond
@@ -323,8 +326,8 @@ module _ (H : List ℕ → List ℕ) (wide : (x : List ℕ) → length (H x) ≡
       cause-5 : step5 H s p .cause ≡ 0
       unfolding step5 secondInbox inboxTo atSecond
       cause-5 =
-          let w2 = first-whole (seatOf n t p) (c .low) (c .high) (c .faults) one last m (c .short) z in
-          let w = second-whole (seatOf n t p) (c .low) (c .high) (c .faults) one last m (c .short) z (heldOf H X2 (firstInbox H s p))
+          let w2 = first-whole (seatOf session n t p) (c .low) (c .high) (c .faults) one last m (c .short) z in
+          let w = second-whole (seatOf session n t p) (c .low) (c .high) (c .faults) one last m (c .short) z (heldOf H X2 (firstInbox H s p))
           (held-short H X2 w2 (firstInbox H s p)) in
           let fits : length (resultBytes (steps.resultOf H X3 (secondInbox H s p))) ≤ length room5 =
           omega (arith, result-short H X3 w (secondInbox H s p), length-replicate {A = ℕ} maxMessage 0) in
@@ -365,11 +368,11 @@ module _ (H : List ℕ → List ℕ) (wide : (x : List ℕ) → length (H x) ≡
         ∙ ap (λ (l : List Event). E2 ∷ l) (accept-more H (step2 H s p .state) (agreeBit bit room3) cs cause-3)
 
     -- by the state that the opening gave
-    did-from : did H n t p m (callsOf H s p) ≡ accepted (events H (opened H s p .state) (callsOf H s p))
+    did-from : did H session n t p m (callsOf H s p) ≡ accepted (events H (opened H s p .state) (callsOf H s p))
     unfolding did
     did-from = ap (λ (o : Opened). accepted (events H (o .state) (callsOf H s p))) (sym opened-to)
 
-    did-zero : bit ≡ 0 → did H n t p m (callsOf H s p) ≡ E2 ∷ E3 ∷ []
+    did-zero : bit ≡ 0 → did H session n t p m (callsOf H s p) ≡ E2 ∷ E3 ∷ []
     unfolding callsOf accepted events
     did-zero b0 = did-from ∙ rw (eq-eqb bit 0 b0) (began [])
 
@@ -379,7 +382,7 @@ module _ (H : List ℕ → List ℕ) (wide : (x : List ℕ) → length (H x) ≡
         accept-more H (step3 H s p .state) (E4 .call) (E5 .call ∷ []) (cause-4 b1)
         ∙ ap (λ (l : List Event). E4 ∷ l) (accept-more H (step4 H s p .state) (E5 .call) [] (cause-5 b1))
 
-    did-one : bit ≡ 1 → did H n t p m (callsOf H s p) ≡ E2 ∷ E3 ∷ E4 ∷ E5 ∷ []
+    did-one : bit ≡ 1 → did H session n t p m (callsOf H s p) ≡ E2 ∷ E3 ∷ E4 ∷ E5 ∷ []
     unfolding callsOf
     did-one b1 =
         did-from ∙ rw (ne-eqb bit 0 (λ q. omega arith))
@@ -387,7 +390,7 @@ module _ (H : List ℕ → List ℕ) (wide : (x : List ℕ) → length (H x) ≡
 
     -- what the others see of the party
     abbrev first-of : ℕ → Option Event
-    first-of k = firstOf H n t p m (callsOf H s p) k
+    first-of k = firstOf H session n t p m (callsOf H s p) k
 
     either-bit : (P : Type 0) → (bit ≡ 0 → P) → (bit ≡ 1 → P) → P
     either-bit P f g = go (ℕ-discrete bit 1)
@@ -441,17 +444,17 @@ module _ (H : List ℕ → List ℕ) (wide : (x : List ℕ) → length (H x) ≡
     unfolding secondInbox inboxTo
     heard-5 b q l h = ap (heard n q) (fifth-is b) ∙ entry-of (secondFrom p) q l h
 
-    ends-0 : bit ≡ 0 → resultAfter H n t p m (callsOf H s p) ≡ some nothing
+    ends-0 : bit ≡ 0 → resultAfter H session n t p m (callsOf H s p) ≡ some nothing
     unfolding callsOf final made step2 step3
     ends-0 b =
         ap (λ (o : Opened). resultIn (final H (o .state) (callsOf H s p))) (sym opened-to)
         ∙ rw (eq-eqb bit 0 b)
-        (ap resultIn (state-3 ∙ ap (λ (e : Bool). cond e (atEnd (seatOf n t p) nothing) X2) (eq-eqb bit 0 b)) ∙ result-end (seatOf n t p) nothing)
+        (ap resultIn (state-3 ∙ ap (λ (e : Bool). cond e (atEnd (seatOf session n t p) nothing) X2) (eq-eqb bit 0 b)) ∙ result-end (seatOf session n t p) nothing)
 
-    sent-is : sentBy H n t p m (callsOf H s p) ≡ sentLater H s p
+    sent-is : sentBy H session n t p m (callsOf H s p) ≡ sentLater H s p
     unfolding sentBy sentOver sentLater made step3 step4
     sent-is =
-        either-bit (sentBy H n t p m (callsOf H s p) ≡ sentLater H s p)
+        either-bit (sentBy H session n t p m (callsOf H s p) ≡ sentLater H s p)
         (λ b. rw (did-zero b, eq-eqb bit 0 b, step3-counted H s p .told cause-3) (omega arith))
         (λ b. rw (did-one b, ne-eqb bit 0 (λ q. omega arith), step3-counted H s p .told cause-3, step4-counted H s p .told (cause-4 b))
         (omega arith))
@@ -460,7 +463,7 @@ module _ (H : List ℕ → List ℕ) (wide : (x : List ℕ) → length (H x) ≡
   good = goodParties H s
 
   -- what holds of each party that the map names holds of every good party
-  each : (P : Good → Type 0) → ((q : ℕ) → 1 ≤ q → q ≤ n → isGood s q ≡ true → P (goodParty H s q)) → Each H n t good P
+  each : (P : Good → Type 0) → ((q : ℕ) → 1 ≤ q → q ≤ n → isGood s q ≡ true → P (goodParty H s q)) → Each H session n t good P
   each P f A h =
       let w = named s (goodParty H s) n 1 A h in
       subst P (sym (w .is)) (f (w .number) (w .low) (omega (arith, w .high)) (w .good))
@@ -487,7 +490,7 @@ module _ (H : List ℕ → List ℕ) (wide : (x : List ℕ) → length (H x) ≡
       go (on e) r = rw (e, eq-eqb (step2 H s p .value) b (f p (omega arith) (omega arith) e)) r
       go (off e) r = rw e r
 
-  root-rule : (v : List ℕ) → Each H n t good (λ A. some (opening H n t (A .own) (A .message) .root) ≡ some v) → z ≡ v
+  root-rule : (v : List ℕ) → Each H session n t good (λ A. some (opening H session n t (A .own) (A .message) .root) ≡ some v) → z ≡ v
   root-rule v f =
       let of : (q : ℕ) → 1 ≤ q → q ≤ n → isGood s q ≡ true → opened H s q .root ≡ v =
       (λ q l h g. ap (λ (o : Opened). o .root) (opened-to q l h) ∙ same-some (f (goodParty H s q) (member q l h g))) in
@@ -496,7 +499,7 @@ module _ (H : List ℕ → List ℕ) (wide : (x : List ℕ) → length (H x) ≡
       same-true z (opened H s (lowestGood s) .root)
       (both-not (sameRoots H s n 1 (opened H s (lowestGood s) .root)) (same z (opened H s (lowestGood s) .root)) (lawful .2) all) ∙ own
 
-  vote-rule : (v : ℕ) → Each H n t good (λ A. bitGiven (step H n t good 2 A) ≡ some v) → bit ≡ v
+  vote-rule : (v : ℕ) → Each H session n t good (λ A. bitGiven (step H session n t good 2 A) ≡ some v) → bit ≡ v
   vote-rule v f =
       let of : (q : ℕ) → 1 ≤ q → q ≤ n → isGood s q ≡ true → step2 H s q .value ≡ v =
       (λ q l h g. same-some (sym (vote-is q l h) ∙ f (goodParty H s q) (member q l h g))) in
@@ -519,33 +522,33 @@ module _ (H : List ℕ → List ℕ) (wide : (x : List ℕ) → length (H x) ≡
   numbers = mapped s (goodParty H s) (λ (A : Good). A .own) (λ q. q) (λ q. refl) n 1
 
   -- all that agreement supposes, but for the hash
-  pub premises : Clean H n t good → Premises H n t good z bit
+  pub premises : Clean H session n t good → Premises H session n t good z bit
   premises clean =
       record {
         opened = record {
           bytes = each (λ A. Bytes (A .message)) (λ q l h g. message-small s (causes .0) H bytes q);
-          accepted = each (λ A. opening H n t (A .own) (A .message) .cause ≡ 0)
+          accepted = each (λ A. opening H session n t (A .own) (A .message) .cause ≡ 0)
               (λ q l h g. ap (λ (o : Opened). o .cause) (sym (opened-to q l h) ∙ opened-as q l h));
           apart = ap different numbers ∙ apart s n 1;
           bad = subst (λ (l : List ℕ). absent n 1 l ≤ t) (sym numbers) (omega (arith, bad-count s, few-bad));
         };
         called = record {
-          step2 = each (λ A. (e : Event) × (step H n t good 2 A ≡ some e) × (e .call ≡ agreeRoot z))
+          step2 = each (λ A. (e : Event) × (step H session n t good 2 A ≡ some e) × (e .call ≡ agreeRoot z))
               (λ q l h g. (E2 q l h, second-is q l h, refl));
-          step3 = each (λ A. (e : Event) × (out : List ℕ) × (step H n t good 3 A ≡ some e) × (e .call ≡ agreeBit bit out))
+          step3 = each (λ A. (e : Event) × (out : List ℕ) × (step H session n t good 3 A ≡ some e) × (e .call ≡ agreeBit bit out))
               (λ q l h g. (E3 q l h, room3 q l h, third-is q l h, refl));
-          step4 = λ b. each (λ A. (e : Event) × (step H n t good 4 A ≡ some e)) (λ q l h g. (E4 q l h, fourth-is q l h b));
-          step5 = λ b. each (λ A. (e : Event) × (step H n t good 5 A ≡ some e)) (λ q l h g. (E5 q l h, fifth-is q l h b));
+          step4 = λ b. each (λ A. (e : Event) × (step H session n t good 4 A ≡ some e)) (λ q l h g. (E4 q l h, fourth-is q l h b));
+          step5 = λ b. each (λ A. (e : Event) × (step H session n t good 5 A ≡ some e)) (λ q l h g. (E5 q l h, fifth-is q l h b));
         };
         ruled = record { root = root-rule; vote = vote-rule };
         delivered = λ b. record {
-          firstInbox = each (λ A. Each H n t good (λ B. A .own ≢ B .own
-              → heard n (B .own) (step H n t good 4 A) ≡ packetTo n (A .own) (step H n t good 3 B)))
-              (λ i l h g. each (λ B. i ≢ B .own → heard n (B .own) (step H n t good 4 (goodParty H s i)) ≡ packetTo n i (step H n t good 3 B))
+          firstInbox = each (λ A. Each H session n t good (λ B. A .own ≢ B .own
+              → heard n (B .own) (step H session n t good 4 A) ≡ packetTo n (A .own) (step H session n t good 3 B)))
+              (λ i l h g. each (λ B. i ≢ B .own → heard n (B .own) (step H session n t good 4 (goodParty H s i)) ≡ packetTo n i (step H session n t good 3 B))
               (λ q k j f d. heard-4 i l h b q k j ∙ from-first i q l h d f ∙ ap (entry n i) (sym (wrote-3 q k j))));
-          secondInbox = each (λ A. Each H n t good (λ B. A .own ≢ B .own
-              → heard n (B .own) (step H n t good 5 A) ≡ wrote (step H n t good 4 B)))
-              (λ i l h g. each (λ B. i ≢ B .own → heard n (B .own) (step H n t good 5 (goodParty H s i)) ≡ wrote (step H n t good 4 B))
+          secondInbox = each (λ A. Each H session n t good (λ B. A .own ≢ B .own
+              → heard n (B .own) (step H session n t good 5 A) ≡ wrote (step H session n t good 4 B)))
+              (λ i l h g. each (λ B. i ≢ B .own → heard n (B .own) (step H session n t good 5 (goodParty H s i)) ≡ wrote (step H session n t good 4 B))
               (λ q k j f d. heard-5 i l h b q k j ∙ from-second i q d f ∙ sym (wrote-4 q k j b)));
         };
         clean = clean;
@@ -555,25 +558,25 @@ module _ (H : List ℕ → List ℕ) (wide : (x : List ℕ) → length (H x) ≡
   abbrev pub senderBytes : ℕ
   senderBytes = goodSum s (λ q. (n - 1) * length (givenBy H s q)) n 1
 
-  pub sent-figure : sentFrom H s n 1 ≡ senderBytes + sent H n t good
+  pub sent-figure : sentFrom H s n 1 ≡ senderBytes + sent H session n t good
   sent-figure =
       sent-split s H n 1
       ∙ ap (λ (k : ℕ). senderBytes + k)
-      (sym (sum-of s (goodParty H s) (λ (A : Good). sentBy H n t (A .own) (A .message) (A .calls)) (sentLater H s) n 1 (λ q l h g. sent-is q l (omega arith))))
+      (sym (sum-of s (goodParty H s) (λ (A : Good). sentBy H session n t (A .own) (A .message) (A .calls)) (sentLater H s) n 1 (λ q l h g. sent-is q l (omega arith))))
 
   pub none-sends : hasSender s ≡ false → senderBytes ≡ 0
   none-sends e = sum-none s (λ q. (n - 1) * length (givenBy H s q)) (λ q. rw e (mul-zero (n - 1))) n 1
 
   -- what a party's step 5 gave, and so its line, is the one result
-  gives-5 : (R : Result) → Conclusions H n t good bit R → (p : ℕ) → 1 ≤ p → p ≤ n → isGood s p ≡ true → bit ≡ 1 → step5 H s p .result ≡ some R
+  gives-5 : (R : Result) → Conclusions H session n t good bit R → (p : ℕ) → 1 ≤ p → p ≤ n → isGood s p ≡ true → bit ≡ 1 → step5 H s p .result ≡ some R
   unfolding made step5
   gives-5 R C p l h g b =
       let A = goodParty H s p in
       let e = fifth-is p l h b in
-      let i = first-in 5 (did H n t (A .own) (A .message) (A .calls)) _ e in
+      let i = first-in 5 (did H session n t (A .own) (A .message) (A .calls)) _ e in
       C .gives A (member p l h g) _ (i .0) (i .1)
 
-  line-of : (R : Result) → Conclusions H n t good bit R → (p : ℕ) → 1 ≤ p → p ≤ n → isGood s p ≡ true → endsWith H s p ≡ R
+  line-of : (R : Result) → Conclusions H session n t good bit R → (p : ℕ) → 1 ≤ p → p ≤ n → isGood s p ≡ true → endsWith H s p ≡ R
   unfolding endsWith
   line-of R C p l h g =
       either-bit p l h (cond (eqb bit 0) nothing (orNothing (step5 H s p .result)) ≡ R)
@@ -600,29 +603,29 @@ module _ (H : List ℕ → List ℕ) (wide : (x : List ℕ) → length (H x) ≡
     unfolding messageOf
     same-party p = rw there
 
-    same-parties : parties H n t (openers H s) ≡ good
+    same-parties : parties H session n t (openers H s) ≡ good
     same-parties = mapped s (opener H s) partyOf (goodParty H s) same-party n 1
 
-    every : (P : Opener → Type 0) → ((p : ℕ) → 1 ≤ p → p ≤ n → isGood s p ≡ true → P (opener H s p)) → Every H n t (openers H s) P
+    every : (P : Opener → Type 0) → ((p : ℕ) → 1 ≤ p → p ≤ n → isGood s p ≡ true → P (opener H s p)) → Every H session n t (openers H s) P
     every P f A h = let w = named s (opener H s) n 1 A h in subst P (sym (w .is)) (f (w .number) (w .low) (omega (arith, w .high)) (w .good))
 
     accepted-by : (p : ℕ) → 1 ≤ p → p ≤ n → openedBySender H s p (handedTo H s p) .opened .cause ≡ 0
     unfolding opened
     accepted-by p l h =
-        ap (λ (o : Opened). o .cause) (ap (λ (b : Bool). cond b (openedBySender H s p (handedTo H s p) .opened) (opening H n t p (bookOf s p))) (sym there)
+        ap (λ (o : Opened). o .cause) (ap (λ (b : Bool). cond b (openedBySender H s p (handedTo H s p) .opened) (opening H session n t p (bookOf s p))) (sym there)
         ∙ opened-as p l h)
 
-    gave-is : (p : ℕ) → p ≡ q → gave H n t (openers H s) (opener H s p) ≡ senderWrote H s
+    gave-is : (p : ℕ) → p ≡ q → gave H session n t (openers H s) (opener H s p) ≡ senderWrote H s
     unfolding senderWrote openedBySender
     gave-is p e =
-        ap (λ (i : ℕ). gave H n t (openers H s) (opener H s i)) e
-        ∙ ap (λ (b : List ℕ). let r = openBySenderOf H n t q q b (replicate maxMessagePacket 0) in take (r .value) (r .buffer))
+        ap (λ (i : ℕ). gave H session n t (openers H s) (opener H s i)) e
+        ∙ ap (λ (b : List ℕ). let r = openBySenderOf H session n t q q b (replicate maxMessagePacket 0) in take (r .value) (r .buffer))
         (handed-own s (causes .0) H q refl)
 
     good-there : (p : ℕ) → 1 ≤ p → p ≤ n → isGood s p ≡ true → p ≡ q → goodSender s ≡ true
     good-there p l h g e = rw (there, sym e, numbered-within n p l h) g
 
-    premises-by : Clean H n t good → broadcast.Premises H n t (openers H s) q z bit
+    premises-by : Clean H session n t good → broadcast.Premises H session n t (openers H s) q z bit
     unfolding openedBySender
     premises-by clean =
         let P = premises clean in
@@ -630,53 +633,53 @@ module _ (H : List ℕ → List ℕ) (wide : (x : List ℕ) → length (H x) ≡
         mapped s (opener H s) (λ (A : Opener). A .own) (λ i. i) (λ i. refl) n 1 in
         record {
           opened = record {
-            accepted = every (λ A. begun H n t (openers H s) A .opened .cause ≡ 0) (λ p l h g. accepted-by p l h);
+            accepted = every (λ A. begun H session n t (openers H s) A .opened .cause ≡ 0) (λ p l h g. accepted-by p l h);
             named = every (λ A. A .sender ≡ q) (λ p l h g. refl);
             bytes = every (λ A. Bytes (partyOf A .message)) (λ p l h g. message-bytes p (senderIn s) (handedTo H s p) (handed-bytes s (causes .0) H there bytes p));
-            delivered = every (λ S. S .own ≡ q → Every H n t (openers H s) (λ A. A .own ≢ q → A .bytes ≡ gave H n t (openers H s) S))
-                (λ i l h g e. every (λ A. A .own ≢ q → A .bytes ≡ gave H n t (openers H s) (opener H s i))
+            delivered = every (λ S. S .own ≡ q → Every H session n t (openers H s) (λ A. A .own ≢ q → A .bytes ≡ gave H session n t (openers H s) S))
+                (λ i l h g e. every (λ A. A .own ≢ q → A .bytes ≡ gave H session n t (openers H s) (opener H s i))
                 (λ p k j f d. handed-good s (causes .0) H p d (good-there i l h g e) ∙ sym (gave-is i e)));
             apart = ap different owns ∙ apart s n 1;
             bad = subst (λ (l : List ℕ). absent n 1 l ≤ t) (sym owns) (omega (arith, bad-count s, few-bad));
           };
-          called = subst (λ (l : List Good). CalledAll H n t l z bit) (sym same-parties) (P .called);
-          ruled = subst (λ (l : List Good). Ruled H n t l z bit) (sym same-parties) (P .ruled);
-          delivered = λ b. subst (λ (l : List Good). DeliveredAll H n t l) (sym same-parties) (P .delivered b);
-          clean = subst (λ (l : List Good). Clean H n t l) (sym same-parties) clean;
+          called = subst (λ (l : List Good). CalledAll H session n t l z bit) (sym same-parties) (P .called);
+          ruled = subst (λ (l : List Good). Ruled H session n t l z bit) (sym same-parties) (P .ruled);
+          delivered = λ b. subst (λ (l : List Good). DeliveredAll H session n t l) (sym same-parties) (P .delivered b);
+          clean = subst (λ (l : List Good). Clean H session n t l) (sym same-parties) clean;
         }
 
-    figure-by : senderBytes + sent H n t good ≡ sentInAll H n t (openers H s)
+    figure-by : senderBytes + sent H session n t good ≡ sentInAll H session n t (openers H s)
     unfolding openedBySender
     figure-by =
         ap₂ (λ (a b : ℕ). a + b)
-        (sym (sum-of s (opener H s) (λ (A : Opener). (n - 1) * length (gave H n t (openers H s) A)) (λ p. (n - 1) * length (givenBy H s p)) n 1
+        (sym (sum-of s (opener H s) (λ (A : Opener). (n - 1) * length (gave H session n t (openers H s) A)) (λ p. (n - 1) * length (givenBy H s p)) n 1
         (λ p l h g. ap (λ (b : List ℕ). (n - 1) * length b) (given-is p l (omega arith)))))
-        (ap (sent H n t) (sym same-parties))
+        (ap (sent H session n t) (sym same-parties))
       where
-        given-is : (p : ℕ) → 1 ≤ p → p ≤ n → gave H n t (openers H s) (opener H s p) ≡ givenBy H s p
+        given-is : (p : ℕ) → 1 ≤ p → p ≤ n → gave H session n t (openers H s) (opener H s p) ≡ givenBy H s p
         given-is p l h = elim (ℕ-discrete p q) [
           | yes e ↦ gave-is p e ∙ sym (rw (there, eq-eqb p q e))
-          | no d ↦ accepted-wrote n t p q (handedTo H s p) H (replicate maxMessagePacket 0) (accepted-by p l h)
+          | no d ↦ accepted-wrote n t p q (handedTo H s p) H session (replicate maxMessagePacket 0) (accepted-by p l h)
               ∙ other-packet p q (handedTo H s p) n d ∙ sym (rw (there, ne-eqb p q d))
         ]
 
   -- and all lines give one result: that of the theorem, as is the figure behind them
   pub record Lines (R : Result) : Type 0 where
-    pub agreed : Conclusions H n t good bit R
+    pub agreed : Conclusions H session n t good bit R
     pub lines : (p : ℕ) → 1 ≤ p → p ≤ n → isGood s p ≡ true → endsWith H s p ≡ R
-    pub figure : sentFrom H s n 1 ≡ senderBytes + sent H n t good
-    pub prints : output H s ≡ linesOf s R n 1 ++ sentLine (senderBytes + sent H n t good)
+    pub figure : sentFrom H s n 1 ≡ senderBytes + sent H session n t good
+    pub prints : output H s ≡ linesOf s R n 1 ++ sentLine (senderBytes + sent H session n t good)
     -- with no sender no other bytes are sent than those of agreement; with one it is broadcast's claim, and its sum
     pub own-books : hasSender s ≡ false → senderBytes ≡ 0
     pub by-sender : hasSender s ≡ true
-        → Settled H n t (openers H s) (senderIn s) bit R × (senderBytes + sent H n t good ≡ sentInAll H n t (openers H s))
+        → Settled H session n t (openers H s) (senderIn s) bit R × (senderBytes + sent H session n t good ≡ sentInAll H session n t (openers H s))
 
   printed-lines : (R : Result) → ((p : ℕ) → 1 ≤ p → p ≤ n → isGood s p ≡ true → endsWith H s p ≡ R)
-      → output H s ≡ linesOf s R n 1 ++ sentLine (senderBytes + sent H n t good)
+      → output H s ≡ linesOf s R n 1 ++ sentLine (senderBytes + sent H session n t good)
   unfolding output
   printed-lines R f = ap₂ (λ (l : List ℕ) (k : ℕ). l ++ sentLine k) (lines-same R f n 1 (omega arith) (omega arith)) sent-figure
 
-  lines-of : (R : Result) → Conclusions H n t good bit R → (hasSender s ≡ true → Settled H n t (openers H s) (senderIn s) bit R) → Lines R
+  lines-of : (R : Result) → Conclusions H session n t good bit R → (hasSender s ≡ true → Settled H session n t (openers H s) (senderIn s) bit R) → Lines R
   lines-of R C by =
       record {
         agreed = C;
@@ -687,20 +690,20 @@ module _ (H : List ℕ → List ℕ) (wide : (x : List ℕ) → length (H x) ≡
         by-sender = λ e. (by e, figure-by e);
       }
 
-  pub one-result : Clean H n t good → (R : Result) × Lines R
+  pub one-result : Clean H session n t good → (R : Result) × Lines R
   one-result clean = go (way (hasSender s))
     where
       go : Way (hasSender s) → (R : Result) × Lines R
       go (on e) =
-          let a = broadcast H wide n t (openers H s) (senderIn s) z bit (premises-by e clean) in
-          (a .0, lines-of (a .0) (subst (λ (l : List Good). Conclusions H n t l bit (a .0)) (same-parties e) (a .1 .agreed)) (λ w. a .1))
+          let a = broadcast H wide session n t (openers H s) (senderIn s) z bit (premises-by e clean) in
+          (a .0, lines-of (a .0) (subst (λ (l : List Good). Conclusions H session n t l bit (a .0)) (same-parties e) (a .1 .agreed)) (λ w. a .1))
       go (off e) =
-          let a = agreement H wide n t good z bit (premises clean) in
+          let a = agreement H wide session n t good z bit (premises clean) in
           (a .0, lines-of (a .0) (a .1) (λ w. clash w e))
 
 -- at SHA-256
 pub one-result-sha256 : (s : List ℕ) (bytes : Bytes s) (ok : sessionCause sha256 s ≡ 0)
-    → Clean sha256 (nIn s) (tIn s) (goodParties sha256 s) → (R : Result) × Lines sha256 sha256-length s bytes ok R
+    → Clean sha256 (sessionOf s) (nIn s) (tIn s) (goodParties sha256 s) → (R : Result) × Lines sha256 sha256-length s bytes ok R
 one-result-sha256 s bytes ok = one-result sha256 sha256-length s bytes ok
 
 -- demand 3, on which the others rest

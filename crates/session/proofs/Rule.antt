@@ -24,7 +24,7 @@ use Rattle.party.specs.State.{happy}
 use Rattle.party.specs.Steps.{openOf, rootCause, withRoot, gives, refused, agreeRootOf}
 use Rattle.party.specs.declared.Party.{Party}
 use Rattle.party.specs.declared.Answer.the-variants.{Happy}
-use Rattle.plan.specs.Layout.{mapWidth, names, member, unnamed, lowest, fieldAt, nIn, tIn, optionsIn, hasRoot, hasBit, rootIn, bitIn, goodAt, goodIn, booksIn}
+use Rattle.plan.specs.Layout.{sessionOf, mapWidth, names, member, unnamed, lowest, fieldAt, nIn, tIn, optionsIn, hasRoot, hasBit, rootIn, bitIn, goodAt, goodIn, booksIn}
 use Rattle.plan.specs.Layout.{hasSender, senderIn, goodSender, badSender, holders, behindBooks, blockEntry, senderPacket, laidOut}
 use Rattle.plan.specs.Plan.{planCause, partsOf, planOf, bookGiven, blockGiven}
 use Rattle.plan.specs.declared.Plan.{Plan}
@@ -46,6 +46,7 @@ pub record Known (s : List ℕ) (parts : Plan) : Type 0 where
   pub options-are : parts .options ≡ optionsIn s
   pub good-is : parts .good ≡ goodIn s
   pub sender-is : parts .sender ≡ cond (hasSender s) (senderIn s) 0
+  pub session-is : parts .session ≡ sessionOf s
   pub holders-are : parts .holders ≡ holders s
   pub books-are : parts .books ≡ goodAt s + mapWidth
   pub packets-are : parts .packets ≡ length s - length (behindBooks s)
@@ -73,6 +74,7 @@ known s parts r =
       options-are = ap (λ (x : Plan). x .options) e;
       good-is = ap (λ (x : Plan). x .good) e;
       sender-is = ap (λ (x : Plan). x .sender) e;
+      session-is = ap (λ (x : Plan). x .session) e;
       holders-are = ap (λ (x : Plan). x .holders) e;
       books-are = ap (λ (x : Plan). x .books) e;
       packets-are = ap (λ (x : Plan). x .packets) e;
@@ -113,9 +115,9 @@ module _ (s : List ℕ) (parts : Plan) (k : Known s parts) where
   packets-room = omega (arith, k .packets-are)
 
   pub open-is : (H : List ℕ → List ℕ) (q : ℕ) (m : List ℕ) → hasSender s ≡ false → m ≡ bookOf s q
-      → openOf H (parts .n) (parts .t) q m ≡ opened H s q
+      → openOf H (parts .session) (parts .n) (parts .t) q m ≡ opened H s q
   unfolding opened
-  open-is H q m none e = rw (k .n-is, k .t-is, e, none)
+  open-is H q m none e = rw (k .session-is, k .n-is, k .t-is, e, none)
 
   pub open-by : (H : List ℕ → List ℕ) (q : ℕ) → hasSender s ≡ true → openedBySender H s q (handedTo H s q) .opened ≡ opened H s q
   unfolding opened

@@ -1,6 +1,6 @@
--- A plan played (document 01, "The rehearsal"): every good party is opened with its book, or by the sender where there is one (document 02, No. 5), and
--- taken through its steps, on what the other good parties wrote and on what the plan says that bad ones send. The hash of the tree is a parameter H. Assumes
--- nothing.
+-- A plan played (document 01, "The rehearsal"): every good party is opened in the session of the plan's number (document 02, No. 6), with its book or, where
+-- there is one, by the sender (document 02, No. 5), and taken through its steps, on what the other good parties wrote and on what the plan says that bad ones
+-- send. The hash of the tree is a parameter H. Assumes nothing.
 use mathlib.Core.Bool.{Bool, true, false, cond, not, _&&_, _||_}
 use mathlib.Core.List.{List, [], _∷_, _++_}
 use mathlib.Core.Option.{Option, none, some}
@@ -23,7 +23,7 @@ pub use Rattle.commitment.specs.Rooms.{maxOutbox}
 use Rattle.agreement.specs.Calls.{Call, agreeRoot, agreeBit, takeShares, takeRelays, lengths}
 use Rattle.agreement.specs.Agreement.{Good}
 use Rattle.agreement.specs.Broadcast.{Opener}
-use Rattle.plan.specs.Layout.{names, partyEntry, unnamed, lowest, nIn, tIn, hasRoot, hasBit, hasSender, rootIn, bitIn, senderIn, goodIn, booksIn}
+use Rattle.plan.specs.Layout.{names, partyEntry, unnamed, lowest, nIn, tIn, hasRoot, hasBit, hasSender, rootIn, bitIn, senderIn, sessionOf, goodIn, booksIn}
 use Rattle.plan.specs.Layout.{goodSender, holders, senderPacket, exchangeIn}
 use Rattle.plan.specs.Plan.{planCause}
 use Rattle.exchange.specs.Exchange.{inboxTo}
@@ -73,7 +73,7 @@ module _ (H : List ℕ → List ℕ) (s : List ℕ) where
   -- where there is a sender: party p's opening, handed these bytes; and the packet that the sender wrote in its own, handed its book (only of a good one
   -- is it used)
   unfoldable pub openedBySender : ℕ → List ℕ → Begun
-  openedBySender p bs = openBySenderOf H (nIn s) (tIn s) p (senderIn s) bs (replicate maxMessagePacket 0)
+  openedBySender p bs = openBySenderOf H (sessionOf s) (nIn s) (tIn s) p (senderIn s) bs (replicate maxMessagePacket 0)
 
   unfoldable pub senderWrote : List ℕ
   senderWrote = let r = openedBySender (senderIn s) (bookOf s (senderIn s)) in take (r .value) (r .buffer)
@@ -85,7 +85,7 @@ module _ (H : List ℕ → List ℕ) (s : List ℕ) where
   -- step 1, by the sender or with the own book; the message that party p opens with; and the agreed root: the given one, or that of the lowest-numbered
   -- good party
   unfoldable pub opened : ℕ → Opened
-  opened p = cond (hasSender s) (openedBySender p (handedTo p) .opened) (openOf H (nIn s) (tIn s) p (bookOf s p))
+  opened p = cond (hasSender s) (openedBySender p (handedTo p) .opened) (openOf H (sessionOf s) (nIn s) (tIn s) p (bookOf s p))
 
   unfoldable pub messageOf : ℕ → List ℕ
   messageOf p = cond (hasSender s) (messageBy p (senderIn s) (handedTo p)) (bookOf s p)

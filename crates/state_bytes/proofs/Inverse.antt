@@ -118,7 +118,8 @@ module _ (x : Party) (f : Storable x) (r : List ℕ) where
   session-back =
       let k : List ℕ = fourBytes (x .seat .session) in
       let rest : List ℕ = x .root ++ (x .message ++ x .share) in
-      sym (ap number (append-assoc k rest r) ∙ number-back (x .seat .session) (rest ++ r) (f .session))
+      sym (ap (λ (i : ℕ). i % 2 ^ 32) (ap number (append-assoc k rest r) ∙ number-back (x .seat .session) (rest ++ r) (f .session))
+      ∙ mod-eq-of-lt (f .session))
 
   read-back : stateOf B ≡ x
   read-back =

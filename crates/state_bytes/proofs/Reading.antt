@@ -2,11 +2,11 @@
 use mathlib.Core.Path.{_≡_, refl, sym, ap, ap₂, _∙_}
 use mathlib.Core.Bool.{cond}
 use mathlib.Core.List.{List, [], _∷_, _++_, append-assoc}
-use Prim.Native.Nat.{ℕ, _+_, _/_, _%_, _≤_, _<_}
+use Prim.Native.Nat.{ℕ, _+_, _/_, _%_, _^_, _≤_, _<_}
 use native.Mathlib.Decide.{ℕ-discrete, decLt}
 use native.Mathlib.Omega.{arith}
 use borrow.Author.Tests.{lt-ltb, le-ltb, eq-eqb, ne-eqb}
-use lib.Dec.{eqb}
+use lib.Dec.{eqb, lit<}
 use lib.ListN.{length, getD, take, drop, replicate, length-append, length-drop}
 use lib.Seq.{length-take-le}
 use Rattle.limits.specs.Limits.{maxMessage, maxShare}
@@ -98,6 +98,21 @@ root-32 s = elim (decLt (length s) stateLength) [
           | no k ↦ ap (λ (x : Party). length (x .root)) (state-read s long v (omega arith)) ∙ read-32 s long
         ]
         | no v ↦ ap (λ (x : Party). length (x .root)) (state-other s long v) ∙ blank-32
+      ]
+]
+
+-- the session's number that bytes say has four of them
+pub session-small : (s : List ℕ) → stateOf s .seat .session < 2 ^ 32
+unfolding blankState readIn
+session-small s = elim (decLt (length s) stateLength) [
+  | yes h ↦ rw (state-short s h) (lit< tt)
+  | no h ↦ let long : stateLength ≤ length s = omega arith in
+      elim (ℕ-discrete (versionTold s) layoutVersion) [
+        | yes v ↦ elim (decLt 5 (stageTold s)) [
+          | yes k ↦ rw (state-unknown s long v k) (lit< tt)
+          | no k ↦ rw (state-read s long v (omega arith)) (omega arith)
+        ]
+        | no v ↦ rw (state-other s long v) (lit< tt)
       ]
 ]
 

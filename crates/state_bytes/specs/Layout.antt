@@ -2,7 +2,7 @@
 -- Assumes nothing.
 use mathlib.Core.Bool.{cond, not, _||_}
 use mathlib.Core.List.{List, [], _∷_, _++_}
-use Prim.Native.Nat.{ℕ, _+_, _/_, _%_}
+use Prim.Native.Nat.{ℕ, _+_, _/_, _%_, _^_}
 use lib.Dec.{ltb, eqb}
 use lib.ListN.{length, getD, take, drop}
 use Rattle.limits.specs.Limits.{maxMessage, maxShare}
@@ -86,8 +86,9 @@ lengthTold s = size (drop 5 s)
 abbrev pub heldTold : List ℕ → ℕ
 heldTold s = size (drop 7 s)
 
+-- below two to the 32, as every number that four bytes say
 abbrev pub sessionTold : List ℕ → ℕ
-sessionTold s = number (drop sessionPlace s)
+sessionTold s = number (drop sessionPlace s) % 2 ^ 32
 
 -- a state read from bytes as it is written
 unfoldable pub readIn : List ℕ → Party

@@ -6,7 +6,7 @@ use foreign::random::Random;
 
 use crate::call::{Call, Lent};
 use crate::made::{dirt, hold, put, Play};
-use crate::reference::{AT_GROUP, AT_HELD, AT_LENGTH, AT_MESSAGE, AT_ROOT, AT_SHARE};
+use crate::reference::{AT_GROUP, AT_HELD, AT_LENGTH, AT_MESSAGE, AT_ROOT, AT_SESSION, AT_SHARE};
 use crate::tally::{compare, Tally};
 use crate::times;
 
@@ -28,6 +28,7 @@ impl End {
         put(&mut state, 0, &[&[LAYOUT], &head[..], &[stage]].concat());
         let bytes = result.as_deref().unwrap_or_default();
         put(&mut state, AT_LENGTH, &(bytes.len() as u16).to_be_bytes());
+        put(&mut state, AT_SESSION, &play.session.to_be_bytes());
         put(&mut state, AT_MESSAGE, bytes);
         End { result, state }
     }

@@ -8,8 +8,8 @@ use crate::reference;
 
 #[derive(Clone, Debug, PartialEq)]
 pub enum Call {
-    Open((usize, usize, usize), Vec<u8>),
-    OpenBySender((usize, usize, usize), usize, Vec<u8>),
+    Open(u32, (usize, usize, usize), Vec<u8>),
+    OpenBySender(u32, (usize, usize, usize), usize, Vec<u8>),
     AgreeRoot(Vec<u8>),
     AgreeBit(usize),
     TakeShares(Vec<u8>),
@@ -17,12 +17,13 @@ pub enum Call {
     ResultLength,
     Stage,
     Own,
+    Session,
     ReadPacket(usize, Vec<u8>),
     ReadMessage(Vec<u8>),
-    CheckPath((usize, usize), Vec<u8>, Vec<u8>, Vec<u8>),
+    CheckPath(u32, (usize, usize), Vec<u8>, Vec<u8>, Vec<u8>),
     Shares((usize, usize), Vec<u8>),
     Rebuild((usize, usize), Vec<u8>),
-    RebuildWithRoot((usize, usize), Vec<u8>, Vec<u8>),
+    RebuildWithRoot(u32, (usize, usize), Vec<u8>, Vec<u8>),
     Hash(Vec<u8>),
 }
 
@@ -47,6 +48,7 @@ impl Call {
             Call::ResultLength => "result_length",
             Call::Stage => "stage",
             Call::Own => "own",
+            Call::Session => "session",
             Call::ReadPacket(..) => "read_packet",
             Call::ReadMessage(_) => "read_message",
             Call::CheckPath(..) => "check_path",
@@ -61,9 +63,9 @@ impl Call {
 /// The library's answer.
 pub fn answered(call: &Call, state: &mut [u8], root: &mut [u8], out: &mut [u8]) -> Answer {
     match call {
-        Call::Open(group, message) => calls::open(*group, message, state, root),
-        Call::OpenBySender(group, sender, bytes) => {
-            calls::open_by_sender(*group, *sender, bytes, state, root, out)
+        Call::Open(session, group, message) => calls::open(*session, *group, message, state, root),
+        Call::OpenBySender(session, group, sender, bytes) => {
+            calls::open_by_sender(*session, *group, *sender, bytes, state, root, out)
         }
         Call::AgreeRoot(root) => calls::agree_root(state, root),
         Call::AgreeBit(bit) => calls::agree_bit(state, *bit, out),
@@ -72,13 +74,16 @@ pub fn answered(call: &Call, state: &mut [u8], root: &mut [u8], out: &mut [u8]) 
         Call::ResultLength => calls::result_length(state),
         Call::Stage => calls::stage(state),
         Call::Own => calls::own(state),
+        Call::Session => calls::session(state),
         Call::ReadPacket(n, packet) => calls::read_packet(*n, packet),
         Call::ReadMessage(packet) => calls::read_message(packet),
-        Call::CheckPath(place, share, path, root) => calls::check_path(*place, share, path, root),
+        Call::CheckPath(session, place, share, path, root) => {
+            calls::check_path(*session, *place, share, path, root)
+        }
         Call::Shares(group, message) => calls::shares(*group, message, out),
         Call::Rebuild(group, entries) => calls::rebuild(*group, entries, out),
-        Call::RebuildWithRoot(group, root, entries) => {
-            calls::rebuild_with_root(*group, root, entries, out)
+        Call::RebuildWithRoot(session, group, root, entries) => {
+            calls::rebuild_with_root(*session, *group, root, entries, out)
         }
         Call::Hash(message) => calls::hash(message, out),
     }

@@ -5,8 +5,9 @@ use cipangohu::{lay_out, LAYOUT, MAX_MESSAGE, MAX_PARTIES, MAX_SHARE, STATE};
 use foreign::liars::{Lie, Scene, Sharing, Way};
 use foreign::limits::INSIDE;
 use foreign::random::Random;
+use foreign::sessions;
 
-use crate::reference::{AT_GROUP, AT_HELD, AT_LENGTH, AT_ROOT, AT_SHARE, AT_STAGE};
+use crate::reference::{AT_GROUP, AT_HELD, AT_LENGTH, AT_ROOT, AT_SESSION, AT_SHARE, AT_STAGE};
 
 /// A number that no group has.
 pub const ODD: [usize; 8] = [
@@ -48,24 +49,25 @@ pub fn message(random: &mut Random) -> Vec<u8> {
     random.bytes(length)
 }
 
-/// Shares under one root: of a message; such as no message has, though some of them give one; or of a
+/// Shares under one root of a session: of a message; such as no message has, though some of them give one; or of a
 /// frame that holds none, which may give shares as long as a packet may have.
-fn sharing(n: usize, t: usize, random: &mut Random) -> Sharing {
+fn sharing(session: u32, n: usize, t: usize, random: &mut Random) -> Sharing {
     match random.below(6) {
         0 => {}
-        1 if t > 0 => return Sharing::no_codeword(n, t, random),
-        _ => return Sharing::of(n, t, &message(random)),
+        1 if t > 0 => return Sharing::no_codeword(session, n, t, random),
+        _ => return Sharing::of(session, n, t, &message(random)),
     }
     let size = match random.below(8) {
         0 => 1 + random.below(MAX_SHARE),
         1 => MAX_SHARE,
         _ => 1 + random.below(4),
     };
-    Sharing::of_frame(n, t, &random.bytes((n - t) * size))
+    Sharing::of_frame(session, n, t, &random.bytes((n - t) * size))
 }
 
-/// What the packets of a list of calls are about.
+/// What the packets of a list of calls are about; the agreed root is now and then of another session.
 pub struct Play {
+    pub session: u32,
     pub group: (usize, usize, usize),
     pub message: Vec<u8>,
     pub scene: Scene,
@@ -73,14 +75,16 @@ pub struct Play {
 
 impl Play {
     pub fn new(random: &mut Random) -> Play {
-        let (n, t) = group(random);
+        let (session, (n, t)) = (sessions::some(random), group(random));
         let message = message(random);
-        let agreed = match random.once_in(3) {
-            true => Sharing::of(n, t, &message),
-            false => sharing(n, t, random),
+        let agreed = match random.below(12) {
+            0..4 => Sharing::of(session, n, t, &message),
+            4 => Sharing::of(sessions::another(session, random), n, t, &message),
+            _ => sharing(session, n, t, random),
         };
-        let other = sharing(n, t, random);
+        let other = sharing(session, n, t, random);
         Play {
+            session,
             group: (n, t, 1 + random.below(n)),
             message,
             scene: Scene { agreed, other },
@@ -156,7 +160,7 @@ pub fn room(needed: usize, random: &mut Random) -> usize {
 
 /// Changes a state in one way that its holder should not.
 pub fn spoil(state: &mut Vec<u8>, play: &Play, random: &mut Random) {
-    match random.below(13) {
+    match random.below(14) {
         0 => {
             let length = STATE - 1 - random.below(STATE);
             state.truncate(length);
@@ -180,6 +184,7 @@ pub fn spoil(state: &mut Vec<u8>, play: &Play, random: &mut Random) {
         9 => hold(state, play),
         10 => past_lengths(state, random),
         11 => state[0] = random.pick(&[0, LAYOUT, LAYOUT + 1, 255]),
+        12 => put(state, AT_SESSION, &sessions::some(random).to_be_bytes()),
         _ => {
             let place = random.below(state.len());
             state[place] ^= 1 << random.below(8);

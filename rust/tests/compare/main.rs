@@ -11,11 +11,13 @@ mod reference;
 mod root;
 mod safe;
 mod sender;
+mod session;
 mod tally;
 
 use cipangohu::{lay_out, MAX_HASHED, MAX_MESSAGE, MAX_PARTIES, MAX_SHARE, STATE};
 use foreign::liars::{flip, Lie, Scene, Sharing, Way};
 use foreign::random::Random;
+use foreign::sessions;
 
 use call::{Answer, Call, Lent};
 use made::{dirt, group, message, odd_group, room, spoil, Play, ODD};
@@ -64,7 +66,7 @@ fn stateless(call: &Call, random: &mut Random, tally: &mut Tally) {
 
 /// The calls that ask something of a state.
 fn ask(state: &[u8], tally: &mut Tally) {
-    for call in [Call::ResultLength, Call::Stage, Call::Own] {
+    for call in [Call::ResultLength, Call::Stage, Call::Own, Call::Session] {
         let mut lent = Lent {
             state: state.to_vec(),
             ..Lent::default()
@@ -104,7 +106,7 @@ fn lists_of_calls() {
     let (mut random, mut tally) = (Random::new(1), Tally::default());
     for list in 0..times(20_000) {
         let play = Play::new(&mut random);
-        let opening = Call::Open(play.group, play.message.clone());
+        let opening = Call::Open(play.session, play.group, play.message.clone());
         let mut lent = Lent {
             state: dirt(STATE, &mut random),
             root: dirt(32, &mut random),
@@ -133,6 +135,7 @@ fn lists_of_calls() {
     tally.expect("result_length", &[0, 5, 6]);
     tally.expect("stage", &[0, 5]);
     tally.expect("own", &[0, 5]);
+    tally.expect("session", &[0, 5]);
 }
 
 #[test]
@@ -157,7 +160,7 @@ fn openings() {
             root: dirt(root, &mut random),
             ..Lent::default()
         };
-        let call = Call::Open((n, t, own), message);
+        let call = Call::Open(sessions::some(&mut random), (n, t, own), message);
         compare(&call, &mut lent, &mut tally).accepted().ok();
     }
     tally.expect("open", &[0, 1, 2, 3, 4, 9]);
@@ -171,8 +174,8 @@ fn packets() {
         let n = 2 + random.below(MAX_PARTIES - 1);
         let t = random.below(n.div_ceil(2));
         let scene = Scene {
-            agreed: Sharing::of(n, t, &message(&mut random)),
-            other: Sharing::of(n, t, b"other"),
+            agreed: Sharing::of(0, n, t, &message(&mut random)),
+            other: Sharing::of(0, n, t, b"other"),
         };
         let way = Way::new(random.below(2), 1 + random.below(n), 1 + random.below(n));
         let small = random.pick(&Lie::SMALL);
@@ -193,13 +196,13 @@ fn paths() {
     let (mut random, mut tally) = (Random::new(4), Tally::default());
     let mut yes = 0;
     for _ in 0..times(4_000) {
-        let (n, t) = group(&mut random);
+        let (mut session, (n, t)) = (sessions::some(&mut random), group(&mut random));
         let j = 1 + random.below(n);
-        let sharing = Sharing::of(n, t, &message(&mut random));
+        let sharing = Sharing::of(session, n, t, &message(&mut random));
         let mut share = sharing.shares[j - 1].clone();
         let mut path = sharing.packet(j).split_off(4 + share.len());
         let (mut place, mut root) = ((n, j), sharing.root.to_vec());
-        match random.below(14) {
+        match random.below(15) {
             0 => place = (random.pick(&ODD), j),
             1 => place = (n, random.pick(&ODD)),
             2 => place = (n, 1 + random.below(n)),
@@ -210,13 +213,16 @@ fn paths() {
             7 => path.truncate(random.below(path.len() + 1)),
             8 => path.extend(vec![1; 1 + random.below(200)]),
             9 if !path.is_empty() => flip(&mut path, &mut random),
-            10 => share.resize(MAX_HASHED - 3 + random.below(4), 3),
+            10 => share.resize(MAX_HASHED - 7 + random.below(8), 3),
             11 => share.clear(),
+            12 => session = sessions::another(session, &mut random),
             _ => {}
         }
-        let call = Call::CheckPath(place, share, path, root);
+        let call = Call::CheckPath(session, place, share, path, root);
         let mut lent = Lent::default();
-        yes += compare(&call, &mut lent, &mut tally).value;
+        let answer = compare(&call, &mut lent, &mut tally);
+        assert!(answer.value == 0 || session == sharing.session);
+        yes += answer.value;
     }
     println!("check_path: yes {yes} times");
     assert!(yes >= 100);
@@ -252,7 +258,7 @@ fn shares_and_rebuilding() {
 
 /// The entries of a message's shares, some missing, now and then damaged.
 fn entries_of(n: usize, t: usize, message: &[u8], random: &mut Random) -> Vec<u8> {
-    let mut shares = Sharing::of(n, t, message).shares;
+    let mut shares = Sharing::of(0, n, t, message).shares;
     let count = random.below(t + 2).min(n);
     let missing = random.choice(n, count);
     for (place, share) in shares.iter_mut().enumerate() {

@@ -11,12 +11,14 @@ use foreign::{message_packet, sha256, tree};
 use crate::call::{Answer, Call, Lent};
 
 /// Where things stand in a state: behind the version of the layout n, t and the own number, the
-/// stage, the lengths of the message and of the share, the root, the message and the share.
+/// stage, the lengths of the message and of the share, the session number, the root, the message and
+/// the share.
 pub const AT_GROUP: usize = 1;
 pub const AT_STAGE: usize = 4;
 pub const AT_LENGTH: usize = 5;
 pub const AT_HELD: usize = 7;
-pub const AT_ROOT: usize = 9;
+pub const AT_SESSION: usize = 9;
+pub const AT_ROOT: usize = AT_SESSION + 4;
 pub const AT_MESSAGE: usize = AT_ROOT + HASH;
 pub const AT_SHARE: usize = AT_MESSAGE + MAX_MESSAGE;
 
@@ -34,8 +36,10 @@ fn refused(cause: u32, needed: usize) -> Answer {
 pub fn answer(call: &Call, lent: &mut Lent) -> Answer {
     let Lent { state, root, out } = lent;
     match call {
-        Call::Open(group, message) => open(*group, message, state, root),
-        Call::OpenBySender(group, sender, bytes) => open_by_sender(*group, *sender, bytes, lent),
+        Call::Open(session, group, message) => open(*session, *group, message, state, root),
+        Call::OpenBySender(session, group, sender, bytes) => {
+            open_by_sender(*session, *group, *sender, bytes, lent)
+        }
         Call::AgreeRoot(root) => step(state, |s| s.agree_root(root), usize::from),
         Call::AgreeBit(bit) => {
             // A number that is no byte is no bit either.
@@ -54,13 +58,16 @@ pub fn answer(call: &Call, lent: &mut Lent) -> Answer {
         }),
         Call::Stage => told(state, |s| accepted(stage_number(s.stage).into())),
         Call::Own => told(state, |s| accepted(s.own as usize)),
+        Call::Session => told(state, |s| accepted(s.session as usize)),
         Call::ReadPacket(n, packet) => read(*n, packet),
         Call::ReadMessage(packet) => read_message(packet),
-        Call::CheckPath(place, share, path, root) => check(*place, share, path, root),
+        Call::CheckPath(session, place, share, path, root) => {
+            check(*session, *place, share, path, root)
+        }
         Call::Shares((n, t), message) => coded(encode(*n, *t, message, out)),
         Call::Rebuild((n, t), entries) => coded(rebuild(*n, *t, entries, out)),
-        Call::RebuildWithRoot((n, t), root, entries) => {
-            coded(rebuild_with_root(*n, *t, root, entries, out))
+        Call::RebuildWithRoot(session, (n, t), root, entries) => {
+            coded(rebuild_with_root(*session, *n, *t, root, entries, out))
         }
         Call::Hash(message) => hash(message, out),
     }
@@ -84,7 +91,9 @@ pub fn decoded(bytes: &[u8]) -> Option<State> {
         5 => (Stage::Ended(Outcome::Message(length)), 0),
         _ => return None,
     };
+    let session = bytes[AT_SESSION..AT_ROOT].try_into().expect("a number");
     Some(State {
+        session: u32::from_be_bytes(session),
         n: bytes[AT_GROUP].into(),
         t: bytes[AT_GROUP + 1].into(),
         own: bytes[AT_GROUP + 2].into(),
@@ -121,6 +130,7 @@ pub fn encoded(state: &State) -> Vec<u8> {
     bytes.push(stage_number(state.stage));
     bytes.extend(two(length));
     bytes.extend(two(state.held));
+    bytes.extend(state.session.to_be_bytes());
     bytes.extend(state.root);
     bytes.extend(state.message);
     bytes.extend(state.share);
@@ -136,12 +146,13 @@ fn short(state: &[u8], root: &[u8]) -> Option<Answer> {
 }
 
 fn open(
+    session: u32,
     (n, t, own): (usize, usize, usize),
     message: &[u8],
     state: &mut [u8],
     out: &mut [u8],
 ) -> Answer {
-    let (opened, root) = State::open(n as u64, t as u64, own as u64, message);
+    let (opened, root) = State::open(session, n as u64, t as u64, own as u64, message);
     let root = match root {
         Ok(root) => root,
         Err(refusal) => return refused(refusal.cause, 0),
@@ -156,6 +167,7 @@ fn open(
 
 /// Causes 1 to 4, then those of the two buffers, then that of the packet's.
 fn open_by_sender(
+    session: u32,
     (n, t, own): (usize, usize, usize),
     sender: usize,
     bytes: &[u8],
@@ -164,8 +176,14 @@ fn open_by_sender(
     let Lent { state, root, out } = lent;
     let group = (n as u64, t as u64);
     let mut packet = out.clone();
-    let (opened, begun) =
-        State::open_by_sender(group, own as u64, sender as u64, bytes, &mut packet);
+    let (opened, begun) = State::open_by_sender(
+        session,
+        group,
+        own as u64,
+        sender as u64,
+        bytes,
+        &mut packet,
+    );
     let lowest = begun.err().filter(|refusal| refusal.cause < 9);
     if let Some(refusal) = lowest {
         return refused(refusal.cause, 0);
@@ -234,7 +252,7 @@ fn read_message(packet: &[u8]) -> Answer {
 }
 
 /// A path that is not whole hashes, or more than any path has, has no right length.
-fn check(place: (usize, usize), share: &[u8], path: &[u8], root: &[u8]) -> Answer {
+fn check(session: u32, place: (usize, usize), share: &[u8], path: &[u8], root: &[u8]) -> Answer {
     let mut hashes = [[0; HASH]; MOST_HASHES];
     let whole = path.len().is_multiple_of(HASH) && path.len() <= HASH * MOST_HASHES;
     let count = if whole {
@@ -245,7 +263,7 @@ fn check(place: (usize, usize), share: &[u8], path: &[u8], root: &[u8]) -> Answe
     for (hash, bytes) in hashes.iter_mut().zip(path.chunks_exact(HASH)) {
         hash.copy_from_slice(bytes);
     }
-    match tree::judge(place, share, &hashes, count, root) {
+    match tree::judge(session, place, share, &hashes, count, root) {
         Ok(yes) => accepted(yes.into()),
         Err(cause) => refused(cause, 0),
     }

@@ -3,8 +3,8 @@
 
 use cipangohu::{
     calls, check_path, entries, hash, lay_out, lay_out_in, read_packet, rebuild, rebuild_with_root,
-    shares, version, Cause, Hash, Outcome, Party, Stage, HASH, MAX_ENTRY, MAX_OUTBOX, MAX_PACKET,
-    MAX_PARTIES, STATE,
+    shares, version, Cause, Hash, Outcome, Packet, Party, Stage, HASH, MAX_ENTRY, MAX_OUTBOX,
+    MAX_PACKET, MAX_PARTIES, STATE,
 };
 use foreign::coder::{self, frame_of, shares_of};
 use foreign::liars::flip;
@@ -12,7 +12,7 @@ use foreign::limits::LONGEST_MESSAGE;
 use foreign::packet::Reading;
 use foreign::party::{Refusal, State};
 use foreign::random::Random;
-use foreign::{commitment, inbox, packet, sha256};
+use foreign::{commitment, inbox, packet, sessions, sha256};
 
 use crate::call::{Answer, Call, Lent};
 use crate::made::{group, message, spoil, Play};
@@ -38,12 +38,20 @@ fn wrote(answer: Result<usize, Cause>, out: &[u8]) -> Result<Vec<u8>, Cause> {
     answer.map(|length| out[..length].to_vec())
 }
 
+/// The library's party and its root.
+fn opened(play: &Play) -> (Party, Hash) {
+    let (n, t, own) = play.group;
+    let opened = Party::open(play.session, n, t, own, &play.message);
+    opened.expect("a lawful opening")
+}
+
 /// The four steps on the library's party and on the foreign state, and a second reader; tells
 /// whether it ended with a message.
 fn steps(play: &Play, random: &mut Random) -> bool {
+    let (mut party, root) = opened(play);
     let (n, t, own) = play.group;
-    let (mut party, root) = Party::open(n, t, own, &play.message).expect("a lawful opening");
-    let (state, expected) = State::open(n as u64, t as u64, own as u64, &play.message);
+    let (state, expected) =
+        State::open(play.session, n as u64, t as u64, own as u64, &play.message);
     assert_eq!(Ok(root), expected);
     assert_eq!((party.own(), party.stage()), (own, Stage::AwaitsRoot));
     let (state, happy) = state.agree_root(&play.scene.agreed.root);
@@ -70,6 +78,7 @@ fn steps(play: &Play, random: &mut Random) -> bool {
     }
     assert_eq!(party.result(), expected.ok());
     assert_eq!(party.state()[..], encoded(&state));
+    assert_eq!(party.session(), play.session);
     assert_eq!(Party::from_state(party.state()).as_ref(), Ok(&party));
     party.stage() == Stage::EndedWithMessage
 }
@@ -121,9 +130,7 @@ fn any_state_is_judged() {
     let mut accepted = 0;
     for _ in 0..times(3_000) {
         let play = Play::new(&mut random);
-        let (n, t, own) = play.group;
-        let (party, _) = Party::open(n, t, own, &play.message).expect("a lawful opening");
-        let mut state = party.state().to_vec();
+        let mut state = opened(&play).0.state().to_vec();
         (0..3).for_each(|_| spoil(&mut state, &play, &mut random));
         state.resize(STATE, 0);
         let call = typed(some_step(&play, state[AT_STAGE], &mut random));
@@ -151,7 +158,7 @@ fn any_state_is_judged() {
 }
 
 /// Reads a packet on both sides and checks its path on the way.
-fn reads(n: usize, bytes: &[u8], root: &[u8; 32]) {
+fn reads(session: u32, n: usize, bytes: &[u8], root: &[u8; 32]) {
     let expected = match packet::read(n, bytes) {
         Reading::Refused(number) => Err(cause(number, 0)),
         Reading::Silence => Ok(None),
@@ -163,8 +170,13 @@ fn reads(n: usize, bytes: &[u8], root: &[u8; 32]) {
     };
     let found = read_packet(n, bytes);
     if let Ok(Some(packet)) = found {
-        let passes = check_path(n, packet.number, packet.share, packet.path, root);
-        let standing = packet::classify(n, packet.number, *root, bytes);
+        let Packet {
+            number,
+            share,
+            path,
+        } = packet;
+        let passes = check_path(session, n, number, share, path, root);
+        let standing = packet::classify(session, n, number, *root, bytes);
         let valid = matches!(standing, Ok(packet::Standing::Valid(_)));
         assert_eq!(passes, Ok(valid));
     }
@@ -179,7 +191,7 @@ fn packets_read() {
         let play = Play::new(&mut random);
         let inbox = play.inbox(random.below(2), &mut random);
         for bytes in entries(&inbox).into_iter().flatten() {
-            reads(play.group.0, bytes, &play.scene.agreed.root);
+            reads(play.session, play.group.0, bytes, &play.scene.agreed.root);
         }
     }
 }
@@ -198,7 +210,7 @@ fn joined(call: impl FnOnce(&mut [u8]) -> coder::Answer) -> Result<Vec<u8>, Caus
 fn shares_made_and_joined() {
     let (mut random, mut other_roots) = (Random::new(9), 0);
     for _ in 0..times(600) {
-        let (n, t) = group(&mut random);
+        let (session, (n, t)) = (sessions::some(&mut random), group(&mut random));
         let message = message(&mut random);
         let mut made = shares(n, t, &message).expect("a lawful group");
         assert_eq!(made, shares_of(n, n - t, &frame_of(n - t, &message)));
@@ -215,9 +227,10 @@ fn shares_made_and_joined() {
         let entries = lay_out(&made);
         let expected = joined(|out| coder::rebuild(n, t, &entries, out));
         assert_eq!(rebuild(n, t, &made), expected);
-        let root = commitment::root(n, t, &message);
-        let expected = joined(|out| commitment::rebuild_with_root(n, t, &root, &entries, out));
-        assert_eq!(rebuild_with_root(n, t, &root, &made), expected);
+        let root = commitment::root(session, n, t, &message);
+        let expected =
+            joined(|out| commitment::rebuild_with_root(session, n, t, &root, &entries, out));
+        assert_eq!(rebuild_with_root(session, n, t, &root, &made), expected);
         other_roots += usize::from(expected == Err(Cause::OtherRoot));
     }
     println!("shares: {other_roots} messages had another root");
@@ -252,7 +265,7 @@ fn the_archive_is_this_version() {
 
 #[test]
 fn a_party_is_shown_in_short() {
-    let (party, _) = Party::open(3, 1, 2, b"AB").expect("a lawful opening");
+    let (party, _) = Party::open(7, 3, 1, 2, b"AB").expect("a lawful opening");
     let shown = format!("{party:?}");
-    assert_eq!(shown, "Party { own: 2, stage: AwaitsRoot, .. }");
+    assert_eq!(shown, "Party { session: 7, own: 2, stage: AwaitsRoot, .. }");
 }

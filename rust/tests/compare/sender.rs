@@ -7,6 +7,7 @@ use cipangohu::{
 use foreign::liars::{flip, Sharing};
 use foreign::message_packet::{self, Reading};
 use foreign::random::Random;
+use foreign::sessions;
 
 use crate::call::{Call, Lent};
 use crate::made::{dirt, group, message, odd_group, put, room, ODD};
@@ -34,7 +35,7 @@ fn came(random: &mut Random) -> Vec<u8> {
             let over = 1 + random.below(3);
             packet = message_packet::write(&random.bytes(MAX_MESSAGE + over));
         }
-        8 => packet = Sharing::of(3, 1, &message).packet(1),
+        8 => packet = Sharing::of(0, 3, 1, &message).packet(1),
         9 => {
             let length = random.pick(&[3, 40, MAX_MESSAGE_PACKET, MAX_ENTRY + 3]);
             packet = random.bytes(length);
@@ -78,7 +79,7 @@ fn openings_by_a_sender() {
     let (mut random, mut tally) = (Random::new(14), Tally::default());
     let (mut sent, mut received) = (0, 0);
     for _ in 0..times(8_000) {
-        let (group, sender) = numbers(&mut random);
+        let (session, (group, sender)) = (sessions::some(&mut random), numbers(&mut random));
         let bytes = match group.2 == sender {
             true => own_message(&mut random),
             false => came(&mut random),
@@ -87,7 +88,7 @@ fn openings_by_a_sender() {
             .map(|needed| room(needed, &mut random))
             .map(|length| dirt(length, &mut random));
         let mut lent = Lent { state, root, out };
-        let call = Call::OpenBySender(group, sender, bytes.clone());
+        let call = Call::OpenBySender(session, group, sender, bytes.clone());
         let answer = compare(&call, &mut lent, &mut tally);
         if answer.cause != 0 {
             continue;
@@ -98,7 +99,7 @@ fn openings_by_a_sender() {
             _ => Vec::new(),
         };
         let (mut state, mut root) = ([0; STATE], [0; HASH]);
-        let ordinary = calls::open(group, &message, &mut state, &mut root);
+        let ordinary = calls::open(session, group, &message, &mut state, &mut root);
         assert_eq!(ordinary.cause, 0);
         assert!(lent.state[..STATE] == state && lent.root[..HASH] == root);
         sent += usize::from(answer.value > 0);
@@ -132,30 +133,31 @@ fn packets_of_a_sender() {
 type Opened = Result<(Party, [u8; HASH]), Cause>;
 
 /// The opening from a packet is the ordinary one with what is read in it.
-fn receives((n, t, own): (usize, usize, usize), sender: usize, packet: &[u8]) {
+fn receives(session: u32, (n, t, own): (usize, usize, usize), sender: usize, packet: &[u8]) {
     let read = read_message(packet).ok().flatten().unwrap_or_default();
-    let ordinary: Opened = Party::open(n, t, own, read);
+    let ordinary: Opened = Party::open(session, n, t, own, read);
     let lawful = sender != own && (1..=n).contains(&sender);
     let expected = ordinary.and_then(|opened| lawful.then_some(opened).ok_or(Cause::Number));
-    assert_eq!(Party::open_from_sender(n, t, own, sender, packet), expected);
+    let opened = Party::open_from_sender(session, n, t, own, sender, packet);
+    assert_eq!(opened, expected);
 }
 
 /// A sender's packet opens every other party with its message.
-fn sends((n, t, own): (usize, usize, usize), message: &[u8]) -> Result<usize, Cause> {
+fn sends(session: u32, (n, t, own): (usize, usize, usize), message: &[u8]) -> Result<usize, Cause> {
     let mut out = [0; MAX_MESSAGE_PACKET];
-    let opened = Party::open_as_sender(n, t, own, message, &mut out);
-    let ordinary: Opened = Party::open(n, t, own, message);
+    let opened = Party::open_as_sender(session, n, t, own, message, &mut out);
+    let ordinary: Opened = Party::open(session, n, t, own, message);
     let length = opened.as_ref().map_or(0, |it| it.2);
     assert_eq!(opened.map(|(party, root, _)| (party, root)), ordinary);
     let (_, root) = ordinary?;
     assert_eq!(length, if n > 1 { 3 + message.len() } else { 0 });
     if let Some(short) = length.checked_sub(1) {
-        let refused = Party::open_as_sender(n, t, own, message, &mut out[..short]);
+        let refused = Party::open_as_sender(session, n, t, own, message, &mut out[..short]);
         assert_eq!(refused.err(), Some(Cause::Room { needed: length }));
     }
     for other in (1..=n).filter(|other| *other != own) {
-        let (_, heard) = Party::open_from_sender(n, t, other, own, &out[..length])?;
-        assert_eq!(heard, root);
+        let (party, heard) = Party::open_from_sender(session, n, t, other, own, &out[..length])?;
+        assert_eq!((party.session(), heard), (session, root));
     }
     Ok(length)
 }
@@ -164,9 +166,9 @@ fn sends((n, t, own): (usize, usize, usize), message: &[u8]) -> Result<usize, Ca
 fn safe_openings_by_a_sender() {
     let (mut random, mut lawful) = (Random::new(16), 0);
     for _ in 0..times(1_500) {
-        let (group, sender) = numbers(&mut random);
-        receives(group, sender, &came(&mut random));
-        lawful += usize::from(sends(group, &own_message(&mut random)).is_ok());
+        let (session, (group, sender)) = (sessions::some(&mut random), numbers(&mut random));
+        receives(session, group, sender, &came(&mut random));
+        lawful += usize::from(sends(session, group, &own_message(&mut random)).is_ok());
     }
     println!("by a sender: {lawful} senders");
     assert!(lawful >= 100);

@@ -55,7 +55,7 @@ impl Reader {
         }
     }
 
-    fn packet(&self, line: &mut Line) -> Result<Packet, Error> {
+    fn packet(&mut self, line: &mut Line) -> Result<Packet, Error> {
         if line.accept("nothing") {
             return Ok(Packet::Nothing);
         }
@@ -78,7 +78,7 @@ impl Reader {
         line.expect("of")?;
         Ok(Packet::Share {
             number,
-            book: self.reference(line)?,
+            source: self.source(line)?,
             changes: self.changes(line)?,
         })
     }
@@ -91,7 +91,7 @@ impl Reader {
         Ok(name)
     }
 
-    fn changes(&self, line: &mut Line) -> Result<Vec<Change>, Error> {
+    fn changes(&mut self, line: &mut Line) -> Result<Vec<Change>, Error> {
         let mut changes = Vec::new();
         while line.accept_mark(',') {
             changes.push(self.change(line)?);
@@ -99,7 +99,7 @@ impl Reader {
         Ok(changes)
     }
 
-    fn change(&self, line: &mut Line) -> Result<Change, Error> {
+    fn change(&mut self, line: &mut Line) -> Result<Change, Error> {
         let known = |word: &str| {
             let mut all = [
                 "map", "number", "length", "path", "share", "book", "followed", "cut",
@@ -117,8 +117,8 @@ impl Reader {
             "path" if line.word() != Some("byte") => {
                 let number = line.number("'byte' or a share number", 1..=MOST_PARTIES)?;
                 line.expect("of")?;
-                let book = self.reference(line)?;
-                Ok(Change::Path { number, book })
+                let source = self.source(line)?;
+                Ok(Change::Path { number, source })
             }
             "path" => damage(line, Field::Path),
             "share" => damage(line, Field::Share),

@@ -19,14 +19,14 @@ Entry d = d .before .before .before .before .before
 
 judged : (d : tie.After-check) → let a = Entry d .args in
     checked (d .check .result)
-    ≡ checkOf sha256 (a .n) (a .j) (a .share .now) (hashes (length (a .path .now) / 32) (a .path .now)) (length (a .path .now) / 32)
+    ≡ checkOf sha256 (a .session) (a .n) (a .j) (a .share .now) (hashes (length (a .path .now) / 32) (a .path .now)) (length (a .path .now) / 32)
     (a .root .now)
 judged d =
     let a = Entry d .args in
     d .check .ensures
-    ∙ ap (λ (p : List (List ℕ)). checkOf sha256 (a .n) (a .j) (a .share .now) p (length (a .path .now) / 32) (a .root .now))
+    ∙ ap (λ (p : List (List ℕ)). checkOf sha256 (a .session) (a .n) (a .j) (a .share .now) p (length (a .path .now) / 32) (a .root .now))
     (d .before .path-at .ensures)
-    ∙ path-checked (a .n) (a .j) (a .share .now) (a .path .now) (a .root .now)
+    ∙ path-checked (a .session) (a .n) (a .j) (a .share .now) (a .path .now) (a .root .now)
 
 path-at-requires : tie.Need-path-at-requires
 path-at-requires c κs = search needs
@@ -46,7 +46,7 @@ returns c = let i = c .before .before in
     let a = Entry d .args in
     c .check-answer .ensures
     ∙ ap₂ checkAnswer (c .before .denied .ensures .0 ∙ ap (λ (r : Check). r .cause) (judged d)) (c .before .denied .ensures .1)
-    ∙ sym (check-uneven (a .n) (a .j) (a .share .now) (a .path .now) (a .root .now) (i .if1 .taken))
+    ∙ sym (check-uneven (a .session) (a .n) (a .j) (a .share .now) (a .path .now) (a .root .now) (i .if1 .taken))
 
 check-answer-requires-2 : tie.Need-check-answer-requires-2
 check-answer-requires-2 c κs = search needs
@@ -55,7 +55,7 @@ returns-2 : tie.Need-returns-2
 returns-2 c = let d = c .before .before in
     let a = Entry d .args in
     c .check-answer2 .ensures ∙ ap (λ (r : Check). checkAnswer (r .cause) (r .passed)) (judged d)
-    ∙ sym (check-whole (a .n) (a .j) (a .share .now) (a .path .now) (a .root .now) (c .before .if1 .left))
+    ∙ sym (check-whole (a .session) (a .n) (a .j) (a .share .now) (a .path .now) (a .root .now) (c .before .if1 .left))
 
 pub cipangohu-check-path-spec : {M : Type 1} → statement M
 cipangohu-check-path-spec =

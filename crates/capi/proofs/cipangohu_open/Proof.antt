@@ -16,10 +16,10 @@ use Rattle.capi.proofs.cipangohu_open.Tie as tie
 abbrev Entry : tie.After-open → tie.Start
 Entry d = d .before .before .before .before
 
-opened : (d : tie.After-open) → let a = Entry d .args in d .«open» .result ≡ openOf sha256 (a .n) (a .t) (a .own) (a .message .now)
+opened : (d : tie.After-open) → let a = Entry d .args in d .«open» .result ≡ openOf sha256 (a .session) (a .n) (a .t) (a .own) (a .message .now)
 opened d = d .«open» .ensures
 
-fine : (e : tie.Else1) → let a = Entry (e .before .before .before) .args in openOf sha256 (a .n) (a .t) (a .own) (a .message .now) .cause ≡ 0
+fine : (e : tie.Else1) → let a = Entry (e .before .before .before) .args in openOf sha256 (a .session) (a .n) (a .t) (a .own) (a .message .now) .cause ≡ 0
 fine e = sym (ap (λ (r : Opened). r .cause) (opened (e .before .before .before))) ∙ e .if1 .left
 
 open-requires : tie.Need-open-requires
@@ -35,7 +35,7 @@ returns c = let i = c .before in
     let s = a .state .now in
     let z = a .root .now in
     ap (λ (p : ℕ). replies p s z) (c .pack .ensures ∙ ap (λ (r : Opened). packed (r .cause) 0) (opened d))
-    ∙ sym (open-refused sha256 (a .n) (a .t) (a .own) (a .message .now) s z (λ q. i .if1 .taken (ap (λ (r : Opened). r .cause) (opened d) ∙ q)))
+    ∙ sym (open-refused sha256 (a .session) (a .n) (a .t) (a .own) (a .message .now) s z (λ q. i .if1 .taken (ap (λ (r : Opened). r .cause) (opened d) ∙ q)))
 
 pack-requires-2 : tie.Need-pack-requires-2
 pack-requires-2 c κs = search needs
@@ -48,7 +48,7 @@ returns-2 c = let i = c .before in
     let s = a .state .now in
     let z = a .root .now in
     ap (λ (p : ℕ). replies p s z) (c .pack2 .ensures)
-    ∙ sym (open-state sha256 (a .n) (a .t) (a .own) (a .message .now) s z (fine e) (i .if2 .taken))
+    ∙ sym (open-state sha256 (a .session) (a .n) (a .t) (a .own) (a .message .now) s z (fine e) (i .if2 .taken))
 
 pack-requires-3 : tie.Need-pack-requires-3
 pack-requires-3 c κs = search needs
@@ -62,7 +62,7 @@ returns-3 c = let i = c .before in
     let s = a .state .now in
     let z = a .root .now in
     ap (λ (p : ℕ). replies p s z) (c .pack3 .ensures)
-    ∙ sym (open-root sha256 (a .n) (a .t) (a .own) (a .message .now) s z (fine e) (j .if2 .left) (i .if3 .taken))
+    ∙ sym (open-root sha256 (a .session) (a .n) (a .t) (a .own) (a .message .now) s z (fine e) (j .if2 .left) (i .if3 .taken))
 
 write-requires : tie.Need-write-requires
 write-requires c κs = search needs
@@ -92,11 +92,11 @@ returns-4 c = let p = c .before .before .before in
     let a = Entry d .args in
     let s = a .state .now in
     let z = a .root .now in
-    let r = openOf sha256 (a .n) (a .t) (a .own) (a .message .now) in
+    let r = openOf sha256 (a .session) (a .n) (a .t) (a .own) (a .message .now) in
     replies-are _ (packed 0 32) _ (written (stateBytes (r .state)) s .buffer) _ (written (r .root) z .buffer) (c .pack4 .ensures)
     (ap (λ (g : Given). g .buffer) (w .write .ensures) ∙ ap (λ (y : Opened). written (stateBytes (y .state)) s .buffer) (opened d))
     (ap (λ (g : Given). g .buffer) (p .give .ensures) ∙ ap (λ (y : Opened). written (y .root) z .buffer) (opened d))
-    ∙ sym (open-done sha256 (a .n) (a .t) (a .own) (a .message .now) s z (fine e) (j .if2 .left) (i .if3 .left))
+    ∙ sym (open-done sha256 (a .session) (a .n) (a .t) (a .own) (a .message .now) s z (fine e) (j .if2 .left) (i .if3 .left))
 
 pub cipangohu-open-spec : {M : Type 1} → statement M
 cipangohu-open-spec =

@@ -2,6 +2,7 @@
 use mathlib.Core.Path.{_≡_, refl, sym, ap, _∙_}
 use Prim.Native.Nat.{ℕ, _≤_}
 use native.Mathlib.Omega.{arith}
+use lib.ListN.{length}
 use Rattle.buffer.specs.Given.{Given, written}
 use Rattle.sha256.specs.Sha256.{sha256}
 use Rattle.packet.specs.Message.{maxMessagePacket}
@@ -26,15 +27,15 @@ abbrev First : tie.After-open-by-sender → tie.Else1
 First o = o .before .before .before .before
 
 abbrev r : tie.After-open-by-sender → Begun
-r o = let a = Entry (First o) .args in openBySenderOf sha256 (a .n) (a .t) (a .own) (a .sender) (a .bytes .now) (a .out .now)
+r o = let a = Entry (First o) .args in openBySenderOf sha256 (a .session) (a .n) (a .t) (a .own) (a .sender) (a .bytes .now) (a .out .now)
 
-gives : (o : tie.After-open-by-sender) → begun (o .open-by-sender .result) (o .open-by-sender .last .1 .1 .1 .1 .1 .0) ≡ r o
+gives : (o : tie.After-open-by-sender) → begun (o .open-by-sender .result) (o .open-by-sender .last .1 .1 .1 .1 .1 .1 .0) ≡ r o
 gives o = o .open-by-sender .ensures
 
 small : (o : tie.After-open-by-sender) → o .open-by-sender .result .len ≤ maxMessagePacket
 small o =
     let a = Entry (First o) .args in
-    omega (arith, ap (λ (b : Begun). b .value) (gives o), value-fits (a .n) (a .t) (a .own) (a .sender) (a .bytes .now) sha256 (a .out .now))
+    omega (arith, ap (λ (b : Begun). b .value) (gives o), value-fits (a .n) (a .t) (a .own) (a .sender) (a .bytes .now) sha256 (a .session) (a .out .now))
 
 sender-cause-requires : tie.Need-sender-cause-requires
 sender-cause-requires c κs = search needs
@@ -49,7 +50,7 @@ returns c =
     let a = q .before .before .before .before .before .args in
     let k = q .sender-cause .ensures in
     ap (λ (p : ℕ). opens p (a .state .now) (a .root .now) (a .out .now)) (c .pack .ensures ∙ ap (λ (j : ℕ). packed j 0) k)
-    ∙ sym (sender-refused sha256 (a .n) (a .t) (a .own) (a .sender) (a .bytes .now) (a .state .now) (a .root .now) (a .out .now) (λ h. i .if1 .taken (k ∙ h)))
+    ∙ sym (sender-refused sha256 (a .session) (a .n) (a .t) (a .own) (a .sender) (a .bytes .now) (a .state .now) (a .root .now) (a .out .now) (λ h. i .if1 .taken (k ∙ h)))
 
 pack-requires-2 : tie.Need-pack-requires-2
 pack-requires-2 c κs = search needs
@@ -60,7 +61,7 @@ returns-2 c =
     let e = i .before in
     let a = Entry e .args in
     ap (λ (p : ℕ). opens p (a .state .now) (a .root .now) (a .out .now)) (c .pack2 .ensures)
-    ∙ sym (sender-state sha256 (a .n) (a .t) (a .own) (a .sender) (a .bytes .now) (a .state .now) (a .root .now) (a .out .now) (fine e) (i .if2 .taken))
+    ∙ sym (sender-state sha256 (a .session) (a .n) (a .t) (a .own) (a .sender) (a .bytes .now) (a .state .now) (a .root .now) (a .out .now) (fine e) (i .if2 .taken))
 
 pack-requires-3 : tie.Need-pack-requires-3
 pack-requires-3 c κs = search needs
@@ -72,8 +73,12 @@ returns-3 c =
     let e = j .before in
     let a = Entry e .args in
     ap (λ (p : ℕ). opens p (a .state .now) (a .root .now) (a .out .now)) (c .pack3 .ensures)
-    ∙ sym (sender-root sha256 (a .n) (a .t) (a .own) (a .sender) (a .bytes .now) (a .state .now) (a .root .now) (a .out .now) (fine e) (j .if2 .left)
+    ∙ sym (sender-root sha256 (a .session) (a .n) (a .t) (a .own) (a .sender) (a .bytes .now) (a .state .now) (a .root .now) (a .out .now) (fine e) (j .if2 .left)
     (i .if3 .taken))
+
+-- the root that it gives has as many elements as its type says
+root-wide : (o : tie.After-open-by-sender) → length (o .open-by-sender .result .opened .root) ≡ 32
+root-wide o = search needs
 
 open-by-sender-requires : tie.Need-open-by-sender-requires
 open-by-sender-requires c κs = search needs
@@ -96,15 +101,15 @@ returns-4 c =
     opens-are _ (packed (r o .opened .cause) (r o .value)) _ s _ z _ (a .out .now)
     (c .pack4 .ensures ∙ ap (λ (b : Begun). packed (b .opened .cause) (b .value)) (gives o)) refl refl
     (ap (λ (b : Begun). b .buffer) (gives o)
-    ∙ sender-kept sha256 (a .n) (a .t) (a .own) (a .sender) (a .bytes .now) s z (a .out .now) (fine e) some)
-    ∙ sym (sender-short sha256 (a .n) (a .t) (a .own) (a .sender) (a .bytes .now) s z (a .out .now) (fine e) (o .before .before .before .if2 .left)
+    ∙ sender-kept sha256 (a .session) (a .n) (a .t) (a .own) (a .sender) (a .bytes .now) s z (a .out .now) (fine e) some)
+    ∙ sym (sender-short sha256 (a .session) (a .n) (a .t) (a .own) (a .sender) (a .bytes .now) s z (a .out .now) (fine e) (o .before .before .before .if2 .left)
     (o .before .before .if3 .left) some)
 
 write-requires : tie.Need-write-requires
 write-requires c κs = search needs
 
 slice-aggregate-give : tie.Need-slice-aggregate-give
-slice-aggregate-give c = search needs
+slice-aggregate-give c = sym (root-wide (c .before .before .before .before .before .before .before .before .before .before .before))
 
 give-requires : tie.Need-give-requires
 give-requires c κs = search needs
@@ -138,7 +143,7 @@ returns-5 c =
     (ap (λ (g : Given). g .buffer) (w .write .ensures) ∙ ap (λ (b : Begun). written (stateBytes (b .opened .state)) s .buffer) (gives o))
     (ap (λ (g : Given). g .buffer) (p .give .ensures) ∙ ap (λ (b : Begun). written (b .opened .root) z .buffer) (gives o))
     (ap (λ (b : Begun). b .buffer) (gives o))
-    ∙ sym (sender-done sha256 (a .n) (a .t) (a .own) (a .sender) (a .bytes .now) s z (a .out .now) (fine e) (o .before .before .before .if2 .left)
+    ∙ sym (sender-done sha256 (a .session) (a .n) (a .t) (a .own) (a .sender) (a .bytes .now) s z (a .out .now) (fine e) (o .before .before .before .if2 .left)
     (o .before .before .if3 .left) none)
 
 pub cipangohu-open-by-sender-spec : {M : Type 1} → statement M

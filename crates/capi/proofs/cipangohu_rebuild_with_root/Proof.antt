@@ -14,7 +14,7 @@ rebuild-with-root-requires c κs = search needs
 
 -- by what was answered, whatever was handed in
 number-of-requires : tie.Need-number-of-requires
-number-of-requires c κs = subst (λ (g : Given). g .value < 2 ^ 32) (sym (c .before .before .rebuild-with-root .ensures)) (with-root-small sha256 _ _ _ _ _)
+number-of-requires c κs = subst (λ (g : Given). g .value < 2 ^ 32) (sym (c .before .before .rebuild-with-root .ensures)) (with-root-small sha256 _ _ _ _ _ _)
 
 same-length : tie.Need-same-length
 same-length c = search needs
@@ -22,7 +22,7 @@ same-length c = search needs
 returns : tie.Need-returns
 unfolding rebuildWithRootCall
 returns c = let d = c .before .before .before in
-    c .number-of .ensures (d .rebuild-with-root .last .1 .1 .1 .1 .0) ∙ ap filled (d .rebuild-with-root .ensures)
+    c .number-of .ensures (d .rebuild-with-root .last .1 .1 .1 .1 .1 .0) ∙ ap filled (d .rebuild-with-root .ensures)
 
 pub cipangohu-rebuild-with-root-spec : {M : Type 1} → statement M
 cipangohu-rebuild-with-root-spec =

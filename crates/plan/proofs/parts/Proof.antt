@@ -161,9 +161,7 @@ returns-3 c =
     (denied (fits f) (t .if2 .taken)))
 
 session-of-requires : tie.Need-session-of-requires
-session-of-requires c κs =
-    let z = Sized (Held (c .before .before .before .before .before)) in
-    (options-is z, omega (arith, Entry z .pre .header .room))
+session-of-requires c κs = options-is (Sized (Held (c .before .before .before .before .before)))
 
 returns-4 : tie.Need-returns-4
 returns-4 c =

@@ -7,7 +7,7 @@ use lib.Seq.{length-take-le}
 use Rattle.sha256.specs.Sha256.{sha256}
 use Rattle.packet.specs.Message.{maxMessagePacket}
 use Rattle.party.specs.Sender.{Begun, openBySenderOf}
-use Rattle.plan.specs.Layout.{nIn, tIn}
+use Rattle.plan.specs.Layout.{sessionOf, nIn, tIn}
 use Rattle.session.specs.Session.{openedBySender}
 use Rattle.session.proofs.Rule.{Known, known, sender-number}
 use borrow.Author.Needs.{needs}
@@ -51,8 +51,11 @@ returns c =
     let k = plan st in
     let room = replicate {A = ℕ} maxMessagePacket 0 in
     ap (λ (r : Begun). r .opened) (o .open-by-sender .ensures)
-    ∙ ap₂ (λ (n t : ℕ). openBySenderOf sha256 n t (a .q) (a .parts .sender) (take (b .handed .result) (b .handed .last .1 .1 .1 .0)) room .opened) (k .n-is) (k .t-is)
-    ∙ ap₂ (λ (q : ℕ) (l : List ℕ). openBySenderOf sha256 (nIn (S st)) (tIn (S st)) (a .q) q l room .opened)
+    ∙ ap (λ (i : ℕ). openBySenderOf sha256 i (a .parts .n) (a .parts .t) (a .q) (a .parts .sender) (take (b .handed .result) (b .handed .last .1 .1 .1 .0)) room .opened)
+    (k .session-is)
+    ∙ ap₂ (λ (n t : ℕ). openBySenderOf sha256 (sessionOf (S st)) n t (a .q) (a .parts .sender) (take (b .handed .result) (b .handed .last .1 .1 .1 .0)) room .opened)
+    (k .n-is) (k .t-is)
+    ∙ ap₂ (λ (q : ℕ) (l : List ℕ). openBySenderOf sha256 (sessionOf (S st)) (nIn (S st)) (tIn (S st)) (a .q) q l room .opened)
     (sender-number (S st) (a .parts) k (st .pre .1)) (b .handed .ensures .1)
 
 pub opened-by-sender-spec : {M : Type 1} → statement M

@@ -11,7 +11,7 @@ use Rattle.buffer.proofs.Splice.{put-fits, take-spliced}
 use Rattle.packet.specs.Message.{maxMessagePacket}
 use Rattle.party.specs.Sender.{Begun, begun, openBySenderOf}
 use Rattle.party.proofs.Sender.{value-fits}
-use Rattle.plan.specs.Layout.{nIn, tIn, senderIn}
+use Rattle.plan.specs.Layout.{sessionOf, nIn, tIn, senderIn}
 use Rattle.session.specs.Session.{bookOf, openedBySender, senderWrote}
 use Rattle.session.proofs.Rule.{Known, known, sender-number}
 use borrow.Author.Needs.{needs}
@@ -39,7 +39,7 @@ abbrev Zeros : List ℕ
 Zeros = replicate maxMessagePacket 0
 
 gives : (o : tie.After-open-by-sender) → let st = Entry o in let q = senderIn (S st) in
-    begun (o .open-by-sender .result) (o .open-by-sender .last .1 .1 .1 .1 .1 .0) ≡ openBySenderOf sha256 (nIn (S st)) (tIn (S st)) q q (bookOf (S st) q) Zeros
+    begun (o .open-by-sender .result) (o .open-by-sender .last .1 .1 .1 .1 .1 .1 .0) ≡ openBySenderOf sha256 (sessionOf (S st)) (nIn (S st)) (tIn (S st)) q q (bookOf (S st) q) Zeros
 gives o =
     let b = Booked o in
     let st = Entry o in
@@ -47,13 +47,14 @@ gives o =
     let k = plan st in
     let m = take (b .book .result) (b .book .last .1 .1 .1 .0) in
     o .open-by-sender .ensures
-    ∙ ap₂ (λ (n t : ℕ). openBySenderOf sha256 n t (a .parts .sender) (a .parts .sender) m Zeros) (k .n-is) (k .t-is)
-    ∙ ap (λ (l : List ℕ). openBySenderOf sha256 (nIn (S st)) (tIn (S st)) (a .parts .sender) (a .parts .sender) l Zeros) (b .book .ensures .1)
-    ∙ ap (λ (q : ℕ). openBySenderOf sha256 (nIn (S st)) (tIn (S st)) q q (bookOf (S st) q) Zeros) (sender-number (S st) (a .parts) k (st .pre .1))
+    ∙ ap (λ (i : ℕ). openBySenderOf sha256 i (a .parts .n) (a .parts .t) (a .parts .sender) (a .parts .sender) m Zeros) (k .session-is)
+    ∙ ap₂ (λ (n t : ℕ). openBySenderOf sha256 (sessionOf (S st)) n t (a .parts .sender) (a .parts .sender) m Zeros) (k .n-is) (k .t-is)
+    ∙ ap (λ (l : List ℕ). openBySenderOf sha256 (sessionOf (S st)) (nIn (S st)) (tIn (S st)) (a .parts .sender) (a .parts .sender) l Zeros) (b .book .ensures .1)
+    ∙ ap (λ (q : ℕ). openBySenderOf sha256 (sessionOf (S st)) (nIn (S st)) (tIn (S st)) q q (bookOf (S st) q) Zeros) (sender-number (S st) (a .parts) k (st .pre .1))
 
 wrote : (o : tie.After-open-by-sender)
     → (o .open-by-sender .result .len ≤ maxMessagePacket)
-    × (take (o .open-by-sender .result .len) (o .open-by-sender .last .1 .1 .1 .1 .1 .0) ≡ senderWrote sha256 (S (Entry o)))
+    × (take (o .open-by-sender .result .len) (o .open-by-sender .last .1 .1 .1 .1 .1 .1 .0) ≡ senderWrote sha256 (S (Entry o)))
 unfolding senderWrote openedBySender
 wrote o =
     let st = Entry o in
@@ -61,13 +62,13 @@ wrote o =
       omega (
         arith,
         ap (λ (r : Begun). r .value) (gives o),
-        value-fits (nIn (S st)) (tIn (S st)) q q (bookOf (S st) q) sha256 Zeros,
+        value-fits (nIn (S st)) (tIn (S st)) q q (bookOf (S st) q) sha256 (sessionOf (S st)) Zeros,
       ),
       ap (λ (r : Begun). take (r .value) (r .buffer)) (gives o),
     )
 
-fits : (o : tie.After-open-by-sender) → o .open-by-sender .result .len ≤ length (o .open-by-sender .last .1 .1 .1 .1 .1 .0)
-fits o = omega (arith, wrote o .0, o .open-by-sender .kept .1 .1 .1 .1 .1 .0, length-replicate {A = ℕ} maxMessagePacket 0)
+fits : (o : tie.After-open-by-sender) → o .open-by-sender .result .len ≤ length (o .open-by-sender .last .1 .1 .1 .1 .1 .1 .0)
+fits o = omega (arith, wrote o .0, o .open-by-sender .kept .1 .1 .1 .1 .1 .1 .0, length-replicate {A = ℕ} maxMessagePacket 0)
 
 slice-aggregate-book : tie.Need-slice-aggregate-book
 slice-aggregate-book c = search needs
@@ -105,7 +106,7 @@ returns c =
     let o = p .before .before .before .before in
     let st = Entry o in
     let l = o .open-by-sender .result .len in
-    let x = take l (o .open-by-sender .last .1 .1 .1 .1 .1 .0) in
+    let x = take l (o .open-by-sender .last .1 .1 .1 .1 .1 .1 .0) in
     let size : length x ≡ l = length-take-le l _ (fits o) in (
       wrote o .0,
       ap₂ take (sym size) (p .put .ensures .1 ∙ put-fits (st .args .out .now) 0 x (omega (arith, size, wrote o .0, st .pre .2)))

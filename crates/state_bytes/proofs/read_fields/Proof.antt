@@ -1,4 +1,8 @@
 -- `state_bytes::read_fields` meets its contract: each field is the one that the bytes say. Assumes nothing.
+use mathlib.Core.Path.{_≡_, sym, ap, _∙_}
+use Prim.Native.Nat.{ℕ, _%_, _^_, _<_}
+use native.Mathlib.Nat.{mod-eq-of-lt}
+use Rattle.state_bytes.specs.Layout.{sessionTold}
 use Rattle.state_bytes.proofs.Reading.{fields-are}
 use borrow.Author.Needs.{needs}
 use Rattle.state_bytes.proofs.read_fields.Statement.{statement}
@@ -52,6 +56,12 @@ share-in-requires c κs = search needs
 size-at-requires-2 : tie.Need-size-at-requires-2
 size-at-requires-2 c κs = search needs
 
+-- a number that four bytes say is below two to the 32
+session : (q : tie.After-number-at) → q .number-at .result ≡ sessionTold (q .before .before .before .before .before .args .bytes .now)
+session q =
+    let small : q .number-at .result < 2 ^ 32 = search needs in
+    sym (mod-eq-of-lt small) ∙ ap (λ (i : ℕ). i % 2 ^ 32) (q .number-at .ensures)
+
 returns : tie.Need-returns
 returns c = let y = c .before in
     let z = y .before in
@@ -66,7 +76,7 @@ returns c = let y = c .before in
     let i = k .before in
     let st = i .before .before .before in
     fields-are (st .args .bytes .now) (i .wide .result) (k .size-at .result) _ _ _ _ _ _ _ _ _ _ (i .wide .ensures .0) (k .size-at .ensures)
-    (q .number-at .ensures) (n .wide2 .ensures .0) (t .wide3 .ensures .0) (o .wide4 .ensures .0) (g .stage-of .ensures) (m .message-in .ensures)
+    (session q) (n .wide2 .ensures .0) (t .wide3 .ensures .0) (o .wide4 .ensures .0) (g .stage-of .ensures) (m .message-in .ensures)
     (l .length-of .ensures) (z .root-in .ensures) (y .share-in .ensures) (c .size-at2 .ensures)
 
 pub read-fields-spec : {M : Type 1} → statement M
