@@ -25,7 +25,7 @@ type Group = (usize, usize);
 const LENGTHS: [usize; 7] = [0, 1, 16, 31, 33, 64, 256 + 32];
 
 /// The cases so far, how often they had each answer, whatever its length, the source of randomness, the
-/// session in which calls are made, and how many there were.
+/// session in which calls are made, and its place in their list.
 struct File {
     out: Vec<Case>,
     answers: BTreeMap<String, usize>,

@@ -120,7 +120,7 @@ impl Call {
     }
 }
 
-/// The cases so far, the source of randomness, and how many sessions there were.
+/// The cases so far, the source of randomness, and the place of the next session in their list.
 struct File {
     out: Vec<Case>,
     random: Random,

@@ -144,7 +144,7 @@ fn valueless(answer: Answer) -> Answer {
 type Tally = BTreeMap<(Kind, Answer), usize>;
 
 /// The cases so far, their calls counted, those on ended states by themselves as well, the source
-/// of randomness, how many sessions there were, and what the reader carries.
+/// of randomness, the place of the next session in their list, and what the reader carries.
 struct File {
     out: Vec<Case>,
     answers: Tally,

@@ -54,7 +54,7 @@ fn right(session: u32, shares: &Shares, j: usize) -> Call {
     }
 }
 
-/// The cases so far, the source of randomness, and how many sessions there were.
+/// The cases so far, the source of randomness, and the place of the next session in their list.
 struct File {
     out: Vec<Case>,
     random: Random,
@@ -191,8 +191,10 @@ fn tree_cases(file: &mut File) {
     file.tree(0, &vec![vec![0]; 3]);
 }
 
-/// For every leaf of the chosen trees, the right call and what differs a little from it.
+/// For every leaf of the chosen trees, the right call and what differs a little from it. The first are
+/// in session 0.
 fn leaf_checks(file: &mut File) {
+    file.sessions = 0;
     for n in CHOSEN {
         let length = 1 + file.random.below(9);
         let shares = file.shares(n, length);

@@ -59,7 +59,9 @@ fn refused(file: &mut File, seats: Seats, bytes: &[u8], cause: u32) {
     }
 }
 
+/// All of them, the first in session 0.
 pub(super) fn openings(file: &mut File) {
+    file.sessions = 0;
     sent(file);
     came(file);
     lied(file);
