@@ -180,6 +180,12 @@ impl Field {
         number(self.argument(name)?)
     }
 
+    /// The sitting number among the arguments, 0 where none is told.
+    pub fn sitting(&self) -> u32 {
+        let number = self.number("sitting").unwrap_or(0);
+        number.try_into().expect("a number in four bytes")
+    }
+
     /// An argument that is bytes.
     pub fn bytes(&self, name: &str) -> Option<Vec<u8>> {
         bytes(self.argument(name)?)
@@ -216,6 +222,13 @@ impl Example {
         number.unwrap_or_else(|_| panic!("line {}: {name} is no number", self.line))
     }
 
+    /// The sitting number that it begins with, if it tells one.
+    pub fn sitting(&self) -> Option<u32> {
+        let first = self.fields.first().filter(|it| it.name == "sitting")?;
+        let number = first.value.parse();
+        Some(number.unwrap_or_else(|_| panic!("line {}: no sitting number", self.line)))
+    }
+
     pub fn bytes(&self, name: &str) -> Vec<u8> {
         let found = bytes(self.value(name));
         found.unwrap_or_else(|| panic!("line {}: {name} are no bytes", self.line))
@@ -235,6 +248,9 @@ mod tests {
         assert_eq!((found[0].kind.as_str(), found[0].line), ("packet", 3));
         assert_eq!(found[0].number("n"), 3);
         assert_eq!(found[0].bytes("packet"), [7, 3, 0xC3]);
+        assert_eq!(found[0].sitting(), None);
+        let numbered = TEXT.replace("n: 3", "sitting: 7\nn: 3");
+        assert_eq!(examples(&numbered).expect("one")[0].sitting(), Some(7));
     }
 
     #[test]
@@ -287,7 +303,12 @@ mod tests {
         };
         assert_eq!((call.number("n"), call.number("own")), (Some(3), Some(2)));
         assert_eq!(call.bytes("book"), Some(vec![0x41, 0x42]));
-        assert_eq!(call.argument("t"), None);
+        assert_eq!((call.argument("t"), call.sitting()), (None, 0));
+        let numbered = Field {
+            value: "sitting 4294967295, n 3".to_string(),
+            ..call
+        };
+        assert_eq!(numbered.sitting(), u32::MAX);
         let runs = "byte 0 01 03\nbyte 4   ff";
         assert_eq!(written_over(&[9; 5], runs), Some(vec![1, 3, 9, 9, 0xFF]));
         assert_eq!(written_over(&[9; 4], runs), None);

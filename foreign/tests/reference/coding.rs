@@ -9,7 +9,7 @@ use foreign::message_packet::{self, Reading};
 use foreign::sha256::{hash, Hash};
 use foreign::tree::{judge, leaf_string, leaves, path_of, root_of};
 
-use crate::{length, Told};
+use crate::{length, sitting, Told};
 
 /// The one byte of two digits.
 fn byte(digits: &str) -> u8 {
@@ -67,6 +67,7 @@ pub fn shares(example: &Example) -> Told {
 /// Rebuilding, with a root if the example has one. The buffer has all room, unless it says how much.
 pub fn rebuilt(example: &Example) -> Told {
     let mut told = Told::default();
+    let session = sitting(example, &mut told);
     let has = |name| example.fields.iter().any(|field| field.name == name);
     let (n, t) = (example.number("n"), example.number("t"));
     let entries = example.bytes("entries");
@@ -83,7 +84,7 @@ pub fn rebuilt(example: &Example) -> Told {
     }
     let mut out = vec![0; room.unwrap_or(LONGEST_MESSAGE)];
     let answer = match root {
-        Some(root) => rebuild_with_root(0, n, t, &root, &entries, &mut out),
+        Some(root) => rebuild_with_root(session, n, t, &root, &entries, &mut out),
         None => coder::rebuild(n, t, &entries, &mut out),
     };
     answered(answer, "book", &out, &mut told);
@@ -141,7 +142,8 @@ pub fn calls(example: &Example) -> Told {
             "shares" => coder::encode(number("n"), number("t"), &bytes("book"), &mut out),
             "rebuild_with_root" => {
                 let (root, entries) = (bytes("root"), bytes("entries"));
-                rebuild_with_root(0, number("n"), number("t"), &root, &entries, &mut out)
+                let (session, n, t) = (call.sitting(), number("n"), number("t"));
+                rebuild_with_root(session, n, t, &root, &entries, &mut out)
             }
             "hash" => hashed(&bytes("string"), &mut out),
             "read_message" => {
@@ -194,12 +196,13 @@ fn named(leaves: &[Hash], path: &[Hash]) -> String {
 
 pub fn tree(example: &Example) -> Told {
     let mut told = Told::default();
+    let session = sitting(example, &mut told);
     let (n, t, book) = handed(example, &mut told);
     let shares = shares_of(n, n - t, &frame_of(n - t, &book));
     for (j, share) in (1..).zip(&shares) {
-        told.bytes(format!("leaf string {j}"), &leaf_string(0, j, share));
+        told.bytes(format!("leaf string {j}"), &leaf_string(session, j, share));
     }
-    let leaves = leaves(0, &shares);
+    let leaves = leaves(session, &shares);
     for (j, leaf) in (1..).zip(&leaves) {
         told.bytes(format!("hash {j}"), leaf);
     }
@@ -232,11 +235,12 @@ pub fn paths(example: &Example) -> Told {
 /// The path check, with the path's bytes.
 pub fn checked(example: &Example) -> Told {
     let mut told = Told::default();
+    let session = sitting(example, &mut told);
     let (n, j) = (example.number("n"), example.number("number"));
     let [share, path, root] = ["share", "path", "root"].map(|name| example.bytes(name));
     told.add("n", n);
     told.add("number", j);
-    told.bytes("share", &share);
+    told.add("share", example.value("share"));
     told.bytes("path", &path);
     told.bytes("root", &root);
     let mut hashes = [[0; 32]; MOST_HASHES];
@@ -244,7 +248,7 @@ pub fn checked(example: &Example) -> Told {
         hash[..bytes.len()].copy_from_slice(bytes);
     }
     let whole = path.len() % 32 == 0;
-    match judge(0, (n, j), &share, &hashes, path.len() / 32, &root) {
+    match judge(session, (n, j), &share, &hashes, path.len() / 32, &root) {
         Ok(passes) if passes && whole => told.add("passes", "yes"),
         Ok(_) => told.add("passes", "no"),
         Err(cause) => {

@@ -74,6 +74,15 @@ pub fn length(bytes: usize) -> String {
     named.map_or(bytes.to_string(), str::to_string)
 }
 
+/// The sitting number of an example, which tells it first or is of sitting 0.
+pub fn sitting(example: &Example, told: &mut Told) -> u32 {
+    let number = example.sitting();
+    if let Some(number) = number {
+        told.add("sitting", number);
+    }
+    number.unwrap_or(0)
+}
+
 /// What differs between the lines of an example and those that it should have, if anything.
 fn difference(example: &Example, told: &Told) -> Option<String> {
     let here = example
@@ -134,7 +143,7 @@ fn every_cause_has_an_example() {
 }
 
 /// Parts of the text, and wrong ones in their place: one for each kind and more.
-const SPOILT: [(&str, &str); 50] = [
+const SPOILT: [(&str, &str); 57] = [
     ("product 57 83: c1", "product 57 83: c2"),
     ("share 3: c3 c4", "share 3: c3 c5"),
     ("share 3: c3 c4\n", ""),
@@ -166,15 +175,15 @@ const SPOILT: [(&str, &str); 50] = [
         "room 1\nresult: book 41\ntake_relays",
     ),
     (
-        "result: book 41\nstate: byte 0 02 01 00 01 05 00 01 00 00",
-        "result: book 41\nstate: byte 0 02 01 00 01 05 00 01 00 02",
+        "result: book 41\nstate: byte 0 03 01 00 01 05 00 01 00 00",
+        "result: book 41\nstate: byte 0 03 01 00 01 05 00 01 00 02",
     ),
     ("written over: byte 7 00 02", "written over: byte 7 00 03"),
     (
-        "state: byte 0 02 02 00 02 03",
-        "state: byte 0 02 02 00 02 02",
+        "state: byte 0 03 02 00 02 03",
+        "state: byte 0 03 02 00 02 02",
     ),
-    ("byte (MESSAGE + 41) 82", "byte (MESSAGE + 42) 82"),
+    ("byte (MESSAGE + 45) 82", "byte (MESSAGE + 46) 82"),
     ("byte 4 06: cause 5", "byte 4 06: taken"),
     ("byte 5 (MESSAGE + 1)", "byte 5 (MESSAGE)"),
     ("byte 7 (SHARE + 1)", "byte 7 (SHARE)"),
@@ -209,6 +218,19 @@ const SPOILT: [(&str, &str); 50] = [
     ("out: ba78", "out: bb78"),
     ("sent 388", "sent 389"),
     ("prints: 1 =\n", "prints: 1 = \n"),
+    ("00 00 00 00 07 01 41 40", "00 00 00 00 08 01 41 40"),
+    ("sitting: 8\nn: 3", "sitting: 7\nn: 3"),
+    (
+        "sitting: 1\nn: 1\nnumber: 1\nshare: HASHED - 6",
+        "sitting: 1\nn: 1\nnumber: 1\nshare: HASHED - 5",
+    ),
+    ("open: sitting 7, n 3", "open: sitting 8, n 3"),
+    ("session: state\nvalue: 7", "session: state\nvalue: 0"),
+    ("00 01 00 00 01 02 03 04", "00 01 00 00 04 03 02 01"),
+    (
+        "sender: 01\nsitting: 00 00 00 07",
+        "sender: 01\nsitting: 00 00 00 00",
+    ),
 ];
 
 #[test]

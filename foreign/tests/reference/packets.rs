@@ -6,7 +6,7 @@ use foreign::packet::{read, Reading};
 use foreign::party::State;
 use foreign::{inbox, message_packet};
 
-use crate::{length, Told};
+use crate::{length, sitting, Told};
 
 /// One packet, field by field.
 pub fn packet(example: &Example) -> Told {
@@ -80,6 +80,7 @@ pub fn books(example: &Example) -> Told {
 /// What a happy box writes on bit 1.
 pub fn outbox(example: &Example) -> Told {
     let mut told = Told::default();
+    let session = sitting(example, &mut told);
     let group = ["n", "t", "own"].map(|name| example.number(name));
     let book = example.bytes("book");
     for (name, number) in ["n", "t", "own"].iter().zip(group) {
@@ -87,7 +88,7 @@ pub fn outbox(example: &Example) -> Told {
     }
     told.bytes("book", &book);
     let [n, t, own] = group.map(|number| number as u64);
-    let (state, root) = State::open(0, n, t, own, &book);
+    let (state, root) = State::open(session, n, t, own, &book);
     let (state, bit) = state.agree_root(&root.expect("opened"));
     assert_eq!(bit, Ok(true));
     let mut out = vec![0; LONGEST_OUTBOX];

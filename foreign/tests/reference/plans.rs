@@ -3,7 +3,7 @@
 use foreign::examples::{planned, Example};
 use foreign::inbox::lay_out;
 use foreign::rehearsal::{read, rehearse, Plan, Row};
-use foreign::rehearsal::{BIT_GIVEN, ROOT_GIVEN, SENDER_GIVEN};
+use foreign::rehearsal::{BIT_GIVEN, ROOT_GIVEN, SENDER_GIVEN, SESSION_GIVEN};
 
 use crate::Told;
 
@@ -36,6 +36,7 @@ fn head(plan: &Plan, told: &mut Told) {
         (plan.root.is_some(), ROOT_GIVEN),
         (plan.bit.is_some(), BIT_GIVEN),
         (sender.is_some(), SENDER_GIVEN),
+        (plan.session.is_some(), SESSION_GIVEN),
     ];
     let options = given.iter().filter(|it| it.0).map(|it| it.1).sum();
     told.bytes("options", &[options]);
@@ -47,6 +48,9 @@ fn head(plan: &Plan, told: &mut Told) {
     }
     if let Some(number) = sender {
         told.bytes("sender", &[number]);
+    }
+    if let Some(session) = plan.session {
+        told.bytes("sitting", &session.to_be_bytes());
     }
     told.bytes("good boxes", &map(plan.good.iter().copied()));
 }

@@ -7,7 +7,7 @@ use foreign::party::{Begun, Given, Outcome, Refusal, Stage, State};
 use crate::{digits, length, Told};
 
 /// The version of the layout of a state's bytes.
-const VERSION: u8 = 2;
+const VERSION: u8 = 3;
 
 /// Where the stage stands in them.
 const AT_STAGE: usize = 4;
@@ -42,7 +42,8 @@ fn in_rooms<T>(call: &Field, given: Given<T>, needed: &[usize]) -> Given<T> {
 fn opened(call: &Field) -> Given<[u8; 32]> {
     let argument = |name| call.number(name).expect("a number") as u64;
     let book = call.bytes("book").expect("a book");
-    let given = State::open(0, argument("n"), argument("t"), argument("own"), &book);
+    let [n, t, own] = ["n", "t", "own"].map(argument);
+    let given = State::open(call.sitting(), n, t, own, &book);
     in_rooms(call, given, &[limit("STATE"), limit("ROOT")])
 }
 
@@ -55,7 +56,7 @@ fn opened_by_sender(call: &Field) -> (Given<[u8; 32]>, Vec<u8>) {
     let bytes = call.bytes(if is_sender { "book" } else { "packet" });
     let mut out = vec![0; LONGEST_MESSAGE_PACKET];
     let bytes = bytes.expect("a sender's book, or another's packet");
-    let given = State::open_by_sender(0, (n, t), own, sender, &bytes, &mut out);
+    let given = State::open_by_sender(call.sitting(), (n, t), own, sender, &bytes, &mut out);
     let written = given.1.map_or(0, |begun| begun.written);
     let needed = [limit("STATE"), limit("ROOT"), written];
     let (state, begun) = in_rooms(call, given, &needed);
@@ -121,6 +122,7 @@ fn asked(state: &State, call: &str) -> Result<u64, Refusal> {
     match (call, state.stage) {
         ("stage", _) => Ok(encoded(state)[AT_STAGE].into()),
         ("own", _) => Ok(state.own),
+        ("session", _) => Ok(state.session.into()),
         ("result_length", Stage::Ended(Outcome::Message(length))) => Ok(length),
         ("result_length", _) => Err(6.into()),
         (other, _) => panic!("{other}: no call of a box"),
@@ -181,6 +183,7 @@ fn encoded(state: &State) -> Vec<u8> {
         &[stage],
         &length,
         &held,
+        &state.session.to_be_bytes(),
         &state.root,
         &state.message,
         &state.share,
@@ -241,13 +244,14 @@ fn decoded(bytes: &[u8]) -> Option<State> {
     let whole = bytes.get(..limit("STATE"))?;
     let (&[version, n, t, own, stage], rest) = whole.split_first_chunk::<5>()?;
     let (length, held) = (two(rest), two(&rest[2..]));
-    let (root, rooms) = rest[4..].split_first_chunk()?;
+    let (session, rest) = rest[4..].split_first_chunk()?;
+    let (root, rooms) = rest.split_first_chunk()?;
     let (message, share) = rooms.split_first_chunk()?;
     let stages = [Stage::Root, Stage::Bit, Stage::First, Stage::Second];
     let ends = [Outcome::Nothing, Outcome::Message(length)].map(Stage::Ended);
     let stage = *stages.iter().chain(&ends).nth(stage.into())?;
     (version == VERSION).then_some(State {
-        session: 0,
+        session: u32::from_be_bytes(*session),
         n: n.into(),
         t: t.into(),
         own: own.into(),
