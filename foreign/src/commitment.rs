@@ -49,7 +49,7 @@ mod tests {
     use crate::liars::Sharing;
     use crate::limits::{LONGEST_MESSAGE, MOST_FAULTS, MOST_PARTIES};
     use crate::random::Random;
-    use crate::sessions::EDGES;
+    use crate::sessions::pairs;
     use crate::sha256::hex;
 
     const LENT: u8 = 0xA5;
@@ -101,15 +101,13 @@ mod tests {
     #[test]
     fn a_root_is_its_own_sessions() {
         let entries = lay_out(&Sharing::of(0, 5, 2, b"message").shares);
-        for session in EDGES {
+        for (session, other) in pairs() {
             let given = root(session, 5, 2, b"message");
-            for other in EDGES {
-                let expected = match other == session {
-                    true => (Answer::Done(7), b"message".to_vec()),
-                    false => (Answer::Refused(15), Vec::new()),
-                };
-                assert_eq!(rebuilt_in(other, (5, 2), &given, &entries, 9), expected);
-            }
+            let expected = match other == session {
+                true => (Answer::Done(7), b"message".to_vec()),
+                false => (Answer::Refused(15), Vec::new()),
+            };
+            assert_eq!(rebuilt_in(other, (5, 2), &given, &entries, 9), expected);
         }
     }
 

@@ -6,6 +6,11 @@ use crate::random::Random;
 /// and the greatest.
 pub const EDGES: [u32; 5] = [0, 1, 0xFF, 0x0100_0000, u32::MAX];
 
+/// Every two of them, and each with itself.
+pub fn pairs() -> impl Iterator<Item = (u32, u32)> {
+    EDGES.into_iter().flat_map(|it| EDGES.map(|to| (it, to)))
+}
+
 /// The number in this place of a list without end: the edges, then two others, and so on.
 pub fn in_place(place: usize) -> u32 {
     match EDGES.get(place % (EDGES.len() + 2)) {

@@ -383,7 +383,7 @@ mod tests {
         assert!(equal.iter().all(|count| *count >= 100));
     }
 
-    /// Every edge among the numbers, 0 too, and many others; and in plans of all sizes.
+    /// Every edge among the numbers, 0 too, and many others; and one that is not 0 for every n and t.
     #[test]
     fn every_session_is_accepted_amply() {
         let (mut numbers, mut groups) = (BTreeMap::new(), BTreeSet::new());

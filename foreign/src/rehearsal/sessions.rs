@@ -4,7 +4,7 @@ use super::tests::{cause, plan, printed, SILENT};
 use super::*;
 use crate::liars::Sharing;
 use crate::message_packet::write;
-use crate::sessions::EDGES;
+use crate::sessions::{pairs, EDGES};
 
 /// Of three parties the first two are good and have these messages; what the third sends is told
 /// behind them.
@@ -37,32 +37,28 @@ fn a_number_changes_no_line() {
 /// The root that is given counts in the session of the plan alone.
 #[test]
 fn a_given_root_is_the_sessions_own() {
-    for session in EDGES {
-        for other in EDGES {
-            let root = root_of(other, b"A");
-            let fields = [&[9], &root[..]].concat();
-            let found = cause(&of_three(&fields, session, &[b"A", b"A"], SILENT));
-            assert_eq!(found, if other == session { 0 } else { 14 });
-        }
+    for (session, other) in pairs() {
+        let root = root_of(other, b"A");
+        let fields = [&[9], &root[..]].concat();
+        let found = cause(&of_three(&fields, session, &[b"A", b"A"], SILENT));
+        assert_eq!(found, if other == session { 0 } else { 14 });
     }
 }
 
 /// The third party hands the second its share, which passes if it was made for this session.
 #[test]
 fn packets_of_another_session_are_not_taken() {
-    for session in EDGES {
-        for other in EDGES {
-            let packets = Sharing::of(other, 3, 1, b"A");
-            let first = [&[0, 2], &lay_out(&[packets.packet(2)])[..]].concat();
-            let second = [&[0, 2], &lay_out(&[packets.packet(3)])[..]].concat();
-            let sent = [first, second].concat();
-            let bytes = of_three(&[8], session, &[b"A", b"B"], &sent);
-            let played = play(&bytes).expect("a sound plan");
-            assert_eq!(played.report(), "1 = 41\n2 = 41\nsent 388\n");
-            let takings = played.takings.expect("bit 1");
-            let gathered = takings.gathered[1].as_ref().expect("unhappy");
-            assert_eq!(!gathered[2].is_empty(), other == session);
-        }
+    for (session, other) in pairs() {
+        let packets = Sharing::of(other, 3, 1, b"A");
+        let first = [&[0, 2], &lay_out(&[packets.packet(2)])[..]].concat();
+        let second = [&[0, 2], &lay_out(&[packets.packet(3)])[..]].concat();
+        let sent = [first, second].concat();
+        let bytes = of_three(&[8], session, &[b"A", b"B"], &sent);
+        let played = play(&bytes).expect("a sound plan");
+        assert_eq!(played.report(), "1 = 41\n2 = 41\nsent 388\n");
+        let takings = played.takings.expect("bit 1");
+        let gathered = takings.gathered[1].as_ref().expect("unhappy");
+        assert_eq!(!gathered[2].is_empty(), other == session);
     }
 }
 

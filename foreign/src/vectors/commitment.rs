@@ -15,7 +15,7 @@ use crate::commitment::{self, rebuild_with_root};
 use crate::liars::{flip, Sharing};
 use crate::limits::{INSIDE, LONGEST_MESSAGE, MOST_FAULTS, MOST_PARTIES};
 use crate::random::Random;
-use crate::sessions::{another, in_place, EDGES};
+use crate::sessions;
 use crate::sha256::Hash;
 use crate::tree;
 
@@ -38,12 +38,12 @@ impl File {
     /// From here on calls are made in the next session.
     fn next_session(&mut self) {
         self.sessions += 1;
-        self.session = in_place(self.sessions);
+        self.session = sessions::in_place(self.sessions);
     }
 
     /// Another one than that of the calls.
     fn other_session(&mut self) -> u32 {
-        another(self.session, &mut self.random)
+        sessions::another(self.session, &mut self.random)
     }
 
     /// The root of a message in the session.
@@ -249,7 +249,7 @@ fn other_sessions(file: &mut File) {
         let other = file.other_session();
         of_session(file, group, other);
     }
-    for (session, other) in EDGES.into_iter().flat_map(|it| EDGES.map(|to| (it, to))) {
+    for (session, other) in sessions::pairs() {
         file.session = session;
         of_session(file, (3, 1), other);
     }

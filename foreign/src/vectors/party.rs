@@ -40,7 +40,7 @@ use crate::limits::{INSIDE, LONGEST_MESSAGE, LONGEST_OUTBOX, LONGEST_SHARE, MOST
 use crate::packet;
 use crate::party::{Given, Outcome, Rebuilt, Refusal, Stage, State};
 use crate::random::Random;
-use crate::sessions::{another, in_place, EDGES};
+use crate::sessions::{another, in_place, pairs};
 use crate::sha256::{hash, Hash};
 use crate::tree;
 
@@ -1051,7 +1051,7 @@ fn changed_root(file: &mut File) {
 /// A party alone whose session is changed before step 5: the share that it holds gives the message,
 /// which has the agreed root in the former session alone.
 fn changed_session(file: &mut File) {
-    for (session, other) in EDGES.into_iter().flat_map(|it| EDGES.map(|to| (it, to))) {
+    for (session, other) in pairs() {
         let agreed = Sharing::of(session, 1, 0, b"AB");
         file.open(session, 1, 0, 1, b"no");
         file.call(&Call::Root(agreed.root.to_vec()), 0);

@@ -15,7 +15,7 @@
 use super::{Answer, Case, Kind, Part, FAR};
 use crate::limits::{LONGEST_SHARE, LONGEST_STRING, MOST_HASHES, MOST_PARTIES};
 use crate::random::Random;
-use crate::sessions::{another, in_place, EDGES};
+use crate::sessions::{another, in_place, pairs, EDGES};
 use crate::sha256::{hash, Hash};
 use crate::tree::{self, judge, leaf_string};
 
@@ -224,8 +224,7 @@ fn other_session(file: &mut File, good: &Call) {
 
 /// A path that is made in one session and checked in one, for every two of the edges.
 fn two_sessions(file: &mut File) {
-    let pairs = EDGES.into_iter().flat_map(|it| EDGES.map(|to| (it, to)));
-    for (made, checked) in pairs {
+    for (made, checked) in pairs() {
         let shares = file.shares(2, 3);
         let call = Call {
             session: checked,
