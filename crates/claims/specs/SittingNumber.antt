@@ -1,9 +1,8 @@
--- What request No. 6 of document 02 asks for, at SHA-256: a sitting has a number of four bytes, which stands in every leaf string and is kept in the box's state;
--- under two numbers a book has two roots, unless two different strings collide. That two *books* under two numbers have different roots is not claimed, since it
--- is false: `two-books` has two with one root. Assumes nothing.
+-- What request No. 6 of document 02 asks for, at SHA-256: a sitting has a number of four bytes, which stands in every leaf string unless it is 0, and is kept in
+-- the box's state; under two numbers a book has two roots, unless two different strings collide. It is claimed of one book, since of two it is false: with one box,
+-- `two-books` has two under two numbers with one root. Assumes nothing.
 use mathlib.Core.Path.{_≡_}
 use mathlib.Core.Logic.{_⊎_, _≢_}
-use mathlib.Core.Bool.{false}
 use mathlib.Core.List.{List, [], _∷_}
 use Prim.Native.Nat.{ℕ, _-_, _/_, _%_, _^_, _≤_}
 use lib.ListN.{length}
@@ -13,14 +12,13 @@ use Rattle.sha256.specs.Sha256.{sha256}
 use Rattle.merkle.specs.Strings.{Collision}
 use Rattle.merkle.specs.Shares.{leafString, codingStrings}
 use Rattle.commitment.specs.Commitment.{messageRoot}
-use Rattle.party.specs.State.{broken}
 use Rattle.party.specs.Steps.{openOf}
 use Rattle.party.specs.Sender.{openBySenderOf}
 use Rattle.party.specs.declared.Party.{Party}
 use Rattle.agreement.specs.Calls.{Call, made}
-use Rattle.state_bytes.specs.Layout.{stateLength, stateOf}
-use Rattle.capi.specs.Calls.{packed, openCall, called, sessionCall}
-use Rattle.claims.specs.Terms.{FourBytes}
+use Rattle.state_bytes.specs.Layout.{stateLength}
+use Rattle.capi.specs.Calls.{packed, openCall, openBySenderCall, called, sessionCall}
+use Rattle.claims.specs.Terms.{FourBytes, SenderHost}
 
 pub record EverySittingHasItsNumber : Type 0 where
   -- the leaf string: 0x00, the number's four bytes, the highest first, the share's number, the share; number 0 keeps the string that there was before
@@ -36,7 +34,10 @@ pub record EverySittingHasItsNumber : Type 0 where
   pub kept : (x : Party) (c : Call) → made sha256 x c .state .seat .session ≡ x .seat .session
   pub host-opened : (session n t own : ℕ) (m s z : List ℕ) → FourBytes session → openOf sha256 session n t own m .cause ≡ 0 → stateLength ≤ length s
       → 32 ≤ length z → sessionCall (openCall sha256 session n t own m s z .state) ≡ packed 0 session
-  pub host-kept : (s : List ℕ) (c : Call) → broken (stateOf s) ≡ false → sessionCall (called sha256 s c .state) ≡ sessionCall s
+  pub host-by-sender : (session n t : ℕ) (h : SenderHost) → FourBytes session
+      → let r = openBySenderCall sha256 session n t (h .own) (h .sender) (h .handed) (h .stateRoom) (h .rootRoom) (h .packetRoom) in
+      r .number / 2 ^ 32 ≡ 0 → sessionCall (r .state) ≡ packed 0 session
+  pub host-kept : (s : List ℕ) (c : Call) → sessionCall (called sha256 s c .state) ≡ sessionCall s
   -- a book under two numbers: two roots, or two different ones of the strings hashed for them have one hash
   pub roots : (session other n t : ℕ) (m : List ℕ) → FourBytes session → FourBytes other → session ≢ other → groupCause n t ≡ 0 → length m ≤ maxMessage
       → (messageRoot sha256 session n t m ≢ messageRoot sha256 other n t m)

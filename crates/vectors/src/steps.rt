@@ -362,13 +362,14 @@ fn changed(state: Party, good: bool) -> Called {
 fn new_number(old: Party, place: usize, input: &[u8]) -> Called {
     let mut state = old;
     let number = number_at(input, 1, 8);
+    let session = buffer::number_at(input, 5);
     match place {
         0 => state.seat.n = number,
         1 => state.seat.t = number,
         2 => state.seat.own = number,
         3 => state.len = number,
         4 => state.held = number,
-        _ => state.seat.session = buffer::number_at(input, 5),
+        _ => state.seat.session = session,
     }
     changed(state, place <= 5)
 }
