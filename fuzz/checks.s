@@ -8,7 +8,7 @@
     .set SHADOW, 0x7fff8000
 
 # The greatest number of arguments that an exported function has on the stack.
-    .set STACK_ARGUMENTS, 6
+    .set STACK_ARGUMENTS, 7
 
 # How far below the red zone an access counts as one to the stack.
     .set NEAR, 1 << 20

@@ -13,3 +13,4 @@ pub mod Instances
 pub mod Forged
 pub mod Broadcast
 pub mod Senders
+pub mod Apart

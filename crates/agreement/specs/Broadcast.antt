@@ -42,8 +42,8 @@ module _ (H : List ℕ → List ℕ) (session n t : ℕ) (good : List Opener) wh
   abbrev pub gave : Opener → List ℕ
   gave A = take (begun A .value) (begun A .buffer)
 
-  -- all opened with one session number, n and t, under different numbers, and named the sender q; what they opened with is bytes, as it is where what they were handed is; where the
-  -- sender is good, each other one was handed what it wrote; of the numbers up to n at most t are borne by none of them
+  -- all opened with one session number, n and t, under different numbers, and named the sender q; what they opened with is bytes, as it is where what they
+  -- were handed is; where the sender is good, each other one was handed what it wrote; of the numbers up to n at most t are borne by none of them
   pub record OpenedAll (q : ℕ) : Type 0 where
     pub accepted : Every (λ A. begun A .opened .cause ≡ 0)
     pub named : Every (λ A. A .sender ≡ q)

@@ -116,7 +116,15 @@ pub extern "C" fn cipangohu_open_by_sender(
     if root.len() < 32 {
         return pack(9, 32);
     }
-    let OpenedBySender { opened, len } = Party::open_by_sender(session, n, t, own, sender, bytes, out);
+    let OpenedBySender { opened, len } = Party::open_by_sender(
+        session,
+        n,
+        t,
+        own,
+        sender,
+        bytes,
+        out,
+    );
     let Opened {
         state: next,
         cause: short,

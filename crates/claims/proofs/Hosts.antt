@@ -53,7 +53,7 @@ called-out : (s : List ℕ) (c : Call) → called sha256 s c .out ≡ made sha25
 unfolding called
 called-out s c = refl
 
-host-step-tells : (s : List ℕ) (c : Call) → HostStepTells s c (made sha256 (stateOf s) c) (called sha256 s c)
+pub host-step-tells : (s : List ℕ) (c : Call) → HostStepTells s c (made sha256 (stateOf s) c) (called sha256 s c)
 unfolding called
 host-step-tells s c =
     let r = made sha256 (stateOf s) c in
@@ -290,4 +290,4 @@ hosts-read session n t good z bit four P =
     (every-reader-gets-it session n t (map party good) z bit (subst (λ (boxes : List Box). Sitting n t boxes z bit) same P))
 
 pub all-good-hosts-end-with-one-result : AllGoodHostsEndWithOneResult
-all-good-hosts-end-with-one-result session n t good z bit four P = let r = hosts-read session n t good z bit four P in (r .0, r .1)
+all-good-hosts-end-with-one-result session four n t good z bit P = let r = hosts-read session n t good z bit four P in (r .0, r .1)

@@ -7,3 +7,4 @@ pub mod ReadAgain
 pub mod LongestBook
 pub mod AgreedRoot
 pub mod OneSender
+pub mod SittingNumber

@@ -233,7 +233,7 @@ module _ (session n t : ℕ) (four : FourBytes session) (h : SenderHost) where
   small = omega (arith, value-fits n t (h .own) (h .sender) (h .handed) sha256 session (h .packetRoom))
 
   -- its opening was taken, and there was room for all that it writes
-  host-taken : Q .number / 2 ^ 32 ≡ 0 → (b .opened .cause ≡ 0) × (stateLength ≤ length s) × (32 ≤ length w)
+  pub host-taken : Q .number / 2 ^ 32 ≡ 0 → (b .opened .cause ≡ 0) × (stateLength ≤ length s) × (32 ≤ length w)
       × (Q ≡ opens (packed 0 (b .value)) (written (stateBytes (b .opened .state)) s .buffer) (written (b .opened .root) w .buffer) (b .buffer))
   host-taken e = elim (ℕ-discrete c 0) [
     | no d ↦ absurd (d (told c 0 (omega arith) (sender-refused sha256 session n t (h .own) (h .sender) (h .handed) s w (h .packetRoom) d)))
@@ -258,6 +258,19 @@ module _ (session n t : ℕ) (four : FourBytes session) (h : SenderHost) where
       told : (k v : ℕ) → v < 2 ^ 32 → {x y z : List ℕ} → Q ≡ opens (packed k v) x y z → k ≡ 0
       told k v l q = sym (upper k v l) ∙ sym (ap (λ (y : Opens). y .number / 2 ^ 32) q) ∙ e
 
+  -- the bytes then say the state that the opening gave
+  pub opener-kept : Q .number / 2 ^ 32 ≡ 0 → stateOf (Q .state) ≡ b .opened .state
+  opener-kept e =
+      let a = host-taken e in
+      let own = h .own in
+      let m = messageBy own (h .sender) (h .handed) in
+      let opens-as = accepted-opens n t own (h .sender) (h .handed) sha256 session (h .packetRoom) (a .0) in
+      let none : openOf sha256 session n t own m .cause ≡ 0 = sym (ap (λ (o : Opened). o .cause) opens-as) ∙ a .0 in
+      ap (λ (y : Opens). stateOf (y .state)) (a .3)
+      ∙ ap (λ (o : Opened). stateOf (written (stateBytes (o .state)) s .buffer)) opens-as
+      ∙ sym (ap (λ (y : Replies). stateOf (y .state)) (open-done sha256 session n t own m s w none (a .1) (a .2)))
+      ∙ open-kept sha256 session n t own m s w four none (a .1) (a .2) ∙ sym (ap (λ (o : Opened). o .state) opens-as)
+
   host-same : Q .number / 2 ^ 32 ≡ 0 → openerHost session n t h ≡ openerParty session n t (beginsOf h)
   unfolding written
   host-same e =
@@ -267,11 +280,7 @@ module _ (session n t : ℕ) (four : FourBytes session) (h : SenderHost) where
       let opens-as = accepted-opens n t own (h .sender) (h .handed) sha256 session (h .packetRoom) (a .0) in
       let none : openOf sha256 session n t own m .cause ≡ 0 = sym (ap (λ (o : Opened). o .cause) opens-as) ∙ a .0 in
       let wide : length (b .opened .root) ≡ 32 = ap (λ (o : Opened). length (o .root)) opens-as ∙ root-length session n t own m s w none in
-      let kept : stateOf (Q .state) ≡ b .opened .state =
-      ap (λ (y : Opens). stateOf (y .state)) (a .3)
-      ∙ ap (λ (o : Opened). stateOf (written (stateBytes (o .state)) s .buffer)) opens-as
-      ∙ sym (ap (λ (y : Replies). stateOf (y .state)) (open-done sha256 session n t own m s w none (a .1) (a .2)))
-      ∙ open-kept sha256 session n t own m s w four none (a .1) (a .2) ∙ sym (ap (λ (o : Opened). o .state) opens-as) in
+      let kept = opener-kept e in
       let root : take 32 (Q .root) ≡ b .opened .root =
       ap (λ (y : Opens). take 32 (y .root)) (a .3)
       ∙ ap (λ (g : Given). take 32 (g .buffer)) (written-done (b .opened .root) w (omega (arith, wide, a .2)))
@@ -307,8 +316,8 @@ either-same : (session n t : ℕ) → FourBytes session → (g : Begins ⊎ Send
 either-same session n t four (inl A) e = refl
 either-same session n t four (inr h) e = host-same session n t four h e
 
-all-settle : AllSettle openerOf
-all-settle session n t good q z bit four P =
+all-settle : (session : ℕ) → FourBytes session → AllSettle (openerOf session)
+all-settle session four n t good q z bit P =
     let opened : (g : Begins ⊎ SenderHost) → List·Memᴰ g good → openerOf session n t g .box .cause ≡ 0 =
     (λ g i. P .sitting .opened (openerOf session n t g .box) (in-map (λ (B : OpenedBox). B .box) (in-map (openerOf session n t) i)) .0) in
     let same : map (openerOf session n t) good ≡ map (openerParty session n t) (map begins good) =

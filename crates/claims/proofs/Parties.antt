@@ -285,4 +285,4 @@ every-reader-gets-it session n t good z bit P =
     )
 
 pub all-good-boxes-end-with-one-result : AllGoodBoxesEndWithOneResult
-all-good-boxes-end-with-one-result session n t good z bit four P = let r = every-reader-gets-it session n t good z bit P in (r .0, r .1)
+all-good-boxes-end-with-one-result session n t good z bit P = let r = every-reader-gets-it session n t good z bit P in (r .0, r .1)

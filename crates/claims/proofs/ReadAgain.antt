@@ -178,7 +178,7 @@ module _ (s : List ℕ) (c : Call) (R : Result) (inbox room : List ℕ) (e : mad
       shown (settled m) = refl
 
 -- a party that has ended, called further: it stays sound, so that a reader with room is accepted
-final-whole : (x : Party) (cs : List Call) → broken x ≡ false → broken (final sha256 x cs) ≡ false
+pub final-whole : (x : Party) (cs : List Call) → broken x ≡ false → broken (final sha256 x cs) ≡ false
 unfolding final
 final-whole x [] h = h
 final-whole x (c ∷ cs) h = final-whole (made sha256 x c .state) cs (go (ℕ-discrete (made sha256 x c .cause) 0))

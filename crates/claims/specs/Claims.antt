@@ -74,7 +74,7 @@ pub record EveryCallTellsItsOutcome : Type 0 where
   pub host-opening : (session n t own : ℕ) (m s z : List ℕ) → HostOpeningTells session s z (openOf sha256 session n t own m) (openCall sha256 session n t own m s z)
   pub host-step : (s : List ℕ) (c : Call) → HostStepTells s c (made sha256 (stateOf s) c) (called sha256 s c)
   -- the tools: shares, rebuilding from the n - t lowest-numbered shares present, hash, path and its check, packet. On bytes, and of a state that is asked for its
-  -- stage, own number or result's length, their contracts are the definitions of `capi`
+  -- stage, own number, sitting's number or result's length, their contracts are the definitions of `capi`
   pub shares : (n t : ℕ) (m out : List ℕ) → encodeOf n t m out ≡ unless (groupThen n t (when 4 (ltb maxMessage (length m)) ∷ [])) (shares n (n - t) m) out
   pub rebuild : (n t : ℕ) (es out : List ℕ) → let ps = present 1 (bodies n es) in let r = joined (n - t) (length (point ps 0 .share)) (take (n - t) ps) in
       rebuildOf n t es out ≡ unless (groupThen n t (when 8 (not (fills n es)) ∷ when 11 (ltb (length ps) (n - t)) ∷ causeJoined r ∷ [])) (bookJoined r) out
@@ -149,7 +149,7 @@ module _ (n t : ℕ) (good : List Box) (z : List ℕ) (bit : ℕ) where
   All P = (A : Box) → List·Memᴰ A good → P A
 
   pub record Sitting : Type 0 where
-    -- all opened with n, t and a book of bytes, under different numbers (and with one sitting number, which makes them boxes: EndWithOneResult); the numbers up to n that none of them has are bad, at most t
+    -- all opened with n, t and a book of bytes, under different numbers; the numbers up to n that none of them has are bad, at most t
     pub opened : All (λ A. (A .cause ≡ 0) × Bytes (A .book))
     pub numbers : different (map (λ (A : Box). A .own) good) ≡ true
     pub bad : absent n 1 (map (λ (A : Box). A .own) good) ≤ t
@@ -183,13 +183,13 @@ module _ (n t : ℕ) (good : List Box) (z : List ℕ) (bit : ℕ) where
         → bytesSent ≤ 2 * length good * (n - 1) * (4 + shareLength (n - t) (length m) + 32 * height n)
     pub free : R ≡ nothing → bytesSent ≡ 0
 
-abbrev pub EndWithOneResult : {A : Type 0} → (ℕ → ℕ → ℕ → A → Box) → Type 0
-EndWithOneResult {A} box = (session n t : ℕ) (good : List A) (z : List ℕ) (bit : ℕ) → FourBytes session → Sitting n t (map (box session n t) good) z bit
-    → (R : Result) × OneResult n t (map (box session n t) good) z bit R
+abbrev pub EndWithOneResult : {A : Type 0} → (ℕ → ℕ → A → Box) → Type 0
+EndWithOneResult {A} box = (n t : ℕ) (good : List A) (z : List ℕ) (bit : ℕ) → Sitting n t (map (box n t) good) z bit
+    → (R : Result) × OneResult n t (map (box n t) good) z bit R
 
--- parties with their states; and boxes of which any may be hosts, with bytes
+-- in every sitting, with one number for all: parties with their states; and boxes of which any may be hosts, with bytes
 abbrev pub AllGoodBoxesEndWithOneResult : Type 0
-AllGoodBoxesEndWithOneResult = EndWithOneResult partyBox
+AllGoodBoxesEndWithOneResult = (session : ℕ) → EndWithOneResult (partyBox session)
 
 abbrev pub AllGoodHostsEndWithOneResult : Type 0
-AllGoodHostsEndWithOneResult = EndWithOneResult boxOf
+AllGoodHostsEndWithOneResult = (session : ℕ) → FourBytes session → EndWithOneResult (boxOf session)

@@ -4,3 +4,4 @@ pub mod ReadAgain
 pub mod LongestBook
 pub mod AgreedRoot
 pub mod OneSender
+pub mod SittingNumber

@@ -47,9 +47,9 @@ module _ (n t : ℕ) (good : List OpenedBox) (q : ℕ) (z : List ℕ) (bit : ℕ
         → bytesInAll ≤ 2 * length good * (n - 1) * (4 + shareLength (n - t) (length m) + 32 * height n) + (n - 1) * (3 + length m)
     pub bad-sender : ((A : OpenedBox) → List·Memᴰ A good → A .box .own ≢ q) → bytesInAll ≡ bytesSent n t (map (λ (A : OpenedBox). A .box) good) z bit
 
-abbrev pub AllSettle : {A : Type 0} → (ℕ → ℕ → ℕ → A → OpenedBox) → Type 0
-AllSettle {A} opener = (session n t : ℕ) (good : List A) (q : ℕ) (z : List ℕ) (bit : ℕ) → FourBytes session → SenderSitting n t (map (opener session n t) good) q z bit
-    → (R : Result) × SendersBook n t (map (opener session n t) good) q z bit R
+abbrev pub AllSettle : {A : Type 0} → (ℕ → ℕ → A → OpenedBox) → Type 0
+AllSettle {A} opener = (n t : ℕ) (good : List A) (q : ℕ) (z : List ℕ) (bit : ℕ) → SenderSitting n t (map (opener n t) good) q z bit
+    → (R : Result) × SendersBook n t (map (opener n t) good) q z bit R
 
 pub record OneSendsAllSettle : Type 0 where
   -- a book's packet is read back, and has one form; neither kind of packet is read as the other
@@ -58,4 +58,4 @@ pub record OneSendsAllSettle : Type 0 where
   pub neither : (n : ℕ) (m r : List ℕ) → (readOf n (bookPacket m) ≡ unreadable) × (readMessage (0x07 ∷ r) ≡ nothingRead)
   pub opening : (session n t own q : ℕ) (bs out : List ℕ) → OpensBySender session n t own q out (cond (eqb own q) bs (messageRead (readMessage bs)))
       (cond (eqb own q && not (eqb n 1)) (bookPacket bs) []) (openBySenderOf sha256 session n t own q bs out)
-  pub sittings : AllSettle openerOf
+  pub sittings : (session : ℕ) → FourBytes session → AllSettle (openerOf session)

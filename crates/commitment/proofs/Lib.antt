@@ -8,3 +8,4 @@ pub mod Binding
 pub mod Outbox
 pub mod Sending
 pub mod Outcomes
+pub mod Sessions

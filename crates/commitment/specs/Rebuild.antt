@@ -1,5 +1,5 @@
--- Rebuilding under a root (document 02, No. 4): a message counts as found only where its own shares, made anew, have that root under the session's number. The hash of the tree is a
--- parameter H. Assumes nothing.
+-- Rebuilding under a root (document 02, No. 4): a message counts as found only where its own shares, made anew, have that root under the session's number. The
+-- hash of the tree is a parameter H. Assumes nothing.
 use mathlib.Core.Bool.{cond, not}
 use mathlib.Core.List.{List, []}
 use Prim.Native.Nat.{ℕ, _-_}

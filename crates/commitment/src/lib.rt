@@ -55,12 +55,7 @@ struct Lengths {
 pub fn root(seat: Seat, message: &[u8]) -> Rooted
     ensures { λ r. ⌜ r ≡ rootedOf sha256 (seat .session) (seat .n) (seat .t) (seat .own) (now (message .entry)) ⌝ }
 {
-    let Seat {
-        session,
-        n,
-        t,
-        own,
-    } = seat;
+    let Seat { session, n, t, own } = seat;
     let cause = open_cause(n, t, own, message.len());
     if cause != 0 {
         return Rooted {
@@ -76,22 +71,11 @@ pub fn root(seat: Seat, message: &[u8]) -> Rooted
 
 // What a party sends whose message has the agreed root: in step 4 its relay, the packet with its own share, but none where it is alone; or else, in
 // step 3 on bit 1, its outbox, for each other party a packet with its share.
-pub fn send(
-    relays: bool,
-    seat: Seat,
-    message: &[u8],
-    root: &Hash,
-    out: &mut [u8],
-) -> Sent
+pub fn send(relays: bool, seat: Seat, message: &[u8], root: &Hash, out: &mut [u8]) -> Sent
     ensures { λ r. ⌜ sent r (now (out .exit))
         ≡ sendOf sha256 (seat .session) relays (seat .n) (seat .t) (seat .own) (now (message .entry)) (now (root .entry)) (now (out .entry)) ⌝ }
 {
-    let Seat {
-        session,
-        n,
-        t,
-        own,
-    } = seat;
+    let Seat { session, n, t, own } = seat;
     let cause = open_cause(n, t, own, message.len());
     if cause != 0 {
         return Sent {

@@ -24,7 +24,7 @@ pub length-leafString : (session j : ℕ) (s : List ℕ) → length (leafString 
 unfolding leafString frontLength
 length-leafString session j s = omega (arith, length-append (sessionBytes session) (j ∷ s))
 
--- what stands before a share, by the session's number
+-- how much stands before a share, by the session's number
 pub front-none : (session : ℕ) → session ≡ 0 → frontLength session ≡ 2
 unfolding frontLength sessionBytes
 front-none session e = rw (eq-eqb session 0 e)
@@ -39,13 +39,14 @@ front-short session = elim (ℕ-discrete session 0) [
   | no e ↦ omega (arith, front-some session e)
 ]
 
-pub front-plain : (session j : ℕ) → session ≡ 0 → leafString session j [] ≡ 0x00 ∷ j ∷ []
+-- the leaf string, by the same
+pub leaf-plain : (session j : ℕ) (s : List ℕ) → session ≡ 0 → leafString session j s ≡ 0x00 ∷ j ∷ s
 unfolding leafString sessionBytes
-front-plain session j e = rw (eq-eqb session 0 e)
+leaf-plain session j s e = rw (eq-eqb session 0 e)
 
-pub front-numbered : (session j : ℕ) → (session ≡ 0 → ⊥) → leafString session j [] ≡ 0x00 ∷ (fourBytes session ++ (j ∷ []))
+pub leaf-numbered : (session j : ℕ) (s : List ℕ) → (session ≡ 0 → ⊥) → leafString session j s ≡ 0x00 ∷ (fourBytes session ++ (j ∷ s))
 unfolding leafString sessionBytes
-front-numbered session j e = rw (ne-eqb session 0 e)
+leaf-numbered session j s e = rw (ne-eqb session 0 e)
 
 pub leaf-behind : (session j : ℕ) (s : List ℕ) → leafString session j [] ++ s ≡ leafString session j s
 unfolding leafString

@@ -1,5 +1,5 @@
 -- The tree over the shares of a message (document 01, "Field, shares, tree"): leaf strings, root, audit path and path check. What is said of leaves is said
--- under a session's number, which stands in every leaf string (document 02, No. 6: a sitting's number). The hash is a parameter; document 01's is SHA-256, at
+-- under a session's number, which stands in every leaf string unless it is 0 (document 02, No. 6: a sitting's number). The hash is a parameter; document 01's is SHA-256, at
 -- which the contracts cite these. Assumes nothing.
 use mathlib.Core.Bool.{Bool, true, false, cond, not, _&&_}
 use mathlib.Core.List.{List, [], _∷_, _++_, map}

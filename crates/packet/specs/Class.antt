@@ -8,7 +8,7 @@ use lib.ListN.{length}
 use Rattle.merkle.specs.Shares.{passes, stringsOf}
 use Rattle.packet.specs.Format.{Reading, silence, unreadable, shared, readOf}
 
--- silent; valid, with its share and path; or faulty: unreadable, of another number, or with a path that does not lead to the root
+-- silent; valid, with its share and path; or faulty: unreadable, with a share of another number, or with a path that does not lead to the root
 pub data Class : Type 0 where
   silent faulty : Class
   valid : List ℕ → List (List ℕ) → Class

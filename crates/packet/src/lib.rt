@@ -194,14 +194,7 @@ fn hash_at(s: &[u8], at: usize) -> Hash
 }
 
 // Judges a packet that was read from s: whether it bears number j and its path leads to the root under the session's number.
-pub fn judge(
-    session: u32,
-    n: usize,
-    j: usize,
-    root: &[u8],
-    s: &[u8],
-    packet: Packet,
-) -> Judged
+pub fn judge(session: u32, n: usize, j: usize, root: &[u8], s: &[u8], packet: Packet) -> Judged
     ensures { λ r. ⌜ verdict r ≡ verdict (judgeOf sha256 session n j (now (root .entry)) (now (s .entry)) packet) ⌝ }
 {
     if !limits::parties(n) {
@@ -240,14 +233,7 @@ struct Place {
 }
 
 // The same of a share that bears number j. No place that it states is used before the bytes present are found to be as many.
-fn judge_share(
-    session: u32,
-    n: usize,
-    j: usize,
-    root: &[u8],
-    s: &[u8],
-    place: Place,
-) -> Judged
+fn judge_share(session: u32, n: usize, j: usize, root: &[u8], s: &[u8], place: Place) -> Judged
     requires { ⌜ (1 ≤ n) × (n ≤ maxParties) × (1 ≤ j) × (j ≤ n) × (length (now root) ≡ 32) ⌝ }
     ensures { λ r. ⌜ r ≡ verdictOn sha256 session n j (now (root .entry)) (now (s .entry)) (Packet.Share j (place .from) (place .len) (place .count)) ⌝ }
 {

@@ -45,7 +45,8 @@ stateCause turn x = cond (broken x) 5 (cond (not (eqb (turnOf (x .stage)) turn))
 abbrev pub refusedOpening : ℕ → Opened
 refusedOpening k = record { state = blankState; cause = k; root = blank }
 
--- step 1, the opening, in a session of this number, which the state keeps from now on (document 02, No. 6): causes 1, 2, 3, 4; the root of the message's shares goes to the short agreement
+-- step 1, the opening in the session of this number, which the state keeps from now on (document 02, No. 6): causes 1, 2, 3, 4; the root of the message's
+-- shares goes to the short agreement
 module _ (H : List ℕ → List ℕ) where
   unfoldable pub openOf : ℕ → ℕ → ℕ → ℕ → List ℕ → Opened
   openOf session n t own m =

@@ -116,12 +116,7 @@ impl Party {
         if cause != 0 {
             return refused_opening(cause);
         }
-        let seat = Seat {
-            session,
-            n,
-            t,
-            own,
-        };
+        let seat = Seat { session, n, t, own };
         let Rooted { root, .. } = commitment::root(seat, message);
         let mut held = [0u8; Party::MAX_MESSAGE];
         buffer::put(&mut held, 0, message);

@@ -339,7 +339,15 @@ fn opened_by_sender(bytes: &[u8], parts: Plan, q: usize) -> Opened
     let mut room = blank_packet();
     let len = handed(bytes, parts, q, &mut room);
     let mut out = [0u8; MAX_MESSAGE_PACKET];
-    let begun = Party::open_by_sender(parts.session, parts.n, parts.t, q, parts.sender, &room[..len], &mut out);
+    let begun = Party::open_by_sender(
+        parts.session,
+        parts.n,
+        parts.t,
+        q,
+        parts.sender,
+        &room[..len],
+        &mut out,
+    );
     begun.opened
 }
 
@@ -368,7 +376,15 @@ fn sender_wrote(bytes: &[u8], parts: Plan, out: &mut [u8]) -> usize
     let mut message = [0u8; MAX_MESSAGE];
     let len = book(bytes, parts, q, &mut message);
     let mut packet = [0u8; MAX_MESSAGE_PACKET];
-    let begun = Party::open_by_sender(parts.session, parts.n, parts.t, q, q, &message[..len], &mut packet);
+    let begun = Party::open_by_sender(
+        parts.session,
+        parts.n,
+        parts.t,
+        q,
+        q,
+        &message[..len],
+        &mut packet,
+    );
     let size = begun.len;
     buffer::put(out, 0, &packet[..size]);
     size

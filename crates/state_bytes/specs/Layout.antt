@@ -54,7 +54,7 @@ lengthFor (Ended (outcome.Message l)) len = l
 abbrev pub pair : ℕ → List ℕ
 pair k = k / 256 % 256 ∷ k % 256 ∷ []
 
--- a state as bytes. Of numbers over a byte, which a state that is not broken has none of, the lowest byte is written
+-- a state as bytes. Of n, t and an own number over a byte, which a state that is not broken has none of, the lowest byte is written
 unfoldable pub headOf : Party → List ℕ
 headOf x =
     layoutVersion ∷ x .seat .n % 256 ∷ x .seat .t % 256 ∷ x .seat .own % 256 ∷ stageNumber (x .stage)

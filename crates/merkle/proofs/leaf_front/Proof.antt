@@ -5,7 +5,7 @@ use Prim.Native.Nat.{ℕ, _%_}
 use native.Mathlib.Omega.{arith}
 use lib.ListN.{getD}
 use Rattle.buffer.specs.Numbers.{fourBytes}
-use Rattle.merkle.proofs.Written.{front-none, front-some, front-plain, front-numbered}
+use Rattle.merkle.proofs.Written.{front-none, front-some, leaf-plain, leaf-numbered}
 use borrow.Author.Needs.{needs}
 use Rattle.merkle.proofs.leaf_front.Statement.{statement}
 use Rattle.merkle.proofs.leaf_front.Tie as tie
@@ -20,7 +20,7 @@ returns : tie.Need-returns
 returns c =
     let a = c .before .args in
     let byte : a .j % 256 ≡ a .j = omega arith in
-    rw (front-none (a .session) (c .if1 .taken), front-plain (a .session) (a .j) (c .if1 .taken)) (ap (λ (x : ℕ). 0x00 ∷ x ∷ []) byte)
+    rw (front-none (a .session) (c .if1 .taken), leaf-plain (a .session) (a .j) [] (c .if1 .taken)) (ap (λ (x : ℕ). 0x00 ∷ x ∷ []) byte)
 
 four-bytes-requires : tie.Need-four-bytes-requires
 four-bytes-requires c κs = search needs
@@ -58,7 +58,7 @@ returns-2 c =
     let e = c .before in
     let a = e .before .args in
     let byte : a .j % 256 ≡ a .j = omega arith in
-    rw (front-some (a .session) (e .if1 .left), front-numbered (a .session) (a .j) (e .if1 .left))
+    rw (front-some (a .session) (e .if1 .left), leaf-numbered (a .session) (a .j) [] (e .if1 .left))
     (ap₂ (λ (bs : List ℕ) (x : ℕ). 0x00 ∷ getD bs 0 0 ∷ getD bs 1 0 ∷ getD bs 2 0 ∷ getD bs 3 0 ∷ x ∷ []) (c .four-bytes .ensures) byte)
 
 pub leaf-front-spec : {M : Type 1} → statement M
