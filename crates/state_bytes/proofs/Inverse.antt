@@ -6,7 +6,8 @@ use mathlib.Core.List.{List, [], _++_, append-assoc}
 use Prim.Native.Nat.{ℕ, _+_, _-_, _*_, _/_, _%_, _^_, _≤_, _<_}
 use native.Mathlib.Nat.{mod-eq-of-lt}
 use native.Mathlib.Omega.{arith}
-use lib.Dec.{eqb}
+use lib.Dec.{eqb, lit<}
+use lib.Pow.{pow-mono}
 use lib.ListN.{length, getD, take, drop, replicate, length-append, length-replicate}
 use lib.Seq.{take-at, drop-at, drop-drop}
 use Rattle.limits.specs.Limits.{maxParties, maxMessage, maxShare}
@@ -25,7 +26,7 @@ use Rattle.party.specs.declared.Stage.the-variants.{Root, Bit, First, Second, E
 use Rattle.commitment.specs.declared.Seat.{Seat}
 use Rattle.party.specs.declared.Party.{Party}
 use Rattle.state_bytes.specs.Layout.{rootPlace, headLength, stateLength, stageNumber, lengthFor, headOf, stateBytes, stageOf}
-use Rattle.state_bytes.specs.Layout.{layoutVersion, versionTold, stageTold, lengthTold, heldTold, sessionTold, stateOf}
+use Rattle.state_bytes.specs.Layout.{layoutVersion, versionTold, stageTold, lengthTold, heldTold, sessionTold, faultyTold, stateOf}
 use Rattle.state_bytes.proofs.Reading.{fields-are, bytes-long, state-read}
 
 -- a state whose fields fit their places; an end with a message has no other length
@@ -36,6 +37,7 @@ pub record Storable (x : Party) : Type 0 where
   pub number : x .seat .own < 256
   pub short : lengthFor (x .stage) (x .len) < 65536
   pub few : x .held < 65536
+  pub map : x .faulty < 2 ^ 32
   pub root : length (x .root) ≡ 32
   pub message : length (x .message) ≡ maxMessage
   pub share : length (x .share) ≡ maxShare
@@ -117,18 +119,25 @@ module _ (x : Party) (f : Storable x) (r : List ℕ) where
   unfolding stateBytes headOf
   session-back =
       let k : List ℕ = fourBytes (x .seat .session) in
-      let rest : List ℕ = x .root ++ (x .message ++ x .share) in
-      sym (ap (λ (i : ℕ). i % 2 ^ 32) (ap number (append-assoc k rest r) ∙ number-back (x .seat .session) (rest ++ r) (f .session))
+      let rest : List ℕ = fourBytes (x .faulty) ++ (x .root ++ (x .message ++ x .share)) in
+      sym (ap (λ (i : ℕ). i % 2 ^ 32)
+      (ap number (ap (λ (l : List ℕ). l ++ r) (append-assoc k (fourBytes (x .faulty)) (x .root ++ (x .message ++ x .share))) ∙ append-assoc k rest r)
+      ∙ number-back (x .seat .session) (rest ++ r) (f .session))
       ∙ mod-eq-of-lt (f .session))
+
+  map-back : x .faulty ≡ faultyTold B
+  unfolding stateBytes headOf fourBytes
+  map-back =
+      sym (ap (λ (i : ℕ). i % 2 ^ 32) (number-back (x .faulty) ((x .root ++ (x .message ++ x .share)) ++ r) (f .map)) ∙ mod-eq-of-lt (f .map))
 
   read-back : stateOf B ≡ x
   read-back =
       state-read B long version-back (omega (arith, stage-known (x .stage), stage-told))
       ∙ sym (fields-are B (stageNumber (x .stage)) (lengthFor (x .stage) (x .len)) (x .seat .session) (x .seat .n) (x .seat .t) (x .seat .own) (x .stage)
-      (x .message) (x .len) (x .root) (x .share) (x .held) stage-told length-back session-back n-back t-back own-back (stage-back (x .stage) (x .len))
+      (x .message) (x .len) (x .root) (x .share) (x .held) (x .faulty) stage-told length-back session-back n-back t-back own-back (stage-back (x .stage) (x .len))
       (sym (ap (take maxMessage) behind-root ∙ take-at (x .message) (x .share ++ r) maxMessage (f .message))) (sym (f .only))
       (sym (ap (take 32) behind-head ∙ take-at (x .root) M 32 (f .root)))
-      (sym (ap (take maxShare) behind-message ∙ take-at (x .share) r maxShare (f .share))) held-back)
+      (sym (ap (take maxShare) behind-message ∙ take-at (x .share) r maxShare (f .share))) held-back map-back)
 
 -- a state written over the start of a buffer is the state that the buffer then says
 pub written-read : (x : Party) → Storable x → (s : List ℕ) → stateLength ≤ length s → stateOf (written (stateBytes x) s .buffer) ≡ x
@@ -157,7 +166,7 @@ length-padded : (k : ℕ) (l : List ℕ) → length l ≤ k → length (padded k
 length-padded k l h = length-append l (replicate (k - length l) 0) ∙ omega (arith, length-replicate {A = ℕ} (k - length l) 0)
 
 module _ (s : Seat) (four : s .session < 2 ^ 32) (high : s .n ≤ maxParties) (faults : 2 * s .t < s .n) (last : s .own ≤ s .n) where
-  formed : (k : Stage) (m z y : List ℕ) (len : ℕ) → length m ≤ maxMessage → length z ≡ 32 → length y ≤ maxShare → lengthFor k len < 65536
+  formed : (k : Stage) (m z y : List ℕ) (len map : ℕ) → map < 2 ^ 32 → length m ≤ maxMessage → length z ≡ 32 → length y ≤ maxShare → lengthFor k len < 65536
       → cond (eqb (stageNumber k) 5) 0 (lengthFor k len) ≡ len
       → Storable (record {
         seat = s;
@@ -167,8 +176,9 @@ module _ (s : Seat) (four : s .session < 2 ^ 32) (high : s .n ≤ maxParties) (f
         root = z;
         share = padded maxShare y;
         held = length y;
+        faulty = map;
       })
-  formed k m z y len short root few told only =
+  formed k m z y len map named short root few told only =
       record {
         session = four;
         parties = omega arith;
@@ -176,31 +186,37 @@ module _ (s : Seat) (four : s .session < 2 ^ 32) (high : s .n ≤ maxParties) (f
         number = omega arith;
         short = told;
         few = omega arith;
+        map = named;
         root = root;
         message = length-padded maxMessage m short;
         share = length-padded maxShare y few;
         only = only;
       }
 
+  -- a map of n parties has four bytes
+  small : (f : ℕ) → f < 2 ^ s .n → f < 2 ^ 32
+  small f h = omega (arith, h, pow-mono {i = s .n} {j = maxParties} high, pow-mono {i = maxParties} {j = 32} (omega arith))
+
   module _ (m : List ℕ) (short : length m ≤ maxMessage) where
     pub root-storable : Storable (atRoot s m)
     unfolding atRoot
-    root-storable = formed Root m blank [] (length m) short refl (omega arith) (omega arith) refl
+    root-storable = formed Root m blank [] (length m) 0 (lit< tt) short refl (omega arith) (omega arith) refl
 
     module _ (z : List ℕ) (root : length z ≡ 32) where
       pub bit-storable : Storable (atBit s m z)
       unfolding atBit
-      bit-storable = formed Bit m z [] (length m) short root (omega arith) (omega arith) refl
+      bit-storable = formed Bit m z [] (length m) 0 (lit< tt) short root (omega arith) (omega arith) refl
 
       pub first-storable : Storable (atFirst s m z)
       unfolding atFirst
-      first-storable = formed First m z [] (length m) short root (omega arith) (omega arith) refl
+      first-storable = formed First m z [] (length m) 0 (lit< tt) short root (omega arith) (omega arith) refl
 
-      pub second-storable : (y : List ℕ) → length y ≤ maxShare → Storable (atSecond s m z y)
+      pub second-storable : (y : List ℕ) (f : ℕ) → length y ≤ maxShare → f < 2 ^ s .n → Storable (atSecond s m z y f)
       unfolding atSecond
-      second-storable y few = formed Second m z y (length m) short root few (omega arith) refl
+      second-storable y f few named = formed Second m z y (length m) f (small f named) short root few (omega arith) refl
 
-  pub end-storable : (r : Result) → length (resultBytes r) ≤ maxMessage → Storable (atEnd s r)
+  pub end-storable : (r : Result) (f : ℕ) → length (resultBytes r) ≤ maxMessage → f < 2 ^ s .n → Storable (atEnd s r f)
   unfolding atEnd
-  end-storable nothing h = formed (Ended outcome.Nothing) [] blank [] 0 h refl (omega arith) (omega arith) refl
-  end-storable (settled m) h = formed (Ended (outcome.Message (length m))) m blank [] 0 h refl (omega arith) (omega (arith, h)) refl
+  end-storable nothing f h named = formed (Ended outcome.Nothing) [] blank [] 0 f (small f named) h refl (omega arith) (omega arith) refl
+  end-storable (settled m) f h named =
+      formed (Ended (outcome.Message (length m))) m blank [] 0 f (small f named) h refl (omega arith) (omega (arith, h)) refl

@@ -23,7 +23,7 @@ use Rattle.party.specs.declared.Stage.{Stage}
 use Rattle.party.specs.declared.Stage.the-variants.{Root, Bit, First, Second, Ended}
 use Rattle.party.specs.declared.Party.{Party}
 use Rattle.state_bytes.specs.Layout.{layoutVersion, rootPlace, headLength, stateLength, stageNumber, lengthFor, headOf, stateBytes, stageOf}
-use Rattle.state_bytes.specs.Layout.{versionTold, stageTold, lengthTold, heldTold, sessionTold, readIn, stateOf}
+use Rattle.state_bytes.specs.Layout.{versionTold, stageTold, lengthTold, heldTold, sessionTold, faultyTold, readIn, stateOf}
 
 -- a part of a list has the length that was asked for, where the list is long enough; so put into an array of that length it is all there is
 length-part : (at k : ℕ) (s : List ℕ) → at + k ≤ length s → length (take k (drop at s)) ≡ k
@@ -117,18 +117,19 @@ session-small s = elim (decLt (length s) stateLength) [
 ]
 
 -- the numbers before the root
-pub head-is : (x : Party) (len a b c d e f g h : ℕ) (k : List ℕ) → len ≡ lengthFor (x .stage) (x .len) → a ≡ x .seat .n % 256 → b ≡ x .seat .t % 256
+pub head-is : (x : Party) (len a b c d e f g h : ℕ) (k m : List ℕ) → len ≡ lengthFor (x .stage) (x .len) → a ≡ x .seat .n % 256 → b ≡ x .seat .t % 256
     → c ≡ x .seat .own % 256 → d ≡ stageNumber (x .stage) → e ≡ len / 256 % 256 → f ≡ len % 256 → g ≡ x .held / 256 % 256 → h ≡ x .held % 256
-    → k ≡ fourBytes (x .seat .session)
-    → layoutVersion ∷ a ∷ b ∷ c ∷ d ∷ e ∷ f ∷ g ∷ h ∷ getD k 0 0 ∷ getD k 1 0 ∷ getD k 2 0 ∷ getD k 3 0 ∷ [] ≡ headOf x
+    → k ≡ fourBytes (x .seat .session) → m ≡ fourBytes (x .faulty)
+    → layoutVersion ∷ a ∷ b ∷ c ∷ d ∷ e ∷ f ∷ g ∷ h ∷ getD k 0 0 ∷ getD k 1 0 ∷ getD k 2 0 ∷ getD k 3 0
+    ∷ getD m 0 0 ∷ getD m 1 0 ∷ getD m 2 0 ∷ getD m 3 0 ∷ [] ≡ headOf x
 unfolding headOf fourBytes
-head-is x len a b c d e f g h k l qa qb qc qd qe qf qg qh qk = rw (qa, qb, qc, qd, qe, qf, qg, qh, qk, l)
+head-is x len a b c d e f g h k m l qa qb qc qd qe qf qg qh qk qm = rw (qa, qb, qc, qd, qe, qf, qg, qh, qk, qm, l)
 
 -- a state whose fields are those that the bytes say
-pub fields-are : (s : List ℕ) (number len session n t own : ℕ) (stage : Stage) (message : List ℕ) (l : ℕ) (root share : List ℕ) (held : ℕ)
+pub fields-are : (s : List ℕ) (number len session n t own : ℕ) (stage : Stage) (message : List ℕ) (l : ℕ) (root share : List ℕ) (held map : ℕ)
     → number ≡ stageTold s → len ≡ lengthTold s → session ≡ sessionTold s → n ≡ getD s 1 0 → t ≡ getD s 2 0 → own ≡ getD s 3 0 → stage ≡ stageOf number len
     → message ≡ take maxMessage (drop headLength s) → l ≡ cond (eqb number 5) 0 len → root ≡ take 32 (drop rootPlace s)
-    → share ≡ take maxShare (drop (headLength + maxMessage) s) → held ≡ heldTold s
+    → share ≡ take maxShare (drop (headLength + maxMessage) s) → held ≡ heldTold s → map ≡ faultyTold s
     → _≡_ {A = Party} (record {
       seat = seatOf session n t own;
       stage = stage;
@@ -137,10 +138,11 @@ pub fields-are : (s : List ℕ) (number len session n t own : ℕ) (stage : Stag
       root = root;
       share = share;
       held = held;
+      faulty = map;
     }) (readIn s)
 unfolding readIn
-fields-are s number len session n t own stage message l root share held qk ql qi qn qt qo qs qm qe qr qh qd =
-    rw (qi, qn, qt, qo, qs, qm, qe, qr, qh, qd, qk, ql)
+fields-are s number len session n t own stage message l root share held map qk ql qi qn qt qo qs qm qe qr qh qd qf =
+    rw (qi, qn, qt, qo, qs, qm, qe, qr, qh, qd, qf, qk, ql)
 
 -- the four parts of a state, written one behind the other
 behind : (s l r : List ℕ) (at : ℕ) → at ≡ 0 + length l → length l + length r ≤ length s

@@ -16,15 +16,18 @@ use Rattle.party.specs.declared.Party.{Party}
 
 -- the version of this layout: every change of it raises the number
 abbrev pub layoutVersion : ℕ
-layoutVersion = 3
+layoutVersion = 4
 
--- the version, n, t, the own number and the stage in a byte each, two lengths of two bytes, and the session's number in four; then the agreed root, the
--- message and the relayed share
+-- the version, n, t, the own number and the stage in a byte each, two lengths of two bytes, and in four each the session's number and the map of parties
+-- seen to be faulty; then the agreed root, the message and the relayed share
 abbrev pub sessionPlace : ℕ
 sessionPlace = 9
 
+abbrev pub faultyPlace : ℕ
+faultyPlace = sessionPlace + 4
+
 abbrev pub rootPlace : ℕ
-rootPlace = sessionPlace + 4
+rootPlace = faultyPlace + 4
 
 abbrev pub headLength : ℕ
 headLength = rootPlace + 32
@@ -58,7 +61,7 @@ pair k = k / 256 % 256 ∷ k % 256 ∷ []
 unfoldable pub headOf : Party → List ℕ
 headOf x =
     layoutVersion ∷ x .seat .n % 256 ∷ x .seat .t % 256 ∷ x .seat .own % 256 ∷ stageNumber (x .stage)
-    ∷ (pair (lengthFor (x .stage) (x .len)) ++ (pair (x .held) ++ fourBytes (x .seat .session)))
+    ∷ (pair (lengthFor (x .stage) (x .len)) ++ (pair (x .held) ++ (fourBytes (x .seat .session) ++ fourBytes (x .faulty))))
 
 unfoldable pub stateBytes : Party → List ℕ
 stateBytes x = headOf x ++ (x .root ++ (x .message ++ x .share))
@@ -90,6 +93,9 @@ heldTold s = size (drop 7 s)
 abbrev pub sessionTold : List ℕ → ℕ
 sessionTold s = number (drop sessionPlace s) % 2 ^ 32
 
+abbrev pub faultyTold : List ℕ → ℕ
+faultyTold s = number (drop faultyPlace s) % 2 ^ 32
+
 -- a state read from bytes as it is written
 unfoldable pub readIn : List ℕ → Party
 readIn s =
@@ -101,6 +107,7 @@ readIn s =
       root = take 32 (drop rootPlace s);
       share = take maxShare (drop (headLength + maxMessage) s);
       held = heldTold s;
+      faulty = faultyTold s;
     }
 
 -- what bytes say as a state. Too few bytes, another version of the layout, or a number of no stage, are the blank state: n is 0 there, so that

@@ -17,12 +17,14 @@ use party::Party;
 use party::Stage;
 
 // The version of the layout, with which a state's bytes begin.
-const VERSION: u8 = 3;
+const VERSION: u8 = 4;
 
-// Where the session's number stands, and behind it, as the last number, where the agreed root begins.
+// Where the session's number stands, behind it the map of parties seen to be faulty, and behind that, as the last number, where the agreed root begins.
 const SESSION: usize = 9;
 
-const ROOT: usize = SESSION + 4;
+const FAULTY: usize = SESSION + 4;
+
+const ROOT: usize = FAULTY + 4;
 
 // Where the message begins.
 const HEAD: usize = ROOT + 32;
@@ -109,6 +111,7 @@ fn read_fields(bytes: &[u8]) -> Party
         root: root_in(bytes),
         share: share_in(bytes),
         held: buffer::size_at(bytes, 7),
+        faulty: buffer::number_at(bytes, FAULTY),
     }
 }
 
@@ -176,6 +179,7 @@ fn head_of(x: Party) -> [u8; ROOT]
     let len = length_for(stage, x.len);
     let held = x.held;
     let session = buffer::four_bytes(x.seat.session);
+    let faulty = buffer::four_bytes(x.faulty);
     [
         VERSION,
         low(x.seat.n),
@@ -190,6 +194,10 @@ fn head_of(x: Party) -> [u8; ROOT]
         session[1],
         session[2],
         session[3],
+        faulty[0],
+        faulty[1],
+        faulty[2],
+        faulty[3],
     ]
 }
 

@@ -56,14 +56,19 @@ share-in-requires c κs = search needs
 size-at-requires-2 : tie.Need-size-at-requires-2
 size-at-requires-2 c κs = search needs
 
+number-at-requires-2 : tie.Need-number-at-requires-2
+number-at-requires-2 c κs = search needs
+
 -- a number that four bytes say is below two to the 32
+told : (k m : ℕ) → k < 2 ^ 32 → k ≡ m → k ≡ m % 2 ^ 32
+told k m small e = sym (mod-eq-of-lt small) ∙ ap (λ (i : ℕ). i % 2 ^ 32) e
+
 session : (q : tie.After-number-at) → q .number-at .result ≡ sessionTold (q .before .before .before .before .before .args .bytes .now)
-session q =
-    let small : q .number-at .result < 2 ^ 32 = search needs in
-    sym (mod-eq-of-lt small) ∙ ap (λ (i : ℕ). i % 2 ^ 32) (q .number-at .ensures)
+session q = told _ _ (search needs) (q .number-at .ensures)
 
 returns : tie.Need-returns
-returns c = let y = c .before in
+returns c = let w = c .before in
+    let y = w .before in
     let z = y .before in
     let l = z .before in
     let m = l .before in
@@ -75,9 +80,10 @@ returns c = let y = c .before in
     let k = q .before in
     let i = k .before in
     let st = i .before .before .before in
-    fields-are (st .args .bytes .now) (i .wide .result) (k .size-at .result) _ _ _ _ _ _ _ _ _ _ (i .wide .ensures .0) (k .size-at .ensures)
+    fields-are (st .args .bytes .now) (i .wide .result) (k .size-at .result) _ _ _ _ _ _ _ _ _ _ _ (i .wide .ensures .0) (k .size-at .ensures)
     (session q) (n .wide2 .ensures .0) (t .wide3 .ensures .0) (o .wide4 .ensures .0) (g .stage-of .ensures) (m .message-in .ensures)
-    (l .length-of .ensures) (z .root-in .ensures) (y .share-in .ensures) (c .size-at2 .ensures)
+    (l .length-of .ensures) (z .root-in .ensures) (y .share-in .ensures) (w .size-at2 .ensures)
+    (told _ _ (search needs) (c .number-at2 .ensures))
 
 pub read-fields-spec : {M : Type 1} → statement M
 read-fields-spec =
@@ -99,4 +105,5 @@ read-fields-spec =
     root-in-requires
     share-in-requires
     size-at-requires-2
+    number-at-requires-2
     returns)
