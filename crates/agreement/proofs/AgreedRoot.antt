@@ -31,14 +31,14 @@ use Rattle.commitment.proofs.Messages.{rebuilds}
 use Rattle.commitment.proofs.Binding.{valid-share, one-root, no-collision}
 use Rattle.commitment.proofs.Rebuild.{Short, short-recovered}
 use Rattle.party.specs.State.{seatOf, Result, nothing, settled, messageIn, resultIn, hasEnded, happy}
-use Rattle.party.specs.Steps.{Stepped, recoveredBy, rebuilt, resultFound, heldOr, resultOf, relaysCause, ending, takeRelaysOf}
+use Rattle.party.specs.Steps.{Stepped, recoveredBy, rebuilt, resultFound, heldOr, resultOf, faultyOf, relaysCause, ending, takeRelaysOf}
 use Rattle.party.specs.declared.Party.{Party}
 use Rattle.commitment.specs.declared.Seat.{Seat}
 use Rattle.party.proofs.Outcomes.{holds-not, found-rebuilt}
 use Rattle.party.proofs.Ways.{Way, on, off, way, clash}
 use Rattle.agreement.specs.Calls.{Call, agreeRoot, agreeBit, takeShares, takeRelays, stepOf, inboxIn, Event, accepted, stringsOver, made, events, recodedIn}
-use Rattle.agreement.specs.Calls.{opening, did, firstOf, resultAfter, openedAndChecked, recoded, hashed}
-use Rattle.agreement.specs.Agreement.{Good, joinOver, allOpenedAndChecked, allHashed, Clean, Premises}
+use Rattle.agreement.specs.Calls.{opening, did, firstOf, resultAfter, openedAndChecked, recoded, settling}
+use Rattle.agreement.specs.Agreement.{Good, joinOver, allOpenedAndChecked, allSettling, Clean, Premises}
 use Rattle.agreement.specs.AgreedRoot.{foundUnchecked, takeRelaysUnchecked, madeUnchecked, eventsUnchecked}
 use Rattle.agreement.specs.AgreedRoot.{EndsWith, EndsUnderItsRoot, Told, Somebodys, NoInventedMessage, NoStringMore, NoOtherEnding}
 use Rattle.agreement.proofs.Lists.{same-some, in-join, first-in}
@@ -80,13 +80,13 @@ collision-in H f k =
     }
 
 -- what step 5 gives where its result is a message
-ending-settled : (x : Party) (r : Result) (out m : List ℕ) → ending x r out .result ≡ some (settled m) → r ≡ settled m
-ending-settled x nothing out m e = same-some e
-ending-settled x (settled o) out m e = go (way (ltb (length out) (length o)))
+ending-settled : (x : Party) (r : Result) (f : ℕ) (out m : List ℕ) → ending x r f out .result ≡ some (settled m) → r ≡ settled m
+ending-settled x nothing f out m e = same-some e
+ending-settled x (settled o) f out m e = go (way (ltb (length out) (length o)))
   where
     go : Way (ltb (length out) (length o)) → settled o ≡ settled m
-    go (on f) = absurd (Option·none-ne-some (settled m) (rw f at e))
-    go (off f) = ap settled (sym (take-spliced out o)) ∙ same-some (rw f at e)
+    go (on w) = absurd (Option·none-ne-some (settled m) (rw w at e))
+    go (off w) = ap settled (sym (take-spliced out o)) ∙ same-some (rw w at e)
 
 -- a string of several lists is one of one of them, and a string of several calls one of one call
 of-some : {A : Type 0} (f : A → List (List ℕ)) (s : List ℕ) (l : List A) → List·Memᴰ s (joinOver f l) → (a : A) × List·Memᴰ a l × List·Memᴰ s (f a)
@@ -117,7 +117,7 @@ module _ (H : List ℕ → List ℕ) where
   given-settled x inbox out m e = go (way (eqb (relaysCause x inbox) 0))
     where
       go : Way (eqb (relaysCause x inbox) 0) → resultOf H x inbox ≡ settled m
-      go (on q) = ending-settled x (resultOf H x inbox) out m (rw q at e)
+      go (on q) = ending-settled x (resultOf H x inbox) (faultyOf H x inbox) out m (rw q at e)
       go (off q) = absurd (Option·none-ne-some (settled m) (rw q at e))
 
   -- what is rebuilt under a root has it
@@ -207,7 +207,7 @@ module _ (H : List ℕ → List ℕ) where
       go : Way (eqb (relaysCause x inbox) 0) → (o : Option Result) → resultIn x ≡ o → takeRelaysUnchecked H x inbox out ≡ made H x (takeRelays inbox out)
       go (off q) o e = rw q
       go (on q) (some r) e = rw (q, e)
-      go (on q) none e = rw (q, e) (ap (λ (r : Result). ending x r out) (found-same x inbox out q e d))
+      go (on q) none e = rw (q, e) (ap (λ (r : Result). ending x r (faultyOf H x inbox) out) (found-same x inbox out q e d))
 
   lists-same : (x : Party) (cs : List Call) → ((e : Event) → List·Memᴰ e (accepted (events H x cs)) → Differs (e .before) (e .call) → ⊥)
       → eventsUnchecked H x cs ≡ events H x cs
@@ -460,7 +460,7 @@ module _ (H : List ℕ → List ℕ) (wide : (s : List ℕ) → length (H s) ≡
 
   pub no-string-more : NoStringMore H
   no-string-more session n t good z bit T clean s h =
-      let r = of-some (λ (A : Good). hashed H session n t (A .own) (A .message) (A .calls)) s good h in
+      let r = of-some (λ (A : Good). settling H session n t (A .own) (A .message) (A .calls)) s good h in
       go (r .0) (r .1) (List·Memᴰ·append-cases (openedAndChecked H session n t (r .0 .own) (r .0 .message) (r .0 .calls)) (r .2))
     where
       go : (A : Good) → List·Memᴰ A good
@@ -484,9 +484,9 @@ premises-tell H session n t good z bit P =
       vote = P .ruled .vote;
     }
 
--- so no two different strings of all that good parties hashed have one hash, where none of openings and path checks do
+-- so no two different strings of all that settle good parties' results have one hash, where none of openings and path checks do
 pub all-clean : (H : List ℕ → List ℕ) → ((s : List ℕ) → length (H s) ≡ 32) → (session n t : ℕ) (good : List Good) (z : List ℕ) (bit : ℕ) → Premises H session n t good z bit
-    → (x y : List ℕ) → List·Memᴰ x (allHashed H session n t good) → List·Memᴰ y (allHashed H session n t good) → H x ≡ H y → x ≡ y
+    → (x y : List ℕ) → List·Memᴰ x (allSettling H session n t good) → List·Memᴰ y (allSettling H session n t good) → H x ≡ H y → x ≡ y
 all-clean H wide session n t good z bit P x y h k =
     let covered = no-string-more H wide session n t good z bit (premises-tell H session n t good z bit P) (P .clean) in
     P .clean x y (covered x h) (covered y k)

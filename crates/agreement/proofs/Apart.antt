@@ -10,6 +10,7 @@ use Rattle.limits.specs.Limits.{parties, numbered, groupCause}
 use Rattle.buffer.specs.Splice.{spliced, tabulate}
 use Rattle.buffer.specs.Numbers.{fourBytes}
 use Rattle.buffer.specs.Entries.{size, body, rest, fills, bodies}
+use Rattle.bitmap.specs.Bitmap.{mapOf}
 use Rattle.gf256.specs.Field.{timesX, productOf, product, power, inverse}
 use Rattle.polynomial.specs.Polynomial.{sum, pow, value, factor, unit, numerator, denominator, basis, through}
 use Rattle.erasure.specs.Coding.{shareLength, headed, frame, block, shareByte, shareOf, share, shares}
@@ -23,8 +24,8 @@ use Rattle.packet.specs.Inbox.{inboxOf}
 use Rattle.packet.specs.Class.{faulty, classOf, classStrings}
 use Rattle.party.specs.State.{nothing, settled, atRoot, atBit, atFirst, atSecond, atEnd, blankState, broken, messageRoot, happy}
 use Rattle.party.specs.Steps.{stateCause, openCause, openOf, rootCause, agreeRootOf, packetFor, bitCause, outboxOf, agreeBitOf, inboxCause, firstValid}
-use Rattle.party.specs.Steps.{relayOf, heldOf, takeSharesOf, gathered, resultFound, resultOf, relaysCause, takeRelaysOf}
-use Rattle.party.specs.Strings.{shareStrings, relayStrings}
+use Rattle.party.specs.Steps.{sentFaulty, faultyShares, faultyRelays, faultyOf, relayOf, heldOf, takeSharesOf, gathered, resultFound, resultOf, relaysCause, takeRelaysOf}
+use Rattle.party.specs.Strings.{judgedStrings, shareStrings}
 use Rattle.agreement.specs.Calls.{Call, Event, accepted, first, entry, made, events, final}
 use Rattle.agreement.specs.Calls.{stringsOver, checkedIn, did, openedAndChecked, heard, packetTo, wrote, bitGiven, firstOf, resultAfter}
 use Rattle.agreement.proofs.Instances.{mix, digest, toy, cleanOf, clean, there, M, rootUnder, packetUnder, room, calls}
@@ -55,7 +56,7 @@ pub record Computed : Type 0 where
   -- each got what the other sent
   pub shares-given : (heard 3 1 (first2 4) ≡ packetTo 3 2 (first1 3)) × (heard 3 2 (first1 4) ≡ packetTo 3 1 (first2 3))
   pub relays-given : (heard 3 1 (first2 5) ≡ wrote (first1 4)) × (heard 3 2 (first1 5) ≡ wrote (first2 4))
-  -- no two different strings that they hashed have one hash
+  -- no two different strings of their openings and path checks have one hash
   pub no-collision : clean strings strings ≡ true
   -- under its own number nothing that party 1 sent passes at party 2
   pub not-passing : (classOf toy 8 3 2 (rootUnder 7) (packetUnder 7 2) ≡ faulty) × (classOf toy 8 3 1 (rootUnder 7) (packetUnder 7 1) ≡ faulty)
@@ -64,7 +65,7 @@ pub record Computed : Type 0 where
   pub ends2 : resultAfter toy 8 3 1 2 M calls2 ≡ some nothing
 
 pub computed : Computed
-unfolding size body rest fills bodies spliced tabulate parties numbered groupCause timesX productOf product power inverse sum pow value factor unit numerator denominator basis through shareLength headed frame block shareByte shareOf share shares present point framed other unframed joined recovered splitFrom split shapeOf shape leaves nodeString sides beside root path folded treeStrings foldStrings checkStrings topHash pathHashes fourBytes sessionBytes leafString frontLength leafStrings sharesCause same leavesOf rootOf pathOf passes codingStrings stringsOf chained hashes packetOf entryOf shareIn readOf inboxOf classOf classStrings atRoot atBit atFirst atSecond atEnd blankState broken messageRoot happy stateCause openCause openOf rootCause agreeRootOf packetFor bitCause outboxOf agreeBitOf inboxCause firstValid relayOf heldOf takeSharesOf gathered resultFound resultOf relaysCause takeRelaysOf accepted first entry made events final shareStrings relayStrings checkedIn stringsOver did openedAndChecked clean cleanOf there mix digest
+unfolding size body rest fills bodies spliced tabulate parties numbered groupCause timesX productOf product power inverse sum pow value factor unit numerator denominator basis through shareLength headed frame block shareByte shareOf share shares present point framed other unframed joined recovered splitFrom split shapeOf shape leaves nodeString sides beside root path folded treeStrings foldStrings checkStrings topHash pathHashes fourBytes sessionBytes leafString frontLength leafStrings sharesCause same leavesOf rootOf pathOf passes codingStrings stringsOf chained hashes packetOf entryOf shareIn readOf inboxOf classOf classStrings atRoot atBit atFirst atSecond atEnd blankState broken messageRoot happy stateCause openCause openOf rootCause agreeRootOf packetFor bitCause outboxOf agreeBitOf inboxCause firstValid mapOf sentFaulty faultyShares faultyRelays faultyOf relayOf heldOf takeSharesOf gathered resultFound resultOf relaysCause takeRelaysOf accepted first entry made events final shareStrings judgedStrings checkedIn stringsOver did openedAndChecked clean cleanOf there mix digest
 computed = record {
   roots = refl;
   accepted1 = refl;

@@ -27,7 +27,7 @@ use Rattle.packet.proofs.Class.{passing, rewritten}
 use Rattle.commitment.specs.Commitment.{messageRoot, packetsWith, relayWith}
 use Rattle.commitment.specs.Rebuild.{underRoot, recodedStrings}
 use Rattle.party.specs.State.{seatOf, Result, nothing, settled, shareHeld, atBit, atFirst, atSecond, happy}
-use Rattle.party.specs.Steps.{packetFor, outboxOf, Taken, missing, found, shareTaken, packetTaken, firstValid, relayOf, heldOf}
+use Rattle.party.specs.Steps.{packetFor, outboxOf, Taken, missing, found, shareTaken, packetTaken, firstValid, faultyShares, relayOf, heldOf}
 use Rattle.party.specs.Steps.{shareFrom, gathered, rebuilt, recoveredBy, resultFound, resultOf}
 use Rattle.party.specs.Strings.{shareStrings}
 use Rattle.party.specs.declared.Party.{Party}
@@ -101,9 +101,9 @@ module _ (H : List ℕ → List ℕ) (session n t i : ℕ) (m z : List ℕ) wher
   unfolding happy atFirst
   happy-first = ap (λ (b : List ℕ). same (messageRoot H session n t b) z) (message-first (seatOf session n t i) m z)
 
-  happy-second : (x : List ℕ) → happy H (atSecond (seatOf session n t i) m z x) ≡ glad H session n t m z
+  happy-second : (x : List ℕ) (f : ℕ) → happy H (atSecond (seatOf session n t i) m z x f) ≡ glad H session n t m z
   unfolding happy atSecond
-  happy-second x = ap (λ (b : List ℕ). same (messageRoot H session n t b) z) (message-second (seatOf session n t i) m z x)
+  happy-second x f = ap (λ (b : List ℕ). same (messageRoot H session n t b) z) (message-second (seatOf session n t i) m z x f)
 
   -- what lies in its outbox
   bodies-of : (ps : List (List ℕ)) → length ps ≡ n → bodies n (inboxOf ps) ≡ ps
@@ -131,9 +131,9 @@ module _ (H : List ℕ → List ℕ) (session n t i : ℕ) (m z : List ℕ) wher
   unfolding relayOf packetFor atFirst
   relay-happy e inbox = rw (happy-first ∙ e) (ap (λ (b : List ℕ). relayWith H session n t i b) (message-first (seatOf session n t i) m z))
 
-  result-happy : glad H session n t m z ≡ true → (x inbox : List ℕ) → resultOf H (atSecond (seatOf session n t i) m z x) inbox ≡ settled m
+  result-happy : glad H session n t m z ≡ true → (x : List ℕ) (f : ℕ) (inbox : List ℕ) → resultOf H (atSecond (seatOf session n t i) m z x f) inbox ≡ settled m
   unfolding resultOf resultFound atSecond
-  result-happy e x inbox = rw (happy-second x ∙ e) (ap settled (message-second (seatOf session n t i) m z x))
+  result-happy e x f inbox = rw (happy-second x f ∙ e) (ap settled (message-second (seatOf session n t i) m z x f))
 
   -- an unhappy party: what it takes from the first inbox, relays and keeps
   module _ (u : glad H session n t m z ≡ false) (in4 : List ℕ) where
@@ -141,7 +141,7 @@ module _ (H : List ℕ → List ℕ) (session n t i : ℕ) (m z : List ℕ) wher
     it = firstValid H session n i z 1 (bodies n in4)
 
     abbrev X3 : Party
-    X3 = atSecond (seatOf session n t i) m z (heldOf H X2 in4)
+    X3 = atSecond (seatOf session n t i) m z (heldOf H X2 in4) (faultyShares H X2 in4)
 
     relay-is : relayOf H X2 in4 ≡ packetTaken X2 it
     unfolding relayOf atFirst
@@ -221,7 +221,7 @@ module _ (H : List ℕ → List ℕ) (session n t i : ℕ) (m z : List ℕ) wher
               → cond (eqb (1 + k) i) (shareHeld X3) (shareFrom (classOf H session n (1 + k) z (getD (bodies n in5) k [])))
               ≡ shareFrom (classOf H session n (1 + k) z (has (1 + k)))
           go (on e) =
-              rw e (share-second (seatOf session n t i) m z (heldOf H X2 in4) ∙ relay-held
+              rw e (share-second (seatOf session n t i) m z (heldOf H X2 in4) (faultyShares H X2 in4) ∙ relay-held
               ∙ ap (λ (j : ℕ). shareFrom (classOf H session n j z (relayOf H X2 in4))) (sym (eqb-true (1 + k) i e)))
           go (off e) = rw (e, entry-at k)
 
@@ -239,11 +239,11 @@ module _ (H : List ℕ → List ℕ) (session n t i : ℕ) (m z : List ℕ) wher
 
       result-unhappy : resultOf H X3 in5 ≡ rebuilt (underRoot H session n t z (recovered (n - t) (present 1 All)))
       unfolding resultOf resultFound atSecond
-      result-unhappy = rw (happy-second (heldOf H X2 in4) ∙ u) (ap (λ (a : Recovered). rebuilt (underRoot H session n t z a)) recovered-is)
+      result-unhappy = rw (happy-second (heldOf H X2 in4) (faultyShares H X2 in4) ∙ u) (ap (λ (a : Recovered). rebuilt (underRoot H session n t z a)) recovered-is)
 
       recoded-is : recodedIn H X3 (takeRelays in5 []) ≡ recodedStrings H session n t (recovered (n - t) (present 1 All))
       unfolding recodedIn atSecond
-      recoded-is = rw (happy-second (heldOf H X2 in4) ∙ u) (ap (recodedStrings H session n t) recovered-is)
+      recoded-is = rw (happy-second (heldOf H X2 in4) (faultyShares H X2 in4) ∙ u) (ap (recodedStrings H session n t) recovered-is)
 
       heard-strings : (j : ℕ) → j ≢ i → (x : List ℕ) (p : List (List ℕ)) → classOf H session n j z (entry n j in5) ≡ valid x p → (s : List ℕ)
           → List·Memᴰ s (classStrings H session n j (entry n j in5)) → List·Memᴰ s (checkedIn H X3 (takeRelays in5 []))
@@ -252,7 +252,7 @@ module _ (H : List ℕ → List ℕ) (session n t i : ℕ) (m z : List ℕ) wher
           let w : List ℕ = getD (bodies n in5) (j - 1) [] in
           let f = fields-of n w j x p (passing H session n j z w x p v .reads) in
           let e : 1 + (j - 1) ≡ j = omega (arith, f .low) in
-          rw (happy-second (heldOf H X2 in4) ∙ u)
+          rw (happy-second (heldOf H X2 in4) (faultyShares H X2 in4) ∙ u)
           (in-relays H session n i 1 (bodies n in5) (j - 1) (omega (arith, f .low, f .high, length-bodies n in5)) (λ q. d (sym e ∙ q)) s
           (subst (λ (k : ℕ). List·Memᴰ s (classStrings H session n k w)) (sym e) h))
 
@@ -280,13 +280,13 @@ module _ (H : List ℕ → List ℕ) (session n t i : ℕ) (m z : List ℕ) wher
     unfolding atSecond
     conduct =
         record {
-          result = resultOf H (atSecond (seatOf session n t i) m z (heldOf H X2 (r .in4))) (r .in5);
+          result = resultOf H (atSecond (seatOf session n t i) m z (heldOf H X2 (r .in4)) (faultyShares H X2 (r .in4))) (r .in5);
           ends = r .ends;
           sends = rw (r .packets, r .relayed) (r .sends);
           hashes = hashes;
           outbox = λ e. ap (bodies n) (r .packets) ∙ out-happy e;
           relay = λ e. r .relayed ∙ relay-happy e (r .in4);
-          keeps = λ e. result-happy e (heldOf H X2 (r .in4)) (r .in5);
+          keeps = λ e. result-happy e (heldOf H X2 (r .in4)) (faultyShares H X2 (r .in4)) (r .in5);
           quiet = λ u. ap (bodies n) (r .packets) ∙ out-unhappy u;
           relays = λ u j first last d x p v. rw (r .relayed) (relays-one u (r .in4) j first last d x p (rw (r .heard4 j) at v));
           rebuilds = λ u. result-unhappy u (r .in4) (r .in5)
@@ -296,7 +296,7 @@ module _ (H : List ℕ → List ℕ) (session n t i : ℕ) (m z : List ℕ) wher
           last-call = λ e f. let k = r .last-call e f in (
             ap (λ (x : Party). x .seat) (k .0),
             ap (λ (x : Party). x .root) (k .0),
-            ap (happy H) (k .0) ∙ happy-second (heldOf H X2 (r .in4)),
+            ap (happy H) (k .0) ∙ happy-second (heldOf H X2 (r .in4)) (faultyShares H X2 (r .in4)),
             λ u. ap₂ (recoveredBy H) (k .0) (k .1) ∙ recovered-is u (r .in4) (r .in5)
                 ∙ ap (λ (l : List (List ℕ)). recovered (n - t) (present 1 l)) shares-is,
           );

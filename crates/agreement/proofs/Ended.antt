@@ -13,7 +13,7 @@ use lib.Dec.{eqb}
 use lib.ListN.{length}
 use Rattle.limits.specs.Limits.{parties, groupCause}
 use Rattle.party.specs.State.{Result, nothing, seatOf, atRoot, atBit, atFirst, atSecond, atEnd, blankState, broken, resultIn, hasEnded}
-use Rattle.party.specs.Steps.{turnOf, openCause, heldOf}
+use Rattle.party.specs.Steps.{turnOf, openCause}
 use Rattle.party.specs.declared.Party.{Party}
 use Rattle.party.specs.declared.Opened.{Opened}
 use Rattle.party.proofs.Kept.{result-end}
@@ -23,7 +23,7 @@ use Rattle.agreement.specs.Calls.{Call, agreeRoot, agreeBit, takeShares,
 use Rattle.agreement.specs.Calls.{opening, did, firstOf, resultAfter}
 use Rattle.agreement.proofs.Lists.{same-some, first-in}
 use Rattle.agreement.proofs.Run.{did2, did4, unbroken, Chain, chain, leads, still, gave}
-use Rattle.agreement.proofs.Ran.{is-second, is-third, is-fourth, accepted-at, advance, turn-of, reply2, reply4, is2, is4, Ran, ev2, ev3}
+use Rattle.agreement.proofs.Ran.{is-second, is-third, is-fourth, accepted-at, advance, turn-of, X3, reply2, reply4, is2, is4, Ran, ev2, ev3}
 use Rattle.agreement.proofs.Ran.{fin, did-chain, ends-is, begun, ran-none, ran-through}
 
 -- a state that has not ended holds no result
@@ -184,7 +184,7 @@ module _ (H : List ℕ → List ℕ) where
               let y4 = accepted-at H 4 X2 end (b .0) (g4 .0) (takeShares (c4 .0) (c4 .1)) refl (b .3) (g4 .1) (c4 .2) in
               let a = advance H 4 X2 end (b .0) (g4 .0) (takeShares (c4 .0) (c4 .1)) (reply4 H session n t i m z (c4 .0) (c4 .1)) refl (b .3) (g4 .1) (c4 .2)
               (did4 H X2 (c4 .0) (c4 .1) y4 .1 ∙ is4 H session n t i m z (c4 .0) (c4 .1)) in
-              let g5 = goes-on 5 (atSecond (seatOf session n t i) m z (heldOf H X2 (c4 .0))) end (a .0) R refl refl (a .2) holds in
+              let g5 = goes-on 5 (X3 H session n t i m z (c4 .0)) end (a .0) R refl refl (a .2) holds in
               ran-through H session n t i m calls z o e2 e3 (g4 .0) (g5 .0) out f2 c2 f3 c3 (ap (first 4) (b .1) ∙ g4 .1)
               (ap (first 5) (b .1 ∙ ap (λ (l : List Event). ev2 H session n t i m z ∷ ev3 H session n t i m z 1 out ∷ l) (a .1)) ∙ g5 .1)
 
@@ -260,4 +260,4 @@ module _ (H : List ℕ → List ℕ) where
             (w .told ∙ ap (λ (k : ℕ). agreeBit k (w .out)) (q .0)) in
             let k = first-in 5 (b .0) e (sym (ap (first 5) (b .1)) ∙ five-is) in
             absurd (Option·none-ne-some nothing (sym waits
-            ∙ later-holds (atEnd (seatOf session n t i) nothing) (fin H session n t i m calls o) (b .0) nothing (result-end (seatOf session n t i) nothing) (b .3) e (k .0)))
+            ∙ later-holds (atEnd (seatOf session n t i) nothing 0) (fin H session n t i m calls o) (b .0) nothing (result-end (seatOf session n t i) nothing 0) (b .3) e (k .0)))

@@ -16,6 +16,7 @@ use Rattle.buffer.specs.Bounds.{Bytes}
 use Rattle.buffer.specs.Splice.{spliced, tabulate}
 use Rattle.buffer.specs.Numbers.{fourBytes}
 use Rattle.buffer.specs.Entries.{size, body, rest, fills, bodies}
+use Rattle.bitmap.specs.Bitmap.{mapOf}
 use Rattle.gf256.specs.Field.{timesX, productOf, product, power, inverse}
 use Rattle.polynomial.specs.Polynomial.{sum, pow, value, factor, unit, numerator, denominator, basis, through}
 use Rattle.erasure.specs.Coding.{shareLength, headed, frame, block, shareByte, shareOf, share, shares}
@@ -30,11 +31,11 @@ use Rattle.packet.specs.Inbox.{inboxOf}
 use Rattle.packet.specs.Class.{classOf, classStrings}
 use Rattle.party.specs.State.{seatOf, Result, nothing, settled, atRoot, atBit, atFirst, atSecond, atEnd, blankState, broken, messageRoot, happy}
 use Rattle.party.specs.Steps.{stateCause, openCause, openOf, rootCause, agreeRootOf, packetFor, bitCause, outboxOf, agreeBitOf, inboxCause, firstValid}
-use Rattle.party.specs.Steps.{shareFrom, relayOf, heldOf, takeSharesOf, gathered, resultFound, resultOf, relaysCause, takeRelaysOf}
+use Rattle.party.specs.Steps.{shareFrom, sentFaulty, faultyShares, faultyRelays, faultyOf, relayOf, heldOf, takeSharesOf, gathered, resultFound, resultOf, relaysCause, takeRelaysOf}
 use Rattle.party.specs.declared.Answer.the-variants as answer
-use Rattle.party.specs.Strings.{shareStrings, relayStrings}
+use Rattle.party.specs.Strings.{judgedStrings, shareStrings}
 use Rattle.agreement.specs.Calls.{Call, agreeRoot, agreeBit, takeShares, takeRelays, Event, accepted, first, entry, lengths, sentOver, made, events, final}
-use Rattle.agreement.specs.Calls.{stringsOver, checkedIn, recodedIn, did, openedAndChecked, recoded, hashed, sentBy, bitGiven, opening, resultAfter}
+use Rattle.agreement.specs.Calls.{stringsOver, checkedIn, judgedIn, recodedIn, did, openedAndChecked, judged, recoded, hashed, sentBy, bitGiven, opening, resultAfter}
 use Rattle.agreement.specs.Agreement.{Good, owns, among, different, absent, sumOver, joinOver, step, Rule, allHashed}
 use Rattle.agreement.proofs.Lists.{same-some}
 use Rattle.agreement.specs.AgreedRoot.{foundUnchecked, takeRelaysUnchecked, madeUnchecked, eventsUnchecked, EndsWith, Told, Somebodys}
@@ -152,7 +153,7 @@ pub record Computed : Type 0 where
       ≡ (0, none) ∷ (0, none) ∷ (0, none) ∷ (0, some nothing) ∷ (0, some nothing) ∷ []
 
 pub computed : Computed
-unfolding size body rest fills bodies spliced tabulate parties numbered groupCause timesX productOf product power inverse sum pow value factor unit numerator denominator basis through shareLength headed frame block shareByte shareOf share shares present point framed other unframed joined recovered splitFrom split shapeOf shape leaves nodeString sides beside root path folded treeStrings foldStrings checkStrings topHash pathHashes fourBytes sessionBytes leafString frontLength leafStrings sharesCause same leavesOf rootOf pathOf passes codingStrings stringsOf chained hashes packetOf entryOf shareIn readOf inboxOf classOf classStrings atRoot atBit atFirst atSecond atEnd blankState broken messageRoot happy stateCause openCause openOf rootCause agreeRootOf packetFor bitCause outboxOf agreeBitOf inboxCause firstValid relayOf heldOf takeSharesOf gathered resultFound resultOf relaysCause takeRelaysOf accepted first entry lengths sentOver made events final shareStrings relayStrings checkedIn stringsOver recodedIn did openedAndChecked recoded sentBy among different absent sumOver joinOver there mix digest foundUnchecked takeRelaysUnchecked madeUnchecked eventsUnchecked clean cleanOf bent
+unfolding size body rest fills bodies spliced tabulate parties numbered groupCause timesX productOf product power inverse sum pow value factor unit numerator denominator basis through shareLength headed frame block shareByte shareOf share shares present point framed other unframed joined recovered splitFrom split shapeOf shape leaves nodeString sides beside root path folded treeStrings foldStrings checkStrings topHash pathHashes fourBytes sessionBytes leafString frontLength leafStrings sharesCause same leavesOf rootOf pathOf passes codingStrings stringsOf chained hashes packetOf entryOf shareIn readOf inboxOf classOf classStrings atRoot atBit atFirst atSecond atEnd blankState broken messageRoot happy stateCause openCause openOf rootCause agreeRootOf packetFor bitCause outboxOf agreeBitOf inboxCause firstValid mapOf sentFaulty faultyShares faultyRelays faultyOf relayOf heldOf takeSharesOf gathered resultFound resultOf relaysCause takeRelaysOf accepted first entry lengths sentOver made events final shareStrings judgedStrings checkedIn stringsOver judgedIn recodedIn did openedAndChecked judged recoded sentBy among different absent sumOver joinOver there mix digest foundUnchecked takeRelaysUnchecked madeUnchecked eventsUnchecked clean cleanOf bent
 computed = record {
   liars = refl;
   passing = refl;

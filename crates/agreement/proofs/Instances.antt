@@ -17,6 +17,7 @@ use Rattle.buffer.specs.Bounds.{Bytes}
 use Rattle.buffer.specs.Splice.{spliced, tabulate}
 use Rattle.buffer.specs.Numbers.{fourBytes}
 use Rattle.buffer.specs.Entries.{size, body, rest, fills, bodies}
+use Rattle.bitmap.specs.Bitmap.{mapOf}
 use Rattle.gf256.specs.Field.{timesX, productOf, product, power, inverse}
 use Rattle.polynomial.specs.Polynomial.{sum, pow, value, factor, unit, numerator, denominator, basis, through}
 use Rattle.erasure.specs.Coding.{shareLength, headed, frame, block, shareByte, shareOf, share, shares}
@@ -32,15 +33,16 @@ use Rattle.packet.specs.Inbox.{inboxOf}
 use Rattle.packet.specs.Class.{valid, faulty, classOf, classStrings}
 use Rattle.party.specs.State.{seatOf, padded, Result, nothing, settled, atRoot, atBit, atFirst, atSecond, atEnd, blankState, broken, messageRoot, happy}
 use Rattle.party.specs.Steps.{stateCause, openCause, openOf, rootCause, agreeRootOf, packetFor, bitCause, outboxOf, agreeBitOf, inboxCause, firstValid}
-use Rattle.party.specs.Steps.{gives, relayOf, heldOf, takeSharesOf, gathered, resultFound, resultOf, relaysCause, takeRelaysOf}
+use Rattle.party.specs.Steps.{gives, sentFaulty, faultyShares, faultyRelays, faultyOf, relayOf, heldOf, takeSharesOf, gathered, resultFound, resultOf, relaysCause, takeRelaysOf}
 use Rattle.party.specs.declared.Outcome.the-variants.{Message}
 use Rattle.party.specs.declared.Stage.the-variants.{Ended}
 use Rattle.party.specs.declared.Answer.the-variants as answer
 use Rattle.party.specs.declared.Party.{Party}
-use Rattle.party.specs.Strings.{shareStrings, relayStrings}
+use Rattle.party.specs.Strings.{judgedStrings, shareStrings}
 use Rattle.party.proofs.Ways.{Way, on, off, way, clash}
 use Rattle.agreement.specs.Calls.{Call, agreeRoot, agreeBit, takeShares, takeRelays, Event, accepted, first, entry, lengths, sentOver, made, events, final}
-use Rattle.agreement.specs.Calls.{stringsOver, checkedIn, recodedIn, did, openedAndChecked, recoded, hashed, sentBy, heard, packetTo, wrote, opening, resultAfter}
+use Rattle.agreement.specs.Calls.{stringsOver, checkedIn, judgedIn, recodedIn}
+use Rattle.agreement.specs.Calls.{did, openedAndChecked, judged, recoded, settling, hashed, sentBy, heard, packetTo, wrote, opening, resultAfter}
 use Rattle.agreement.specs.Agreement.{Good, among, different, absent, sumOver, joinOver, step, allOpenedAndChecked, Premises, sent, Conclusions}
 use Rattle.agreement.proofs.Lists.{same-some}
 use Rattle.agreement.proofs.Agreement.{agreement}
@@ -255,6 +257,7 @@ dirty = record {
   root = z;
   share = padded maxShare (9 ∷ []);
   held = 1;
+  faulty = 5;
 }
 
 -- what is computed
@@ -276,9 +279,9 @@ pub record Computed : Type 0 where
   pub readings : map (λ (e : Event). e .reply .result) (drop 3 (did toy 7 3 1 2 (0x43 ∷ []) (P2 .calls))) ≡ some (settled M) ∷ some (settled M) ∷ []
   pub read-buffers : map (λ (e : Event). e .reply .buffer) (drop 3 (did toy 7 3 1 2 (0x43 ∷ []) (P2 .calls)))
       ≡ spliced room 0 M ∷ spliced room 0 M ∷ []
-  pub short-reading : made toy (atEnd (seatOf 7 3 1 2) (settled M)) (takeRelays rubbish []) ≡ gives (atEnd (seatOf 7 3 1 2) (settled M)) (answer.Short 2) []
-  -- a dirty ended state, with a stale message, root and share and with bytes past its result, comes back clean
-  pub dirty-reading : made toy dirty (takeRelays rubbish room) .state ≡ atEnd (seatOf 7 3 1 2) (settled M)
+  pub short-reading : made toy (atEnd (seatOf 7 3 1 2) (settled M) 5) (takeRelays rubbish []) ≡ gives (atEnd (seatOf 7 3 1 2) (settled M) 5) (answer.Short 2) []
+  -- a dirty ended state, with a stale message, root and share and with bytes past its result, comes back clean, with its map
+  pub dirty-reading : made toy dirty (takeRelays rubbish room) .state ≡ atEnd (seatOf 7 3 1 2) (settled M) 5
   -- on bit 1 party 2 ends with M, though it opened with another message, and 356 bytes were sent
   pub party-2 : resultAfter toy 7 3 1 2 (0x43 ∷ []) (P2 .calls) ≡ some (settled M)
   pub sent-there : sent toy 7 3 1 good ≡ 356
@@ -289,19 +292,22 @@ pub record Computed : Type 0 where
   -- the bytes sent in the two plans
   pub same-books-sent : sent toy 0 3 1 same-books ≡ 496
   pub two-books-sent : sent toy 0 3 1 two-books ≡ 388
-  -- in the second, party 1, which is happy, hashes the five strings of its message's tree and no others; party 2 those of its own, three in each exchange, and
-  -- the five of the message that it rebuilt and coded again
-  pub first-hashes : length (hashed toy 0 3 1 1 (0x41 ∷ []) calls1) ≡ 5
+  -- in the second, party 1, which is happy, needs the five strings of its message's tree and no others, and hashes the three of party 2's relay for its map
+  -- alone; party 2 hashes those of its own, three in each exchange, and the five of the message that it rebuilt and coded again, and needs all
+  pub first-settling : length (settling toy 0 3 1 1 (0x41 ∷ []) calls1) ≡ 5
+  pub first-hashes : length (hashed toy 0 3 1 1 (0x41 ∷ []) calls1) ≡ 5 + 3
+  pub second-settling : length (settling toy 0 3 1 2 (0x42 ∷ []) calls2) ≡ 5 + 3 + 3 + 5
   pub second-hashes : length (hashed toy 0 3 1 2 (0x42 ∷ []) calls2) ≡ 5 + 3 + 3 + 5
-  -- refused calls hash nothing: of the first session party 2 hashes the five strings of its own message's tree, three of the share that it took, three of the
-  -- other session's relay and two of party 3's, and the five of the message that it coded again once, though it was handed its inboxes again and again and its result was
-  -- read again
-  pub refused-unhashed : length (hashed toy 7 3 1 2 (0x43 ∷ []) (P2 .calls)) ≡ 5 + 3 + 3 + 2 + 5
+  -- refused calls hash nothing: of the first session party 2 hashes the five strings of its own message's tree, three of the share that it took and three of the
+  -- next one that passed, which it does not need, three of the other session's relay and two of party 3's, and the five of the message that it coded again once,
+  -- though it was handed its inboxes again and again and its result was read again
+  pub refused-unsettling : length (settling toy 7 3 1 2 (0x43 ∷ []) (P2 .calls)) ≡ 5 + 3 + 3 + 2 + 5
+  pub refused-unhashed : length (hashed toy 7 3 1 2 (0x43 ∷ []) (P2 .calls)) ≡ 5 + (3 + 3) + 3 + 2 + 5
   pub idle-unhashed : length (hashed toy 7 3 1 2 (0x43 ∷ []) (Q2 .calls)) ≡ 5
   pub second-ends : resultAfter toy 0 3 1 2 (0x42 ∷ []) calls2 ≡ some (settled (0x41 ∷ []))
 
 pub computed : Computed
-unfolding size body rest fills bodies spliced tabulate parties numbered groupCause timesX productOf product power inverse sum pow value factor unit numerator denominator basis through shareLength headed frame block shareByte shareOf share shares present point framed other unframed joined recovered splitFrom split shapeOf shape leaves nodeString sides beside root path folded treeStrings foldStrings checkStrings topHash pathHashes fourBytes sessionBytes leafString frontLength leafStrings sharesCause same leavesOf rootOf pathOf passes codingStrings stringsOf chained hashes packetOf entryOf shareIn readOf inboxOf classOf classStrings atRoot atBit atFirst atSecond atEnd blankState broken messageRoot happy stateCause openCause openOf rootCause agreeRootOf packetFor bitCause outboxOf agreeBitOf inboxCause firstValid relayOf heldOf takeSharesOf gathered resultFound resultOf relaysCause takeRelaysOf accepted first entry lengths sentOver made events final shareStrings relayStrings checkedIn stringsOver recodedIn did openedAndChecked recoded sentBy among different absent sumOver joinOver clean cleanOf there mix digest
+unfolding size body rest fills bodies spliced tabulate parties numbered groupCause timesX productOf product power inverse sum pow value factor unit numerator denominator basis through shareLength headed frame block shareByte shareOf share shares present point framed other unframed joined recovered splitFrom split shapeOf shape leaves nodeString sides beside root path folded treeStrings foldStrings checkStrings topHash pathHashes fourBytes sessionBytes leafString frontLength leafStrings sharesCause same leavesOf rootOf pathOf passes codingStrings stringsOf chained hashes packetOf entryOf shareIn readOf inboxOf classOf classStrings atRoot atBit atFirst atSecond atEnd blankState broken messageRoot happy stateCause openCause openOf rootCause agreeRootOf packetFor bitCause outboxOf agreeBitOf inboxCause firstValid mapOf sentFaulty faultyShares faultyRelays faultyOf relayOf heldOf takeSharesOf gathered resultFound resultOf relaysCause takeRelaysOf accepted first entry lengths sentOver made events final shareStrings judgedStrings checkedIn stringsOver judgedIn recodedIn did openedAndChecked judged recoded sentBy among different absent sumOver joinOver clean cleanOf there mix digest
 computed = record {
   premises = record {
     opened = record {
@@ -368,8 +374,11 @@ computed = record {
   idle-sent = refl;
   same-books-sent = refl;
   two-books-sent = refl;
+  first-settling = refl;
   first-hashes = refl;
+  second-settling = refl;
   second-hashes = refl;
+  refused-unsettling = refl;
   refused-unhashed = refl;
   idle-unhashed = refl;
   second-ends = refl;

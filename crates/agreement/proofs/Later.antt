@@ -1,5 +1,5 @@
 -- What a party's later calls can and cannot change. Every accepted step 5 gave the result that the state holds after the list; and once it holds one,
--- whatever the party is called with, its result stays, no byte is sent and no string is hashed. By the laws of lists and of an ended party's calls.
+-- whatever the party is called with, its result and map stay, no byte is sent and no string is hashed. By the laws of lists and of an ended party's calls.
 -- Assumes nothing.
 use mathlib.Core.Path.{_≡_, refl, sym, ap, _∙_}
 use mathlib.Core.List.{List, [], _∷_, _++_, append-nil, append-assoc, List·Memᴰ}
@@ -12,8 +12,9 @@ use Rattle.merkle.specs.Shares.{codingStrings}
 use Rattle.party.specs.State.{Result, resultIn}
 use Rattle.party.specs.declared.Party.{Party}
 use Rattle.party.proofs.Ways.{Way, on, off, way}
-use Rattle.agreement.specs.Calls.{Call, stepOf, Event, accepted, writtenBy, sentIn, sentOver, made, stringsOver, events, final, checkedIn, checkedOver, recodedIn, recodedOver}
-use Rattle.agreement.specs.Calls.{opening, did, resultAfter, openedAndChecked, recoded, sentBy}
+use Rattle.agreement.specs.Calls.{Call, stepOf, Event, accepted, writtenBy, sentIn, sentOver, made, stringsOver, events, final}
+use Rattle.agreement.specs.Calls.{checkedIn, checkedOver, judgedIn, judgedOver, recodedIn, recodedOver}
+use Rattle.agreement.specs.Calls.{opening, did, resultAfter, openedAndChecked, judged, recoded, sentBy}
 use Rattle.agreement.proofs.Run.{event, chain, Still, still, gave-held}
 
 accepted-both : (es fs : List Event) → accepted (es ++ fs) ≡ accepted es ++ accepted fs
@@ -73,11 +74,14 @@ module _ (H : List ℕ → List ℕ) where
       abbrev rest : List Event
       rest = accepted (events H ended more)
 
-      stays : Still H n r rest (final H ended more)
+      stays : Still H n r (ended .faulty) rest (final H ended more)
       stays = still H n ended (final H ended more) rest r h (chain H ended more)
 
       pub later-result : resultAfter H session n t i m (calls ++ more) ≡ some r
       later-result = ap resultIn (final-both (opening H session n t i m .state) calls more) ∙ stays .0
+
+      pub later-map : final H (opening H session n t i m .state) (calls ++ more) .faulty ≡ ended .faulty
+      later-map = ap (λ (x : Party). x .faulty) (final-both (opening H session n t i m .state) calls more) ∙ stays .5
 
       pub later-sent : sentBy H session n t i m (calls ++ more) ≡ sentBy H session n t i m calls
       unfolding sentBy
@@ -92,9 +96,16 @@ module _ (H : List ℕ → List ℕ) where
           ∙ ap (λ (l : List (List ℕ)). checkedOver H (did H session n t i m calls) ++ l) (stays .2)
           ∙ append-nil (checkedOver H (did H session n t i m calls)))
 
+      pub later-judged : judged H session n t i m (calls ++ more) ≡ judged H session n t i m calls
+      unfolding judged
+      later-judged =
+          ap (judgedOver H) (did-both session n t i m calls more) ∙ strings-both (judgedIn H) (did H session n t i m calls) rest
+          ∙ ap (λ (l : List (List ℕ)). judgedOver H (did H session n t i m calls) ++ l) (stays .3)
+          ∙ append-nil (judgedOver H (did H session n t i m calls))
+
       pub later-recoded : recoded H session n t i m (calls ++ more) ≡ recoded H session n t i m calls
       unfolding recoded
       later-recoded =
           ap (recodedOver H) (did-both session n t i m calls more) ∙ strings-both (recodedIn H) (did H session n t i m calls) rest
-          ∙ ap (λ (l : List (List ℕ)). recodedOver H (did H session n t i m calls) ++ l) (stays .3)
+          ∙ ap (λ (l : List (List ℕ)). recodedOver H (did H session n t i m calls) ++ l) (stays .4)
           ∙ append-nil (recodedOver H (did H session n t i m calls))

@@ -6,6 +6,7 @@ pub mod Ended
 pub mod Later
 pub mod Needed
 pub mod Conduct
+pub mod Strings
 pub mod Depends
 pub mod Agreement
 pub mod AgreedRoot

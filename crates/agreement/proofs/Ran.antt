@@ -18,7 +18,7 @@ use Rattle.erasure.specs.Coding.{shares}
 use Rattle.merkle.specs.Shares.{codingStrings}
 use Rattle.party.specs.State.{seatOf, nothing, atRoot, atBit, atFirst, atSecond, atEnd}
 use Rattle.party.specs.State.{resultIn, messageRoot, happy}
-use Rattle.party.specs.Steps.{turnOf, openCause, Stepped, gives, outboxOf, relayOf, heldOf, resultOf}
+use Rattle.party.specs.Steps.{turnOf, openCause, Stepped, gives, outboxOf, faultyShares, relayOf, heldOf, resultOf, faultyOf}
 use Rattle.party.specs.declared.Party.{Party}
 use Rattle.party.specs.declared.Opened.{Opened}
 use Rattle.party.specs.declared.Answer.the-variants as answer
@@ -103,7 +103,7 @@ module _ (H : List ℕ → List ℕ) where
     X2 = atFirst (seatOf session n t i) m z
 
     abbrev pub X3 : List ℕ → Party
-    X3 inbox = atSecond (seatOf session n t i) m z (heldOf H X2 inbox)
+    X3 inbox = atSecond (seatOf session n t i) m z (heldOf H X2 inbox) (faultyShares H X2 inbox)
 
     -- the replies, by the states that the accepted calls got
     abbrev pub reply2 : Stepped
@@ -111,14 +111,14 @@ module _ (H : List ℕ → List ℕ) where
 
     abbrev pub reply3 : ℕ → List ℕ → Stepped
     reply3 bit out =
-        gives (cond (eqb bit 0) (atEnd (seatOf session n t i) nothing) X2) (answer.Sent (length (outboxOf H X1 bit)))
+        gives (cond (eqb bit 0) (atEnd (seatOf session n t i) nothing 0) X2) (answer.Sent (length (outboxOf H X1 bit)))
         (spliced out 0 (outboxOf H X1 bit))
 
     abbrev pub reply4 : List ℕ → List ℕ → Stepped
     reply4 inbox out = gives (X3 inbox) (answer.Sent (length (relayOf H X2 inbox))) (spliced out 0 (relayOf H X2 inbox))
 
     abbrev reply5 : List ℕ → List ℕ → List ℕ → Stepped
-    reply5 in4 in5 out = endedWith (seatOf session n t i) (resultOf H (X3 in4) in5) out
+    reply5 in4 in5 out = endedWith (seatOf session n t i) (resultOf H (X3 in4) in5) (faultyOf H (X3 in4) in5) out
 
     pub is2 : made2 H (atRoot (seatOf session n t i) m) z ≡ reply2
     unfolding atRoot
@@ -129,16 +129,16 @@ module _ (H : List ℕ → List ℕ) where
     is3 : (bit : ℕ) (out : List ℕ) → made3 H X1 bit out ≡ reply3 bit out
     unfolding atBit
     is3 bit out =
-        ap (λ (b : List ℕ). gives (cond (eqb bit 0) (atEnd (seatOf session n t i) nothing) (atFirst (seatOf session n t i) b z))
+        ap (λ (b : List ℕ). gives (cond (eqb bit 0) (atEnd (seatOf session n t i) nothing 0) (atFirst (seatOf session n t i) b z))
         (answer.Sent (length (outboxOf H X1 bit))) (spliced out 0 (outboxOf H X1 bit))) (take-padded maxMessage m)
 
     pub is4 : (inbox out : List ℕ) → made4 H X2 inbox out ≡ reply4 inbox out
     unfolding atFirst
     is4 inbox out =
-        ap (λ (b : List ℕ). gives (atSecond (seatOf session n t i) b z (heldOf H X2 inbox)) (answer.Sent (length (relayOf H X2 inbox)))
+        ap (λ (b : List ℕ). gives (atSecond (seatOf session n t i) b z (heldOf H X2 inbox) (faultyShares H X2 inbox)) (answer.Sent (length (relayOf H X2 inbox)))
         (spliced out 0 (relayOf H X2 inbox))) (take-padded maxMessage m)
 
-    is5 : (in4 in5 out : List ℕ) → endedWith (X3 in4 .seat) (resultOf H (X3 in4) in5) out ≡ reply5 in4 in5 out
+    is5 : (in4 in5 out : List ℕ) → endedWith (X3 in4 .seat) (resultOf H (X3 in4) in5) (faultyOf H (X3 in4) in5) out ≡ reply5 in4 in5 out
     unfolding atSecond
     is5 in4 in5 out = refl
 
@@ -158,7 +158,7 @@ module _ (H : List ℕ → List ℕ) where
     two : (fin : Party) (es : List Event) (e2 e3 : Event) (bit : ℕ) (out : List ℕ) → Chain H (atRoot (seatOf session n t i) m) es fin
         → first 2 es ≡ some e2 → e2 .call ≡ agreeRoot z → first 3 es ≡ some e3 → e3 .call ≡ agreeBit bit out
         → (rest : List Event) × (es ≡ ev2 ∷ ev3 bit out ∷ rest) × (bit ≤ 1)
-        × Chain H (cond (eqb bit 0) (atEnd (seatOf session n t i) nothing) X2) rest fin
+        × Chain H (cond (eqb bit 0) (atEnd (seatOf session n t i) nothing 0) X2) rest fin
     unfolding first atRoot atBit
     two fin es e2 e3 bit out h f2 c2 f3 c3 =
         let x0 : Party = atRoot (seatOf session n t i) m in
@@ -178,7 +178,7 @@ module _ (H : List ℕ → List ℕ) where
       out5 : List ℕ
       rest : List Event
       all : es ≡ ev4 in4 out4 ∷ ev5 in4 in5 out5 ∷ rest
-      last : Still H n (resultOf H (X3 in4) in5) rest fin
+      last : Still H n (resultOf H (X3 in4) in5) (faultyOf H (X3 in4) in5) rest fin
 
     four : (fin : Party) (es : List Event) (e4 e5 : Event) → Chain H X2 es fin → first 4 es ≡ some e4 → first 5 es ≡ some e5
         → Four fin es
@@ -204,7 +204,8 @@ module _ (H : List ℕ → List ℕ) where
           rest = b .0;
           all = a .1 ∙ ap (λ (r : List Event). ev4 i4 o4 ∷ r) (b .1);
           last = let r = resultOf H (X3 i4) i5 in
-              still H n (atEnd (seatOf session n t i) r) fin (b .0) r (result-end (seatOf session n t i) r) (b .2);
+              let f = faultyOf H (X3 i4) i5 in
+              still H n (atEnd (seatOf session n t i) r f) fin (b .0) r (result-end (seatOf session n t i) r f) (b .2);
         }
 
 -- a party that opened with a message, was handed these calls, and was accepted in steps 2 to 5, on bit 1
@@ -215,19 +216,19 @@ pub record Ran (H : List ℕ → List ℕ) (session n t i : ℕ) (m : List ℕ) 
   pub heard5 : (j : ℕ) → heard n j (firstOf H session n t i m calls 5) ≡ entry n j in5
   pub packets : wrote (firstOf H session n t i m calls 3) ≡ outboxOf H (atBit (seatOf session n t i) m z) 1
   pub relayed : wrote (firstOf H session n t i m calls 4) ≡ relayOf H (atFirst (seatOf session n t i) m z) in4
-  pub ends : resultAfter H session n t i m calls ≡ some (resultOf H (atSecond (seatOf session n t i) m z (heldOf H (atFirst (seatOf session n t i) m z) in4)) in5)
+  pub ends : resultAfter H session n t i m calls ≡ some (resultOf H (X3 H session n t i m z in4) in5)
   pub in-tree : (s : List ℕ) → List·Memᴰ s (codingStrings H session n (shares n (n - t) m)) → List·Memᴰ s (openedAndChecked H session n t i m calls)
   pub in-first : (s : List ℕ) → List·Memᴰ s (checkedIn H (atFirst (seatOf session n t i) m z) (takeShares in4 []))
       → List·Memᴰ s (openedAndChecked H session n t i m calls)
   pub in-second : (s : List ℕ)
-      → List·Memᴰ s (checkedIn H (atSecond (seatOf session n t i) m z (heldOf H (atFirst (seatOf session n t i) m z) in4)) (takeRelays in5 []))
+      → List·Memᴰ s (checkedIn H (X3 H session n t i m z in4) (takeRelays in5 []))
       → List·Memᴰ s (openedAndChecked H session n t i m calls)
   pub in-again : (s : List ℕ)
-      → List·Memᴰ s (recodedIn H (atSecond (seatOf session n t i) m z (heldOf H (atFirst (seatOf session n t i) m z) in4)) (takeRelays in5 []))
+      → List·Memᴰ s (recodedIn H (X3 H session n t i m z in4) (takeRelays in5 []))
       → List·Memᴰ s (recoded H session n t i m calls)
   -- the state and the inbox of the call that ended it
   pub last-call : (e : Event) → firstOf H session n t i m calls 5 ≡ some e
-      → (e .before ≡ atSecond (seatOf session n t i) m z (heldOf H (atFirst (seatOf session n t i) m z) in4)) × (inboxIn (e .call) ≡ in5)
+      → (e .before ≡ X3 H session n t i m z in4) × (inboxIn (e .call) ≡ in5)
   pub sends : sentBy H session n t i m calls
       ≡ lengths (bodies n (outboxOf H (atBit (seatOf session n t i) m z) 1)) + (n - 1) * length (relayOf H (atFirst (seatOf session n t i) m z) in4)
 
@@ -264,7 +265,7 @@ module _ (H : List ℕ → List ℕ) (session n t i : ℕ) (m : List ℕ) (calls
   module _ (e2 e3 : Event) (bit : ℕ) (out : List ℕ) (f2 : firstOf H session n t i m calls 2 ≡ some e2) (c2 : e2 .call ≡ agreeRoot z)
       (f3 : firstOf H session n t i m calls 3 ≡ some e3) (c3 : e3 .call ≡ agreeBit bit out) where
     pub begun : (rest : List Event) × (did H session n t i m calls ≡ ev2 H session n t i m z ∷ ev3 H session n t i m z bit out ∷ rest) × (bit ≤ 1)
-        × Chain H (cond (eqb bit 0) (atEnd (seatOf session n t i) nothing) (atFirst (seatOf session n t i) m z)) rest (fin H session n t i m calls o)
+        × Chain H (cond (eqb bit 0) (atEnd (seatOf session n t i) nothing 0) (atFirst (seatOf session n t i) m z)) rest (fin H session n t i m calls o)
     begun = two H session n t i m z (fin H session n t i m calls o) (did H session n t i m calls) e2 e3 bit out (did-chain H session n t i m calls o) f2 c2 f3 c3
 
     pub bit-small : bit ≤ 1
@@ -278,7 +279,7 @@ module _ (H : List ℕ → List ℕ) (session n t i : ℕ) (m : List ℕ) (calls
   unfolding sentBy sentOver
   ran-none e2 e3 out f2 c2 f3 c3 =
       let b = begun e2 e3 0 out f2 c2 f3 c3 in
-      let l = still H n (atEnd (seatOf session n t i) nothing) (fin H session n t i m calls o) (b .0) nothing (result-end (seatOf session n t i) nothing) (b .3) in (
+      let l = still H n (atEnd (seatOf session n t i) nothing 0) (fin H session n t i m calls o) (b .0) nothing (result-end (seatOf session n t i) nothing 0) (b .3) in (
         ends-is H session n t i m calls o ∙ l .0,
         rw (b .1, l .1, take-spliced out (outboxOf H (atBit (seatOf session n t i) m z) 0)) (omega arith),
       )

@@ -1,5 +1,5 @@
 -- The accepted calls of a party, one after the other: a refused call keeps the state, an accepted one is the step that is in turn and gives what
--- its definition says, and once the party has ended its result is kept by every call and nothing more is sent or hashed. By the tests of the
+-- its definition says, and once the party has ended its result and map are kept by every call and nothing more is sent or hashed. By the tests of the
 -- steps, and by inductions over the list of calls. Assumes nothing.
 use mathlib.Core.Path.{_≡_, refl, sym, ap, _∙_, subst}
 use mathlib.Core.Logic.{_⊎_, inl, inr, _≢_}
@@ -15,7 +15,7 @@ use Rattle.buffer.specs.Splice.{spliced}
 use Rattle.buffer.proofs.Splice.{take-spliced}
 use Rattle.party.specs.State.{Result, nothing, settled, resultBytes, messageIn, atFirst, atSecond, atEnd, resultIn, broken, happy}
 use Rattle.party.specs.Steps.{turnOf, stateCause, rootCause, withRoot, Stepped, gives, refused, writes, bitCause, outboxOf}
-use Rattle.party.specs.Steps.{agreeBitOf, inboxCause, relaysCause, relayOf, heldOf, takeSharesOf, resultOf, ending, takeRelaysOf}
+use Rattle.party.specs.Steps.{agreeBitOf, inboxCause, relaysCause, faultyShares, relayOf, heldOf, takeSharesOf, resultOf, faultyOf, ending, takeRelaysOf}
 use Rattle.party.specs.declared.Party.{Party}
 use Rattle.commitment.specs.declared.Seat.{Seat}
 use Rattle.party.specs.declared.Answer.{Answer}
@@ -26,7 +26,7 @@ use Rattle.party.proofs.Causes.{state-sound, inbox-sound, relays-sound}
 use Rattle.party.proofs.Outcomes.{root-refused, root-given, holds-ended}
 use Rattle.party.proofs.Kept.{result-end}
 use Rattle.agreement.specs.Calls.{Call, agreeRoot, agreeBit, takeShares, takeRelays, stepOf, Event, accepted, first, writtenBy}
-use Rattle.agreement.specs.Calls.{sentIn, sentOver, made, events, final, stringsOver, checkedIn, checkedOver, recodedIn, recodedOver}
+use Rattle.agreement.specs.Calls.{sentIn, sentOver, made, events, final, stringsOver, checkedIn, checkedOver, judgedIn, judgedOver, recodedIn, recodedOver}
 use Rattle.agreement.proofs.Lists.{same-some}
 
 -- a call is taken, or turned away with the state kept
@@ -55,42 +55,43 @@ abbrev left : Result → List ℕ → List ℕ
 left nothing out = out
 left (settled m) out = spliced out 0 m
 
-abbrev endOf : Result → Answer
-endOf nothing = answer.Nothing
-endOf (settled m) = answer.Message (length m)
+abbrev endOf : Result → ℕ → Answer
+endOf nothing f = answer.Nothing f
+endOf (settled m) f = answer.Message (length m) f
 
-abbrev pub endedWith : Seat → Result → List ℕ → Stepped
-endedWith s r out =
+abbrev pub endedWith : Seat → Result → ℕ → List ℕ → Stepped
+endedWith s r f out =
     record {
-      state = atEnd s r;
-      answer = endOf r;
+      state = atEnd s r f;
+      answer = endOf r f;
       cause = 0;
       value = length (resultBytes r);
       result = some r;
+      faulty = f;
       buffer = left r out;
     }
 
-ending-or : (x : Party) (r : Result) (out : List ℕ)
-    → (ending x r out ≡ endedWith (x .seat) r out) ⊎ Turned x (ending x r out)
-ending-or x nothing out = inl refl
-ending-or x (settled m) out = go (way (ltb (length out) (length m)))
+ending-or : (x : Party) (r : Result) (f : ℕ) (out : List ℕ)
+    → (ending x r f out ≡ endedWith (x .seat) r f out) ⊎ Turned x (ending x r f out)
+ending-or x nothing f out = inl refl
+ending-or x (settled m) f out = go (way (ltb (length out) (length m)))
   where
     go : Way (ltb (length out) (length m))
-        → (ending x (settled m) out ≡ endedWith (x .seat) (settled m) out) ⊎ Turned x (ending x (settled m) out)
-    go (on f) = inr (rw f (nine, refl))
-    go (off f) = inl (rw (f, take-spliced out m))
+        → (ending x (settled m) f out ≡ endedWith (x .seat) (settled m) f out) ⊎ Turned x (ending x (settled m) f out)
+    go (on e) = inr (rw e (nine, refl))
+    go (off e) = inl (rw (e, take-spliced out m))
 
-ended-or : (k : ℕ) (x : Party) (r : Result) (out : List ℕ)
-    → ((k ≡ 0) × ((cond (not (eqb k 0)) (refused x k out) (ending x r out)) ≡ endedWith (x .seat) r out))
-    ⊎ Turned x ((cond (not (eqb k 0)) (refused x k out) (ending x r out)))
-ended-or k x r out = go (way (eqb k 0)) (ending-or x r out)
+ended-or : (k : ℕ) (x : Party) (r : Result) (f : ℕ) (out : List ℕ)
+    → ((k ≡ 0) × ((cond (not (eqb k 0)) (refused x k out) (ending x r f out)) ≡ endedWith (x .seat) r f out))
+    ⊎ Turned x ((cond (not (eqb k 0)) (refused x k out) (ending x r f out)))
+ended-or k x r f out = go (way (eqb k 0)) (ending-or x r f out)
   where
-    go : Way (eqb k 0) → (ending x r out ≡ endedWith (x .seat) r out) ⊎ Turned x (ending x r out)
-        → ((k ≡ 0) × ((cond (not (eqb k 0)) (refused x k out) (ending x r out)) ≡ endedWith (x .seat) r out))
-        ⊎ Turned x ((cond (not (eqb k 0)) (refused x k out) (ending x r out)))
-    go (on e) (inl f) = inl (eqb-true k 0 e, rw e f)
-    go (on e) (inr f) = inr (rw e f)
-    go (off e) f = inr (rw e (eqb-false k 0 e, refl))
+    go : Way (eqb k 0) → (ending x r f out ≡ endedWith (x .seat) r f out) ⊎ Turned x (ending x r f out)
+        → ((k ≡ 0) × ((cond (not (eqb k 0)) (refused x k out) (ending x r f out)) ≡ endedWith (x .seat) r f out))
+        ⊎ Turned x ((cond (not (eqb k 0)) (refused x k out) (ending x r f out)))
+    go (on e) (inl g) = inl (eqb-true k 0 e, rw e g)
+    go (on e) (inr g) = inr (rw e g)
+    go (off e) g = inr (rw e (eqb-false k 0 e, refl))
 
 -- of the two, by the cause
 keeps : {A : Type 0} {x : Party} (r : Stepped) → (A → r .cause ≡ 0) → r .cause ≢ 0 → A ⊎ Turned x r → r .state ≡ x
@@ -119,13 +120,13 @@ module _ (H : List ℕ → List ℕ) where
 
   abbrev pub made3 : Party → ℕ → List ℕ → Stepped
   made3 x bit out =
-      gives (cond (eqb bit 0) (atEnd (x .seat) nothing) (atFirst (x .seat) (messageIn x) (x .root)))
+      gives (cond (eqb bit 0) (atEnd (x .seat) nothing 0) (atFirst (x .seat) (messageIn x) (x .root)))
       (answer.Sent (length (outboxOf H x bit)))
       (spliced out 0 (outboxOf H x bit))
 
   abbrev pub made4 : Party → List ℕ → List ℕ → Stepped
   made4 x inbox out =
-      gives (atSecond (x .seat) (messageIn x) (x .root) (heldOf H x inbox)) (answer.Sent (length (relayOf H x inbox)))
+      gives (atSecond (x .seat) (messageIn x) (x .root) (heldOf H x inbox) (faultyShares H x inbox)) (answer.Sent (length (relayOf H x inbox)))
       (spliced out 0 (relayOf H x inbox))
 
   -- each step, taken or turned away
@@ -143,21 +144,21 @@ module _ (H : List ℕ → List ℕ) where
   unfolding made agreeBitOf
   bit-or x bit out =
       (written-or (bitCause x bit) x
-      (cond (eqb bit 0) (atEnd (x .seat) nothing) (atFirst (x .seat) (messageIn x) (x .root)))
+      (cond (eqb bit 0) (atEnd (x .seat) nothing 0) (atFirst (x .seat) (messageIn x) (x .root)))
       (outboxOf H x bit) out)
 
   shares-or : (x : Party) (inbox out : List ℕ)
       → ((inboxCause 4 x inbox ≡ 0) × (made H x (takeShares inbox out) ≡ made4 x inbox out)) ⊎ Turned x (made H x (takeShares inbox out))
   unfolding made takeSharesOf
   shares-or x inbox out =
-      (written-or (inboxCause 4 x inbox) x (atSecond (x .seat) (messageIn x) (x .root) (heldOf H x inbox))
+      (written-or (inboxCause 4 x inbox) x (atSecond (x .seat) (messageIn x) (x .root) (heldOf H x inbox) (faultyShares H x inbox))
       (relayOf H x inbox) out)
 
   relays-or : (x : Party) (inbox out : List ℕ)
-      → ((relaysCause x inbox ≡ 0) × (made H x (takeRelays inbox out) ≡ endedWith (x .seat) (resultOf H x inbox) out))
+      → ((relaysCause x inbox ≡ 0) × (made H x (takeRelays inbox out) ≡ endedWith (x .seat) (resultOf H x inbox) (faultyOf H x inbox) out))
       ⊎ Turned x (made H x (takeRelays inbox out))
   unfolding made takeRelaysOf
-  relays-or x inbox out = ended-or (relaysCause x inbox) x (resultOf H x inbox) out
+  relays-or x inbox out = ended-or (relaysCause x inbox) x (resultOf H x inbox) (faultyOf H x inbox) out
 
   -- a call that is turned away keeps the state
   pub refused-keeps : (x : Party) (c : Call) → made H x c .cause ≢ 0 → made H x c .state ≡ x
@@ -189,7 +190,7 @@ module _ (H : List ℕ → List ℕ) where
       (inbox-sound 4 x inbox (t .0) .0, t .1)
 
   pub did5 : (x : Party) (inbox out : List ℕ) → made H x (takeRelays inbox out) .cause ≡ 0
-      → (stateCause 5 x ≡ 0) × (made H x (takeRelays inbox out) ≡ endedWith (x .seat) (resultOf H x inbox) out)
+      → (stateCause 5 x ≡ 0) × (made H x (takeRelays inbox out) ≡ endedWith (x .seat) (resultOf H x inbox) (faultyOf H x inbox) out)
   did5 x inbox out a =
       let t = taken (made H x (takeRelays inbox out)) a (relays-or x inbox out) in
       (relays-sound x inbox (t .0) .0, t .1)
@@ -247,22 +248,30 @@ module _ (H : List ℕ → List ℕ) where
         subst (λ (v : Event). Chain (v .reply .state) es fin) w (h .2),
       )
 
-  -- an accepted step 5 gives a result, and the state holds it
+  -- an accepted step 5 gives a result and a map, and the state holds them
   ends : (x : Party) (inbox out : List ℕ) → made H x (takeRelays inbox out) .cause ≡ 0 → let r = made H x (takeRelays inbox out) in
       (r .result ≡ some (resultOf H x inbox)) × (resultIn (r .state) ≡ some (resultOf H x inbox))
+      × (r .faulty ≡ faultyOf H x inbox) × (r .state .faulty ≡ faultyOf H x inbox)
+  unfolding atEnd
   ends x inbox out a =
-      let d = did5 x inbox out a .1 in
-      (ap (λ (s : Stepped). s .result) d, ap (λ (s : Stepped). resultIn (s .state)) d ∙ result-end (x .seat) (resultOf H x inbox))
+      let d = did5 x inbox out a .1 in (
+        ap (λ (s : Stepped). s .result) d,
+        ap (λ (s : Stepped). resultIn (s .state)) d ∙ result-end (x .seat) (resultOf H x inbox) (faultyOf H x inbox),
+        ap (λ (s : Stepped). s .faulty) d,
+        ap (λ (s : Stepped). s .state .faulty) d,
+      )
 
-  -- an accepted call on a party that holds a result: the state holds it again, and nothing is sent or hashed
+  -- an accepted call on a party that holds a result: the state holds it again, with the same map, and nothing is sent or hashed
   record Again (n : ℕ) (x : Party) (c : Call) (r : Result) : Type 0 where
     holds : resultIn (made H x c .state) ≡ some r
+    map-kept : made H x c .state .faulty ≡ x .faulty
     unsent : (bs : List ℕ) → sentIn n c bs ≡ 0
     unchecked : checkedIn H x c ≡ []
+    unjudged : judgedIn H x c ≡ []
     uncoded : recodedIn H x c ≡ []
 
   again : (n : ℕ) (x : Party) (c : Call) (r : Result) → resultIn x ≡ some r → made H x c .cause ≡ 0 → Again n x c r
-  unfolding checkedIn recodedIn resultOf
+  unfolding checkedIn judgedIn recodedIn resultOf faultyOf
   again n x (agreeRoot z) r h a = let e = in-turn x (agreeRoot z) a in absurd (omega (arith, e, holds-ended x r h .1))
   again n x (agreeBit bit out) r h a = let e = in-turn x (agreeBit bit out) a in absurd (omega (arith, e, holds-ended x r h .1))
   again n x (takeShares inbox out) r h a = let e = in-turn x (takeShares inbox out) a in absurd (omega (arith, e, holds-ended x r h .1))
@@ -270,25 +279,30 @@ module _ (H : List ℕ → List ℕ) where
       let same : resultOf H x inbox ≡ r = rw h in
       record {
         holds = ends x inbox out a .1 ∙ ap {B = Option Result} some same;
+        map-kept = ends x inbox out a .3 ∙ rw (holds-ended x r h .0);
         unsent = λ bs. refl;
         unchecked = rw (holds-ended x r h .0);
+        unjudged = rw (holds-ended x r h .0);
         uncoded = rw (holds-ended x r h .0);
       }
 
-  -- once ended, the result is kept by every call, and nothing is sent or hashed
-  abbrev pub Still : ℕ → Result → List Event → Party → Type 0
-  Still n r es fin = (resultIn fin ≡ some r) × (sentOver n es ≡ 0) × (checkedOver H es ≡ []) × (recodedOver H es ≡ [])
+  -- once ended, the result and the map are kept by every call, and nothing is sent or hashed
+  abbrev pub Still : ℕ → Result → ℕ → List Event → Party → Type 0
+  Still n r f es fin =
+      (resultIn fin ≡ some r) × (sentOver n es ≡ 0) × (checkedOver H es ≡ []) × (judgedOver H es ≡ []) × (recodedOver H es ≡ []) × (fin .faulty ≡ f)
 
-  pub still : (n : ℕ) (x fin : Party) (es : List Event) (r : Result) → resultIn x ≡ some r → Chain x es fin → Still n r es fin
+  pub still : (n : ℕ) (x fin : Party) (es : List Event) (r : Result) → resultIn x ≡ some r → Chain x es fin → Still n r (x .faulty) es fin
   unfolding sentOver stringsOver
-  still n x fin [] r a h = (ap resultIn h ∙ a, refl, refl, refl)
+  still n x fin [] r a h = (ap resultIn h ∙ a, refl, refl, refl, refl, ap (λ (y : Party). y .faulty) h)
   still n x fin (d ∷ es) r a h =
       let g = again n x (d .call) r a (subst (λ (v : Event). v .reply .cause ≡ 0) (h .0) (h .1)) in
       let kept : resultIn (d .reply .state) ≡ some r = ap (λ (v : Event). resultIn (v .reply .state)) (h .0) ∙ g .holds in
       let none : checkedIn H (d .before) (d .call) ≡ [] = ap (λ (v : Event). checkedIn H (v .before) (d .call)) (h .0) ∙ g .unchecked in
+      let passed : judgedIn H (d .before) (d .call) ≡ [] = ap (λ (v : Event). judgedIn H (v .before) (d .call)) (h .0) ∙ g .unjudged in
       let again : recodedIn H (d .before) (d .call) ≡ [] = ap (λ (v : Event). recodedIn H (v .before) (d .call)) (h .0) ∙ g .uncoded in
+      let map : d .reply .state .faulty ≡ x .faulty = ap (λ (v : Event). v .reply .state .faulty) (h .0) ∙ g .map-kept in
       let s = still n (d .reply .state) fin es r kept (h .2) in
-      (s .0, rw (g .unsent (writtenBy d), s .1), rw (none, s .2), rw (again, s .3))
+      (s .0, rw (g .unsent (writtenBy d), s .1), rw (none, s .2), rw (passed, s .3), rw (again, s .4), s .5 ∙ map)
 
   -- so every accepted step 5 gave the result that is held at the end
   pub gave : (x : Party) (c : Call) → made H x c .cause ≡ 0 → stepOf c ≡ 5

@@ -15,6 +15,7 @@ use Rattle.buffer.specs.Bounds.{Bytes}
 use Rattle.buffer.specs.Splice.{spliced, tabulate}
 use Rattle.buffer.specs.Numbers.{fourBytes}
 use Rattle.buffer.specs.Entries.{size, body, rest, fills, bodies}
+use Rattle.bitmap.specs.Bitmap.{mapOf}
 use Rattle.gf256.specs.Field.{timesX, productOf, product, power, inverse}
 use Rattle.polynomial.specs.Polynomial.{sum, pow, value, factor, unit, numerator, denominator, basis, through}
 use Rattle.erasure.specs.Coding.{shareLength, headed, frame, block, shareByte, shareOf, share, shares}
@@ -30,8 +31,8 @@ use Rattle.packet.specs.Class.{faulty, classOf, classStrings}
 use Rattle.packet.specs.Message.{messagePacket, messageIn, readMessage}
 use Rattle.party.specs.State.{seatOf, Result, nothing, settled, atRoot, atBit, atFirst, atSecond, atEnd, blankState, broken, messageRoot, happy}
 use Rattle.party.specs.Steps.{stateCause, openCause, openOf, rootCause, agreeRootOf, packetFor, bitCause, outboxOf, agreeBitOf, inboxCause, firstValid}
-use Rattle.party.specs.Steps.{relayOf, heldOf, takeSharesOf, gathered, resultFound, resultOf, relaysCause, takeRelaysOf}
-use Rattle.party.specs.Strings.{shareStrings, relayStrings}
+use Rattle.party.specs.Steps.{sentFaulty, faultyShares, faultyRelays, faultyOf, relayOf, heldOf, takeSharesOf, gathered, resultFound, resultOf, relaysCause, takeRelaysOf}
+use Rattle.party.specs.Strings.{judgedStrings, shareStrings}
 use Rattle.party.specs.Sender.{senderCause, openBySenderOf}
 use Rattle.agreement.specs.Calls.{Call, agreeRoot, agreeBit, Event, accepted, first, entry, lengths, sentOver, made, events, final}
 use Rattle.agreement.specs.Calls.{stringsOver, checkedIn, recodedIn, did, firstOf, openedAndChecked, recoded, sentBy, heard, packetTo, wrote, bitGiven, opening, resultAfter}
@@ -212,7 +213,7 @@ pub record Computed : Type 0 where
   pub good-sent : sentInAll toy 7 3 1 good ≡ 2 * 5 + 464
 
 pub computed : Computed
-unfolding size body rest fills bodies spliced tabulate parties numbered groupCause timesX productOf product power inverse sum pow value factor unit numerator denominator basis through shareLength headed frame block shareByte shareOf share shares present point framed other unframed joined recovered splitFrom split shapeOf shape leaves nodeString sides beside root path folded treeStrings foldStrings checkStrings topHash pathHashes fourBytes sessionBytes leafString frontLength leafStrings sharesCause same leavesOf rootOf pathOf passes codingStrings stringsOf chained hashes packetOf entryOf shareIn readOf inboxOf classOf classStrings atRoot atBit atFirst atSecond atEnd blankState broken messageRoot happy stateCause openCause openOf rootCause agreeRootOf packetFor bitCause outboxOf agreeBitOf inboxCause firstValid relayOf heldOf takeSharesOf gathered resultFound resultOf relaysCause takeRelaysOf accepted first entry lengths sentOver made events final shareStrings relayStrings checkedIn stringsOver recodedIn did openedAndChecked recoded sentBy among different absent sumOver joinOver clean cleanOf there mix digest messagePacket messageIn readMessage senderCause openBySenderOf
+unfolding size body rest fills bodies spliced tabulate parties numbered groupCause timesX productOf product power inverse sum pow value factor unit numerator denominator basis through shareLength headed frame block shareByte shareOf share shares present point framed other unframed joined recovered splitFrom split shapeOf shape leaves nodeString sides beside root path folded treeStrings foldStrings checkStrings topHash pathHashes fourBytes sessionBytes leafString frontLength leafStrings sharesCause same leavesOf rootOf pathOf passes codingStrings stringsOf chained hashes packetOf entryOf shareIn readOf inboxOf classOf classStrings atRoot atBit atFirst atSecond atEnd blankState broken messageRoot happy stateCause openCause openOf rootCause agreeRootOf packetFor bitCause outboxOf agreeBitOf inboxCause firstValid mapOf sentFaulty faultyShares faultyRelays faultyOf relayOf heldOf takeSharesOf gathered resultFound resultOf relaysCause takeRelaysOf accepted first entry lengths sentOver made events final shareStrings judgedStrings checkedIn stringsOver recodedIn did openedAndChecked recoded sentBy among different absent sumOver joinOver clean cleanOf there mix digest messagePacket messageIn readMessage senderCause openBySenderOf
 computed = record {
   two-went = record {
     bytes = (packet-bytes (0x41 ∷ []) (one-byte 0x41 (lit< tt)) (lit≤ tt), packet-bytes (0x42 ∷ []) (one-byte 0x42 (lit< tt)) (lit≤ tt));

@@ -1,8 +1,8 @@
 -- What the root's check in step 5 gives (document 02, No. 4). Of one party, whoever the others are: a message that it ends with has the root that it was told
 -- was agreed. Of all good parties together, however many are bad, where they are told one root and one bit and the bit is by its rule: none ends with a
 -- message that no good party opened with, unless two strings that they hashed collide; and where no two strings of openings and path checks collide, no call
--- gives anything else than without the check, and no other string is hashed. The hash is a parameter; the first is proved for every one, the others for
--- every one of 32 bytes (proofs/AgreedRoot). Assumes nothing.
+-- gives anything else than without the check, and what is coded again has no other string. The hash is a parameter; the first is proved for every one, the
+-- others for every one of 32 bytes (proofs/AgreedRoot). Assumes nothing.
 use mathlib.Core.Path.{_≡_}
 use mathlib.Core.Logic.{_⊎_}
 use mathlib.Core.Bool.{false, cond, not}
@@ -15,11 +15,11 @@ use Rattle.erasure.specs.Coding.{shares}
 use Rattle.merkle.specs.Strings.{Collision}
 use Rattle.merkle.specs.Shares.{codingStrings}
 use Rattle.party.specs.State.{Result, nothing, settled, messageIn, resultIn, hasEnded, messageRoot, happy}
-use Rattle.party.specs.Steps.{Stepped, refused, recoveredBy, rebuilt, heldOr, relaysCause, ending}
+use Rattle.party.specs.Steps.{Stepped, refused, recoveredBy, rebuilt, heldOr, relaysCause, faultyOf, ending}
 use Rattle.party.specs.declared.Party.{Party}
 use Rattle.agreement.specs.Calls.{Call, agreeRoot, agreeBit, takeShares, takeRelays, stepOf, Event, bitGiven, made, events}
 use Rattle.agreement.specs.Calls.{opening, did, firstOf, resultAfter, recoded}
-use Rattle.agreement.specs.Agreement.{Good, Each, step, Rule, allOpenedAndChecked, allHashed, Clean}
+use Rattle.agreement.specs.Agreement.{Good, Each, step, Rule, allOpenedAndChecked, allSettling, Clean}
 
 module _ (H : List ℕ → List ℕ) where
   -- step 5 without the check, as it was: what is rebuilt is taken, whatever its root
@@ -29,7 +29,7 @@ module _ (H : List ℕ → List ℕ) where
   unfoldable pub takeRelaysUnchecked : Party → List ℕ → List ℕ → Stepped
   takeRelaysUnchecked x inbox out =
       cond (not (eqb (relaysCause x inbox) 0)) (refused x (relaysCause x inbox) out)
-      (ending x (heldOr (resultIn x) (foundUnchecked x inbox)) out)
+      (ending x (heldOr (resultIn x) (foundUnchecked x inbox)) (faultyOf H x inbox) out)
 
   -- a list of calls with that step 5, and the other steps as they are
   unfoldable pub madeUnchecked : Party → Call → Stepped
@@ -78,12 +78,13 @@ module _ (H : List ℕ → List ℕ) where
       (session n t : ℕ) (good : List Good) (z : List ℕ) (bit : ℕ) → Told session n t good z bit
       → Each H session n t good (λ A. (R : Result) → EndsWith session n t A R → Somebodys session n t good A R)
 
-  -- every string that a good party hashed is one of an opening or a path check. So to suppose that no two different ones of these have one hash is to suppose it
-  -- of all
+  -- every string that settles a good party's results is one of an opening or of the path checks that settle what is relayed and rebuilt. So to suppose that no
+  -- two different ones of these have one hash is to suppose it of the messages coded again too. Of all strings hashed nothing of this kind holds: what bad
+  -- parties send to happy ones is checked as well, and nothing bounds its strings
   abbrev pub NoStringMore : Type 0
   NoStringMore =
       (session n t : ℕ) (good : List Good) (z : List ℕ) (bit : ℕ) → Told session n t good z bit → Clean H session n t good
-      → (s : List ℕ) → List·Memᴰ s (allHashed H session n t good) → List·Memᴰ s (allOpenedAndChecked H session n t good)
+      → (s : List ℕ) → List·Memᴰ s (allSettling H session n t good) → List·Memᴰ s (allOpenedAndChecked H session n t good)
 
   -- every call of every good party gives what it gives without the check: state, answer, result and buffer. What is supposed is read over the calls as they are
   -- with the check: without it a forged inbox with a short buffer is cause 9, and its strings are in no list

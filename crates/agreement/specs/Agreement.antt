@@ -14,7 +14,7 @@ use Rattle.erasure.specs.Coding.{shareLength}
 use Rattle.merkle.specs.Height.{height}
 use Rattle.party.specs.State.{Result, nothing, settled}
 use Rattle.agreement.specs.Calls.{Call, agreeRoot, agreeBit, stepOf, Event, heard, wrote, packetTo, bitGiven}
-use Rattle.agreement.specs.Calls.{opening, did, firstOf, resultAfter, openedAndChecked, hashed, sentBy}
+use Rattle.agreement.specs.Calls.{opening, did, firstOf, resultAfter, openedAndChecked, settling, hashed, sentBy}
 
 -- a good party: its number, its message, and the calls that it gets after its opening
 pub record Good : Type 0 where
@@ -89,15 +89,18 @@ module _ (H : List ℕ → List ℕ) (session n t : ℕ) (good : List Good) wher
     pub firstInbox : Delivered (λ A B. heard n (B .own) (step 4 A)) (λ B A. packetTo n (A .own) (step 3 B))
     pub secondInbox : Delivered (λ A B. heard n (B .own) (step 5 A)) (λ B A. wrote (step 4 B))
 
-  -- the strings of the openings and path checks of good parties, all taken together; and all strings that they hashed, which are the same ones and no others
-  -- under these premises (`AgreedRoot.NoStringMore`)
+  -- of good parties, all taken together: the strings of their openings and of the path checks that settle what they relay and rebuild; these and those of the
+  -- messages coded again, which are no others under these premises (`AgreedRoot.NoStringMore`); and all strings that they hashed
   abbrev pub allOpenedAndChecked : List (List ℕ)
   allOpenedAndChecked = joinOver (λ (A : Good). openedAndChecked H session n t (A .own) (A .message) (A .calls)) good
+
+  abbrev pub allSettling : List (List ℕ)
+  allSettling = joinOver (λ (A : Good). settling H session n t (A .own) (A .message) (A .calls)) good
 
   abbrev pub allHashed : List (List ℕ)
   allHashed = joinOver (λ (A : Good). hashed H session n t (A .own) (A .message) (A .calls)) good
 
-  -- no two different ones of the former have one hash
+  -- no two different ones of the first have one hash; so it is where no two of all that they hashed do (`Strings.clean-of-all`)
   abbrev pub Clean : Type 0
   Clean = (x y : List ℕ) → List·Memᴰ x allOpenedAndChecked → List·Memᴰ y allOpenedAndChecked → H x ≡ H y → x ≡ y
 

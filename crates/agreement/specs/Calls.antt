@@ -5,14 +5,15 @@ use mathlib.Core.List.{List, [], _∷_, _++_}
 use mathlib.Core.Option.{Option, none, some}
 use Prim.Native.Nat.{ℕ, _+_, _-_, _*_}
 use lib.Dec.{eqb}
-use lib.ListN.{length, getD, take}
+use lib.ListN.{length, take}
 use Rattle.buffer.specs.Entries.{bodies}
 use Rattle.erasure.specs.Coding.{shares}
 use Rattle.merkle.specs.Shares.{codingStrings}
 use Rattle.commitment.specs.Rebuild.{recodedStrings}
 use Rattle.party.specs.State.{Result, resultIn, hasEnded, happy}
 use Rattle.party.specs.Steps.{openOf, Stepped, agreeRootOf, agreeBitOf, takeSharesOf, recoveredBy, takeRelaysOf}
-use Rattle.party.specs.Strings.{shareStrings, relayStrings}
+unfoldable pub use Rattle.party.specs.Steps.{entry}
+use Rattle.party.specs.Strings.{shareStrings, allShareStrings, relayStrings}
 use Rattle.party.specs.declared.Party.{Party}
 use Rattle.party.specs.declared.Opened.{Opened}
 
@@ -52,10 +53,6 @@ accepted (e ∷ es) = cond (eqb (e .reply .cause) 0) (e ∷ accepted es) (accept
 unfoldable pub first : ℕ → List Event → Option Event
 first k [] = none
 first k (e ∷ es) = cond (eqb (stepOf (e .call)) k) (some e) (first k es)
-
--- entry j of n entries; no bytes where there is none
-unfoldable pub entry : ℕ → ℕ → List ℕ → List ℕ
-entry n j s = getD (bodies n s) (j - 1) []
 
 -- what stands under sender j's number in the inbox that a call was handed
 abbrev pub heard : ℕ → ℕ → Option Event → List ℕ
@@ -116,7 +113,8 @@ module _ (H : List ℕ → List ℕ) where
   final x [] = x
   final x (c ∷ cs) = final (made x c .state) cs
 
-  -- the strings of the path checks that an accepted call makes; a happy party makes none, nor does one that reads its result again
+  -- the strings of the path checks that settle what an accepted call of an unhappy party relays or rebuilds: in step 4 up to the first that passes, in step 5
+  -- all, but none where it reads its result again
   unfoldable pub checkedIn : Party → Call → List (List ℕ)
   checkedIn x (agreeRoot z) = []
   checkedIn x (agreeBit bit out) = []
@@ -124,6 +122,15 @@ module _ (H : List ℕ → List ℕ) where
       cond (happy H x) [] (shareStrings H (x .seat .session) (x .seat .n) (x .seat .own) (x .root) 1 (bodies (x .seat .n) inbox))
   checkedIn x (takeRelays inbox out) =
       cond (hasEnded (x .stage) || happy H x) [] (relayStrings H (x .seat .session) (x .seat .n) (x .seat .own) 1 (bodies (x .seat .n) inbox))
+
+  -- those of all path checks that it makes, happy or not, for its map of those seen to be faulty (document 02, No. 7); the former are among them
+  -- (`Strings.checked-judged`)
+  unfoldable pub judgedIn : Party → Call → List (List ℕ)
+  judgedIn x (agreeRoot z) = []
+  judgedIn x (agreeBit bit out) = []
+  judgedIn x (takeShares inbox out) = allShareStrings H (x .seat .session) (x .seat .n) (x .seat .own) 1 (bodies (x .seat .n) inbox)
+  judgedIn x (takeRelays inbox out) =
+      cond (hasEnded (x .stage)) [] (relayStrings H (x .seat .session) (x .seat .n) (x .seat .own) 1 (bodies (x .seat .n) inbox))
 
   -- the strings of the message that an accepted call rebuilds and codes again: step 5 of an unhappy party that had not ended (document 02, No. 4)
   unfoldable pub recodedIn : Party → Call → List (List ℕ)
@@ -135,10 +142,17 @@ module _ (H : List ℕ → List ℕ) where
 
   -- beside those of the message that the state holds, these are all that an accepted call hashes
   abbrev pub hashedIn : Party → Call → List (List ℕ)
-  hashedIn x c = checkedIn x c ++ recodedIn x c
+  hashedIn x c = judgedIn x c ++ recodedIn x c
+
+  -- and these settle all that it gives but its map
+  abbrev pub settlingIn : Party → Call → List (List ℕ)
+  settlingIn x c = checkedIn x c ++ recodedIn x c
 
   abbrev pub checkedOver : List Event → List (List ℕ)
   checkedOver es = stringsOver checkedIn es
+
+  abbrev pub judgedOver : List Event → List (List ℕ)
+  judgedOver es = stringsOver judgedIn es
 
   abbrev pub recodedOver : List Event → List (List ℕ)
   recodedOver es = stringsOver recodedIn es
@@ -161,8 +175,8 @@ module _ (H : List ℕ → List ℕ) where
       abbrev pub resultAfter : Option Result
       resultAfter = resultIn (final (opening .state) calls)
 
-      -- the strings of its opening and of its path checks: the leaf and node strings of the message that it opened with, and those of the path checks it
-      -- made. Agreement supposes something of these alone
+      -- the strings of its opening and of the path checks that settle what it relays and rebuilds: the leaf and node strings of the message that it opened
+      -- with, and those of these checks. Agreement supposes something of these alone
       unfoldable pub openedAndChecked : List (List ℕ)
       openedAndChecked = codingStrings H session n (shares n (n - t) m) ++ checkedOver did
 
@@ -170,9 +184,17 @@ module _ (H : List ℕ → List ℕ) where
       unfoldable pub recoded : List (List ℕ)
       recoded = recodedOver did
 
-      -- all strings it hashed
+      -- the strings that settle its results
+      abbrev pub settling : List (List ℕ)
+      settling = openedAndChecked ++ recoded
+
+      -- those of all its path checks
+      unfoldable pub judged : List (List ℕ)
+      judged = judgedOver did
+
+      -- all strings it hashed; those of `openedAndChecked` are among them (`Strings.opened-hashed`)
       abbrev pub hashed : List (List ℕ)
-      hashed = openedAndChecked ++ recoded
+      hashed = codingStrings H session n (shares n (n - t) m) ++ judged ++ recoded
 
       -- the bytes it sent
       unfoldable pub sentBy : ℕ
