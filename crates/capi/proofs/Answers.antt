@@ -11,7 +11,7 @@ use lib.ListN.{length}
 use Rattle.buffer.specs.Given.{written}
 use Rattle.sha256.specs.Sha256.{hashOf}
 use Rattle.party.specs.State.{Result, nothing, settled}
-use Rattle.party.specs.Steps.{openOf, causeOf, valueOf, resultGiven, Stepped, stepped}
+use Rattle.party.specs.Steps.{openOf, causeOf, valueOf, resultGiven, faultyGiven, Stepped, stepped}
 use Rattle.party.specs.Sender.{messageBy, packetBy, senderCause, Begun, openBySenderOf}
 use Rattle.party.proofs.Sender.{cause-bounds, begun-short, begun-given}
 use Rattle.party.proofs.Outcomes as party
@@ -25,18 +25,19 @@ use Rattle.agreement.specs.Calls.{Call, made}
 use Rattle.capi.specs.Calls.{packed, returned, replies, valueShown, numberOf, over, openCall, opens, openBySenderCall, called, filled, hashCall}
 
 -- the value hangs on the answer and not on the buffer, and fits its half
-value-same : (a : Answer) (out : List ℕ) → valueShown (resultGiven a []) (valueOf a) ≡ valueShown (resultGiven a out) (valueOf a)
+value-same : (a : Answer) (out : List ℕ)
+    → valueShown (resultGiven a []) (faultyGiven a) (valueOf a) ≡ valueShown (resultGiven a out) (faultyGiven a) (valueOf a)
 value-same (answer.Refused k) out = refl
 value-same (answer.Short l) out = refl
 value-same (answer.Happy b) out = refl
 value-same (answer.Sent l) out = refl
-value-same answer.Nothing out = refl
-value-same (answer.Message l) out = refl
+value-same (answer.Nothing f) out = refl
+value-same (answer.Message l f) out = refl
 
-pub value-fits : (r : Option Result) (v : ℕ) → v < 2 ^ 32 → valueShown r v < 2 ^ 32
-value-fits none v h = h
-value-fits (some nothing) v h = omega arith
-value-fits (some (settled m)) v h = omega arith
+pub value-fits : (r : Option Result) (f v : ℕ) → v < 2 ^ 32 → f < 2 ^ 31 → valueShown r f v < 2 ^ 32
+value-fits none f v h g = h
+value-fits (some nothing) f v h g = omega (arith, g)
+value-fits (some (settled m)) f v h g = omega (arith, g)
 
 -- a reply over the bytes of the state, accepted or refused
 module _ (s : List ℕ) (r : Stepped) where
@@ -47,7 +48,7 @@ module _ (s : List ℕ) (r : Stepped) where
   over-left h = rw (ne-eqb (r .cause) 0 h)
 
 module _ (r : Reply) (s : List ℕ) (k v p : ℕ) (told : k ≡ causeOf (r .answer))
-    (valued : v ≡ valueShown (resultGiven (r .answer) []) (valueOf (r .answer))) where
+    (valued : v ≡ valueShown (resultGiven (r .answer) []) (faultyGiven (r .answer)) (valueOf (r .answer))) where
   number-is : (out : List ℕ) → packed k v ≡ numberOf (stepped r out)
   number-is out = ap₂ packed told (valued ∙ value-same (r .answer) out)
 

@@ -12,11 +12,12 @@ use lib.ListN.{length}
 use Rattle.limits.proofs.Group.{group-of}
 use Rattle.commitment.proofs.Opening.{open-bounds}
 use Rattle.party.specs.State.{seatOf, Result, nothing, settled, messageIn, atFirst, atEnd}
-use Rattle.party.specs.Steps.{openOf, Stepped, heldOf, resultOf}
+use Rattle.party.specs.Steps.{openOf, Stepped, faultyShares, heldOf, resultOf, faultyOf}
 use Rattle.commitment.specs.declared.Seat.{Seat}
 use Rattle.party.specs.declared.Party.{Party}
 use Rattle.party.specs.declared.Opened.{Opened}
 use Rattle.party.proofs.Causes.{fit-of}
+use Rattle.party.proofs.Faulty.{holds-empty, holds-shares, holds-given}
 use Rattle.party.proofs.Progress.{message-short, held-short, result-short, end-whole}
 use Rattle.state_bytes.specs.Layout.{stateLength, stateOf}
 use Rattle.state_bytes.proofs.Reading.{root-32, session-small}
@@ -31,10 +32,10 @@ use Rattle.capi.proofs.Asked.{unbroken}
 use Rattle.capi.proofs.Sound.{root-fine, whole, accepted-long}
 
 -- an end tells the length of its result
-end-length : (s : Seat) (r : Result) → lengthAnswer (atEnd s r .stage) ≡ lengthOf r
+end-length : (s : Seat) (r : Result) (f : ℕ) → lengthAnswer (atEnd s r f .stage) ≡ lengthOf r
 unfolding atEnd
-end-length s nothing = refl
-end-length s (settled m) = refl
+end-length s nothing f = refl
+end-length s (settled m) f = refl
 
 -- the state that an accepted call gives back fits its bytes
 either : (b : Bool) (y z : Party) → Storable y → Storable z → Storable (cond b y z)
@@ -52,20 +53,21 @@ module _ (H : List ℕ → List ℕ) (x : Party) (four : x .seat .session < 2 ^ 
       let w = whole H x (agreeBit bit out) e in
       let f = fit-of x w in
       subst (λ (r : Stepped). Storable (r .state)) (sym (did3 H x bit out e .2))
-      (either (eqb bit 0) (atEnd (x .seat) nothing) (atFirst (x .seat) (messageIn x) (x .root))
-      (end-storable (x .seat) four (f .high) (omega (arith, f .faults)) (f .last) nothing (omega arith))
+      (either (eqb bit 0) (atEnd (x .seat) nothing 0) (atFirst (x .seat) (messageIn x) (x .root))
+      (end-storable (x .seat) four (f .high) (omega (arith, f .faults)) (f .last) nothing 0 (omega arith) (holds-empty (x .seat .n) (x .seat .own) .named))
       (first-storable (x .seat) four (f .high) (omega (arith, f .faults)) (f .last) (messageIn x) (message-short H x w) (x .root) root))
   storable (takeShares inbox out) e =
       let w = whole H x (takeShares inbox out) e in
       let f = fit-of x w in
       subst (λ (r : Stepped). Storable (r .state)) (sym (did4 H x inbox out e .1))
       (second-storable (x .seat) four (f .high) (omega (arith, f .faults)) (f .last) (messageIn x) (message-short H x w) (x .root) root
-      (heldOf H x inbox) (held-short H x w inbox))
+      (heldOf H x inbox) (faultyShares H x inbox) (held-short H x w inbox) (holds-shares H x inbox f .named))
   storable (takeRelays inbox out) e =
       let w = whole H x (takeRelays inbox out) e in
       let f = fit-of x w in
       subst (λ (r : Stepped). Storable (r .state)) (sym (did5 H x inbox out e .1))
-      (end-storable (x .seat) four (f .high) (omega (arith, f .faults)) (f .last) (resultOf H x inbox) (result-short H x w inbox))
+      (end-storable (x .seat) four (f .high) (omega (arith, f .faults)) (f .last) (resultOf H x inbox) (faultyOf H x inbox) (result-short H x w inbox)
+      (holds-given H x inbox f .named))
 
 module _ (H : List ℕ → List ℕ) where
   -- one call: the buffer then says the state that the step gave back
@@ -100,12 +102,13 @@ module _ (H : List ℕ → List ℕ) where
       let x = stateOf s in
       let c = takeRelays inbox out in
       let r = resultOf H x inbox in
+      let m = faultyOf H x inbox in
       let w = whole H x c e in
       let f = fit-of x w in
       ap (λ (y : Party). unlessBroken y (lengthAnswer (y .stage))) (call-kept s c ∙ ap (λ (g : Stepped). g .state) (did5 H x inbox out e .1))
-      ∙ unbroken (atEnd (x .seat) r) (lengthAnswer (atEnd (x .seat) r .stage))
-      (end-whole (x .seat) (f .low) (f .high) (omega (arith, f .faults)) (f .first) (f .last) r (result-short H x w inbox))
-      ∙ end-length (x .seat) r
+      ∙ unbroken (atEnd (x .seat) r m) (lengthAnswer (atEnd (x .seat) r m .stage))
+      (end-whole (x .seat) (f .low) (f .high) (omega (arith, f .faults)) (f .first) (f .last) r m (result-short H x w inbox) (holds-given H x inbox f))
+      ∙ end-length (x .seat) r m
 
   -- an accepted opening: the buffer then says the state that a party opens with
   pub open-kept : (session n t own : ℕ) (m s z : List ℕ) → session < 2 ^ 32 → openOf H session n t own m .cause ≡ 0 → stateLength ≤ length s → 32 ≤ length z

@@ -9,6 +9,7 @@ use native.Mathlib.Decide.{ℕ-discrete}
 use native.Mathlib.Omega.{arith}
 use borrow.Author.Tests.{eq-eqb, ne-eqb, ltb-false}
 use lib.Dec.{ltb, eqb}
+use lib.Pow.{pow-mono}
 use lib.ListN.{length, length-take}
 use Rattle.limits.specs.Limits.{maxParties, maxMessage, maxShare, groupCause}
 use Rattle.limits.proofs.Group.{group-of}
@@ -23,7 +24,7 @@ use Rattle.commitment.specs.Rooms.{maxPacket, maxOutbox}
 use Rattle.commitment.proofs.Shared.{length-shares}
 use Rattle.party.specs.State.{Result, nothing, settled, resultBytes, messageIn, atBit, atFirst, atSecond, atEnd, happy}
 use Rattle.party.specs.Steps.{Stepped, stepped, gives, writes, rootCause, withRoot, agreeRootOf, bitCause, packetFor, outboxOf, agreeBitOf}
-use Rattle.party.specs.Steps.{inboxCause, relaysCause, relayOf, heldOf, Taken, missing, found, takenBy, packetTaken, takeSharesOf, resultOf, ending, takeRelaysOf}
+use Rattle.party.specs.Steps.{inboxCause, relaysCause, relayOf, heldOf, faultyShares, faultyOf, Taken, missing, found, takenBy, packetTaken, takeSharesOf, resultOf, ending, takeRelaysOf}
 use Rattle.party.specs.Private.{Fit}
 use Rattle.party.specs.declared.Party.{Party}
 use Rattle.party.specs.declared.Reply.{Reply}
@@ -32,6 +33,7 @@ use Rattle.party.proofs.Causes.{state-fit, state-sound, inbox-sound, relays-sou
 use Rattle.party.proofs.Kept.{take-padded}
 use Rattle.party.proofs.Outcomes.{root-refused, root-given}
 use Rattle.party.proofs.Progress.{result-short}
+use Rattle.party.proofs.Faulty.{holds-given}
 use Rattle.party.proofs.Rooms.{outbox-fits, relay-fits}
 use Rattle.erasure.proofs.Outcomes.{rebuild-refused}
 use Rattle.commitment.specs.Rebuild.{underRoot, rebuildWithRootOf}
@@ -60,14 +62,31 @@ value-of bs out = go (ltb (length out) (length bs))
     go true = refl
     go false = refl
 
-ending-value : (x : Party) (r : Result) (out : List ℕ) → length (resultBytes r) ≤ maxMessage → ending x r out .value < 2 ^ 32
-ending-value x nothing out h = omega arith
-ending-value x (settled m) out h = go (ltb (length out) (length m))
+writes-map : (x next : Party) (bs out : List ℕ) → writes x next bs out .faulty ≡ 0
+writes-map x next bs out = go (ltb (length out) (length bs))
   where
-    go : (b : Bool) → cond b (gives x (answer.Short (length m)) out)
-        (gives (atEnd (x .seat) (settled m)) (answer.Message (length m)) (spliced out 0 m)) .value < 2 ^ 32
-    go true = omega (arith, h)
-    go false = omega (arith, h)
+    go : (b : Bool) → cond b (gives x (answer.Short (length bs)) out) (gives next (answer.Sent (length bs)) (spliced out 0 bs)) .faulty ≡ 0
+    go true = refl
+    go false = refl
+
+-- a value and a map that fit
+abbrev pub Fitting : Stepped → Type 0
+Fitting r = (r .value < 2 ^ 32) × (r .faulty < 2 ^ 31)
+
+map-fits : (n f : ℕ) → n ≤ maxParties → f < 2 ^ n → f < 2 ^ 31
+map-fits n f h g = omega (arith, g, pow-mono {i = n} {j = maxParties} h, pow-mono {i = maxParties} {j = 31} (omega arith))
+
+writes-fitting : (x next : Party) (bs out : List ℕ) → length bs < 2 ^ 32 → Fitting (writes x next bs out)
+writes-fitting x next bs out h = (omega (arith, writes-value x next bs out, h), omega (arith, writes-map x next bs out))
+
+ending-fitting : (x : Party) (r : Result) (f : ℕ) (out : List ℕ) → length (resultBytes r) ≤ maxMessage → f < 2 ^ 31 → Fitting (ending x r f out)
+ending-fitting x nothing f out h g = (omega arith, g)
+ending-fitting x (settled m) f out h g = go (ltb (length out) (length m))
+  where
+    go : (b : Bool) → Fitting (cond b (gives x (answer.Short (length m)) out)
+        (gives (atEnd (x .seat) (settled m) f) (answer.Message (length m) f) (spliced out 0 m)))
+    go true = (omega (arith, h), omega arith)
+    go false = (omega (arith, h), g)
 
 -- what a party writes hangs on its message and not on how it is kept
 coded : (x : Party) → Fit x → Coded (x .seat .n) (x .seat .t) (messageIn x)
@@ -101,10 +120,10 @@ module _ (H : List ℕ → List ℕ) (x : Party) where
 
 module _ (H : List ℕ → List ℕ) (wide : (s : List ℕ) → length (H s) ≡ 32) (x : Party) where
   -- step 2: a bit
-  root-small : (z : List ℕ) → agreeRootOf H x z .value < 2 ^ 32
+  root-small : (z : List ℕ) → Fitting (agreeRootOf H x z)
   root-small z = elim (ℕ-discrete (rootCause x z) 0) [
-    | yes e ↦ rw (root-given H x z e) (one (happy H (withRoot x z)))
-    | no e ↦ rw (root-refused H x z e) (omega arith)
+    | yes e ↦ rw (root-given H x z e) (one (happy H (withRoot x z)), omega arith)
+    | no e ↦ rw (root-refused H x z e) (omega arith, omega arith)
   ]
     where
       one : (b : Bool) → cond b 1 0 < 2 ^ 32
@@ -117,14 +136,14 @@ module _ (H : List ℕ → List ℕ) (wide : (s : List ℕ) → length (H s) ≡
       subst (λ (l : List ℕ). length l ≤ maxOutbox) (bit-same H x bit)
       (outbox-fits H wide (x .seat) (messageIn x) (x .root) (coded x f) bit)
 
-  bit-small : (bit : ℕ) (out : List ℕ) → agreeBitOf H x bit out .value < 2 ^ 32
+  bit-small : (bit : ℕ) (out : List ℕ) → Fitting (agreeBitOf H x bit out)
   unfolding agreeBitOf
   bit-small bit out = elim (ℕ-discrete (bitCause x bit) 0) [
-    | yes e ↦ let next : Party = cond (eqb bit 0) (atEnd (x .seat) nothing)
+    | yes e ↦ let next : Party = cond (eqb bit 0) (atEnd (x .seat) nothing 0)
         (atFirst (x .seat) (messageIn x) (x .root)) in
         rw (eq-eqb (bitCause x bit) 0 e)
-        (omega (arith, writes-value x next (outboxOf H x bit) out, outbox-small (state-fit 3 x (bit-sound x bit e)) bit))
-    | no e ↦ rw (ne-eqb (bitCause x bit) 0 e) (omega arith)
+        (writes-fitting x next (outboxOf H x bit) out (omega (arith, outbox-small (state-fit 3 x (bit-sound x bit e)) bit)))
+    | no e ↦ rw (ne-eqb (bitCause x bit) 0 e) (omega arith, omega arith)
   ]
 
   -- step 4
@@ -133,47 +152,46 @@ module _ (H : List ℕ → List ℕ) (wide : (s : List ℕ) → length (H s) ≡
       subst (λ (l : List ℕ). length l ≤ maxPacket) (first-same H x inbox)
       (relay-fits H wide (x .seat) (messageIn x) (x .root) (coded x f) (f .first) (f .last) inbox)
 
-  shares-small : (inbox out : List ℕ) → takeSharesOf H x inbox out .value < 2 ^ 32
+  shares-small : (inbox out : List ℕ) → Fitting (takeSharesOf H x inbox out)
   unfolding takeSharesOf
   shares-small inbox out = elim (ℕ-discrete (inboxCause 4 x inbox) 0) [
-    | yes e ↦ let next : Party = atSecond (x .seat) (messageIn x) (x .root) (heldOf H x inbox) in
+    | yes e ↦ let next : Party = atSecond (x .seat) (messageIn x) (x .root) (heldOf H x inbox) (faultyShares H x inbox) in
         rw (eq-eqb (inboxCause 4 x inbox) 0 e)
-        (omega (
-          arith,
-          writes-value x next (relayOf H x inbox) out,
-          relay-small (state-fit 4 x (inbox-sound 4 x inbox e .0)) inbox,
-        ))
-    | no e ↦ rw (ne-eqb (inboxCause 4 x inbox) 0 e) (omega arith)
+        (writes-fitting x next (relayOf H x inbox) out (omega (arith, relay-small (state-fit 4 x (inbox-sound 4 x inbox e .0)) inbox)))
+    | no e ↦ rw (ne-eqb (inboxCause 4 x inbox) 0 e) (omega arith, omega arith)
   ]
 
   -- step 5
-  relays-small : (inbox out : List ℕ) → takeRelaysOf H x inbox out .value < 2 ^ 32
+  relays-small : (inbox out : List ℕ) → Fitting (takeRelaysOf H x inbox out)
   unfolding takeRelaysOf
   relays-small inbox out = elim (ℕ-discrete (relaysCause x inbox) 0) [
-    | yes e ↦ rw (eq-eqb (relaysCause x inbox) 0 e)
-        (ending-value x (resultOf H x inbox) out
-        (result-short H x (state-sound 5 x (relays-sound x inbox e .0) .0) inbox))
-    | no e ↦ rw (ne-eqb (relaysCause x inbox) 0 e) (omega arith)
+    | yes e ↦ let sound = relays-sound x inbox e .0 in
+        let f = state-fit 5 x sound in
+        rw (eq-eqb (relaysCause x inbox) 0 e)
+        (ending-fitting x (resultOf H x inbox) (faultyOf H x inbox) out (result-short H x (state-sound 5 x sound .0) inbox)
+        (map-fits (x .seat .n) (faultyOf H x inbox) (f .high) (holds-given H x inbox f .named)))
+    | no e ↦ rw (ne-eqb (relaysCause x inbox) 0 e) (omega arith, omega arith)
   ]
 
   -- any step
-  pub call-small : (c : Call) → made H x c .value < 2 ^ 32
+  pub call-small : (c : Call) → Fitting (made H x c)
   unfolding made
   call-small (agreeRoot z) = root-small z
   call-small (agreeBit bit out) = bit-small bit out
   call-small (takeShares inbox out) = shares-small inbox out
   call-small (takeRelays inbox out) = relays-small inbox out
 
-  pub step-small : (c : Call) (r : Reply) (out : List ℕ) → stepped r out ≡ made H x c → stepped r [] .value < 2 ^ 32
-  step-small c r out e = subst (λ (g : Stepped). g .value < 2 ^ 32) (sym e) (call-small c)
+  pub step-small : (c : Call) (r : Reply) (out : List ℕ) → stepped r out ≡ made H x c → Fitting (stepped r [])
+  step-small c r out e = subst Fitting (sym e) (call-small c)
 
   -- so both halves are there: what the header's two helpers give
   pub call-halves : (c : Call) → let r = made H x c in
-      (numberOf r / 2 ^ 32 ≡ r .cause) × (numberOf r % 2 ^ 32 ≡ valueShown (r .result) (r .value))
+      (numberOf r / 2 ^ 32 ≡ r .cause) × (numberOf r % 2 ^ 32 ≡ valueShown (r .result) (r .faulty) (r .value))
   unfolding packed
   call-halves c =
       let r = made H x c in
-      let h = value-fits (r .result) (r .value) (call-small c) in
+      let g = call-small c in
+      let h = value-fits (r .result) (r .faulty) (r .value) (g .0) (g .1) in
       (omega (arith, h), omega (arith, h))
 
 -- the shares of a message

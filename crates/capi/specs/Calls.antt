@@ -35,7 +35,7 @@ abbrev pub versionOf : ℕ → ℕ → ℕ → ℕ
 versionOf major minor patch = major * 2 ^ 16 + minor * 2 ^ 8 + patch
 
 abbrev pub libraryVersion : ℕ
-libraryVersion = versionOf 3 0 0
+libraryVersion = versionOf 4 0 0
 
 -- a cause (0: accepted) in the upper 32 bits, a value in the lower
 unfoldable pub packed : ℕ → ℕ → ℕ
@@ -67,15 +67,16 @@ pub record Opens : Type 0 where
 abbrev pub opens : ℕ → List ℕ → List ℕ → List ℕ → Opens
 opens r s z o = record { number = r; state = s; root = z; out = o }
 
--- the value of a step; of an accepted step 5 whether the result is a message, 1, or nothing, 0: no length, which the state tells (`resultLengthCall`)
-abbrev pub valueShown : Option Result → ℕ → ℕ
-valueShown none value = value
-valueShown (some nothing) value = 0
-valueShown (some (settled m)) value = 1
+-- the value of a step; of an accepted step 5 twice the map of parties seen to be faulty, and 1 more if the result is a message: bit 0 tells of a message, bit
+-- p of party p. The message's length the state tells (`resultLengthCall`)
+abbrev pub valueShown : Option Result → ℕ → ℕ → ℕ
+valueShown none faulty value = value
+valueShown (some nothing) faulty value = 2 * faulty
+valueShown (some (settled m)) faulty value = 2 * faulty + 1
 
 -- what a step gave back, as one number
 abbrev pub numberOf : Stepped → ℕ
-numberOf r = packed (r .cause) (valueShown (r .result) (r .value))
+numberOf r = packed (r .cause) (valueShown (r .result) (r .faulty) (r .value))
 
 -- and with the buffer that holds the state: an accepted call writes the new state over the old one, a refused call leaves every byte
 abbrev pub over : List ℕ → Stepped → Replies
@@ -122,6 +123,10 @@ ownCall s = unlessBroken (stateOf s) (packed 0 (stateOf s .seat .own))
 -- the number of its session
 unfoldable pub sessionCall : List ℕ → ℕ
 sessionCall s = unlessBroken (stateOf s) (packed 0 (stateOf s .seat .session))
+
+-- the map of the parties that it saw to be faulty
+unfoldable pub faultyCall : List ℕ → ℕ
+faultyCall s = unlessBroken (stateOf s) (packed 0 (stateOf s .faulty))
 
 -- the length of the message that the party ended with; cause 6 where it waits, or ended with nothing
 abbrev pub lengthAnswer : Stage → ℕ

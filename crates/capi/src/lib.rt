@@ -9,12 +9,12 @@ ghost use Rattle.sha256.specs.Sha256.{sha256};
 ghost use Rattle.buffer.specs.Given.{gave};
 ghost use Rattle.merkle.specs.Answer.{checked};
 ghost use Rattle.party.specs.State.{overlong};
-ghost use Rattle.party.specs.Steps.{causeOf, valueOf, resultGiven, stepped};
+ghost use Rattle.party.specs.Steps.{causeOf, valueOf, resultGiven, faultyGiven, stepped};
 ghost use Rattle.state_bytes.specs.Layout.{stateLength};
 ghost use Rattle.agreement.specs.Calls.{agreeRoot, agreeBit, takeShares, takeRelays};
 ghost use Rattle.capi.specs.Calls.{libraryVersion, packed, returned, replies, valueShown, over, openCall, opens, openBySenderCall, called, readPacketCall};
 ghost use Rattle.capi.specs.Calls.{readMessageCall, checkAnswer};
-ghost use Rattle.capi.specs.Calls.{stageCall, ownCall, sessionCall, lengthAnswer, resultLengthCall};
+ghost use Rattle.capi.specs.Calls.{stageCall, ownCall, sessionCall, faultyCall, lengthAnswer, resultLengthCall};
 ghost use Rattle.capi.specs.Calls.{checkPathCall, filled, sharesCall, rebuildCall, rebuildWithRootCall, hashCall};
 use buffer::Written;
 use merkle::Checked;
@@ -30,16 +30,11 @@ use party::Stage;
 use state_bytes::LENGTH;
 
 // The version of the library.
-const MAJOR: u32 = 3;
+const MAJOR: u32 = 4;
 
 const MINOR: u32 = 0;
 
 const PATCH: u32 = 0;
-
-// The values of step 5: whether it ends with nothing or with a message.
-const NOTHING: usize = 0;
-
-const MESSAGE: usize = 1;
 
 // The version of the library that is linked, as one number.
 #[no_mangle]
@@ -167,7 +162,8 @@ pub extern "C" fn cipangohu_take_shares(state: &mut [u8], inbox: &[u8], out: &mu
     finish(reply, state)
 }
 
-// Step 5: the second inbox. The value is 1 for a message, which goes to out, and 0 for nothing.
+// Step 5: the second inbox. A message goes to out. The value is odd for a message and even for nothing, and above that bit lies the map of those seen to be
+// faulty.
 #[no_mangle]
 pub extern "C" fn cipangohu_take_relays(state: &mut [u8], inbox: &[u8], out: &mut [u8]) -> u64
     ensures { λ r. ⌜ replies r (now (state .exit)) (now (out .exit))
@@ -213,6 +209,18 @@ pub extern "C" fn cipangohu_session(state: &[u8]) -> u64
         return pack(5, 0);
     }
     pack(0, party.seat.session as usize)
+}
+
+// The map of the parties that this one saw to be faulty.
+#[no_mangle]
+pub extern "C" fn cipangohu_faulty(state: &[u8]) -> u64
+    ensures { λ r. ⌜ r ≡ faultyCall (now (state .entry)) ⌝ }
+{
+    let party = state_bytes::read(state);
+    if party.broken() {
+        return pack(5, 0);
+    }
+    pack(0, party.faulty as usize)
 }
 
 // The length of the message that the party ended with.
@@ -343,7 +351,7 @@ fn pack(cause: u8, value: usize) -> u64
 
 // The next state over the old one, unless the call was refused, and the answer as one number.
 fn finish(reply: Reply, state: &mut [u8]) -> u64
-    requires { ⌜ stepped reply [] .value < 2 ^ 32 ⌝ }
+    requires { ⌜ (stepped reply [] .value < 2 ^ 32) × (stepped reply [] .faulty < 2 ^ 31) ⌝ }
     ensures { λ r. ⌜ ((out : List ℕ) → replies r (now (state .exit)) out ≡ over (now (state .entry)) (stepped reply out)) ⌝ }
 {
     let next = reply.state;
@@ -365,13 +373,13 @@ fn cause_of(answer: Answer) -> u8
         Answer::Short(_) => 9,
         Answer::Happy(_) => 0,
         Answer::Sent(_) => 0,
-        Answer::Nothing => 0,
-        Answer::Message(_) => 0,
+        Answer::Nothing(_) => 0,
+        Answer::Message(_, _) => 0,
     }
 }
 
 fn value_of(answer: Answer) -> usize
-    ensures { λ r. ⌜ r ≡ valueShown (resultGiven answer []) (valueOf answer) ⌝ }
+    ensures { λ r. ⌜ r ≡ valueShown (resultGiven answer []) (faultyGiven answer) (valueOf answer) ⌝ }
 {
     match answer {
         Answer::Refused(_) => 0,
@@ -383,8 +391,8 @@ fn value_of(answer: Answer) -> usize
             0
         }
         Answer::Sent(len) => len,
-        Answer::Nothing => NOTHING,
-        Answer::Message(_) => MESSAGE,
+        Answer::Nothing(faulty) => 2 * (faulty as usize),
+        Answer::Message(_, faulty) => 2 * (faulty as usize) + 1,
     }
 }
 

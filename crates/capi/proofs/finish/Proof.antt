@@ -4,7 +4,7 @@ use mathlib.Core.List.{[]}
 use Prim.Native.Nat.{_<_, _^_}
 use native.Mathlib.Omega.{arith}
 use Rattle.buffer.specs.Given.{Given}
-use Rattle.party.specs.Steps.{valueOf, resultGiven}
+use Rattle.party.specs.Steps.{valueOf, resultGiven, faultyGiven}
 use Rattle.capi.proofs.Answers.{value-fits, finish-written, finish-left}
 use borrow.Author.Needs.{needs}
 use Rattle.capi.proofs.finish.Statement.{statement}
@@ -15,7 +15,7 @@ fits : (v : tie.After-value-of) → v .value-of .result < 2 ^ 32
 fits v =
     let st = v .before .before .before .before in
     let a = st .args .reply .answer in
-    omega (arith, v .value-of .ensures, value-fits (resultGiven a []) (valueOf a) (st .pre))
+    omega (arith, v .value-of .ensures, value-fits (resultGiven a []) (faultyGiven a) (valueOf a) (st .pre .0) (st .pre .1))
 
 cause-of-requires : tie.Need-cause-of-requires
 cause-of-requires c κs = search needs
