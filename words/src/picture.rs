@@ -371,7 +371,7 @@ impl Card {
         let seen = self.seen.iter().flat_map(|it| wrapped(it, letters));
         let class = |place| match place == 0 && self.titled {
             true => "strong",
-            false => "",
+            false => "ink",
         };
         let text = text.enumerate().map(|(place, it)| (it, class(place)));
         text.chain(seen.map(|it| (it, "strong cheat"))).collect()
