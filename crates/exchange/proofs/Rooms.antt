@@ -20,7 +20,8 @@ use Rattle.packet.specs.Format.{entryOf}
 use Rattle.packet.specs.Inbox.{inboxOf}
 use Rattle.packet.proofs.Inbox.{inbox-more}
 use Rattle.packet.proofs.Parts.{entry-length}
-use Rattle.plan.specs.Layout.{names, packetFrom}
+use Rattle.bitmap.specs.Bitmap.{names}
+use Rattle.plan.specs.Layout.{packetFrom}
 use Rattle.plan.proofs.Packets.{total, total-most, total-last, one-term, packetLength, packets-within}
 use Rattle.exchange.specs.Exchange.{sentTo, inboxTo, slotOf, maxInbox, fillOf}
 use Rattle.exchange.specs.Private.{Lawful, sentBy, inboxBy}

@@ -16,7 +16,8 @@ use Rattle.buffer.specs.declared.Written.{Written}
 use Rattle.buffer.proofs.Given.{written-done}
 use Rattle.buffer.specs.declared.Written.the-variants.{Refused, Short, Done}
 use Rattle.packet.specs.Inbox.{inboxOf}
-use Rattle.plan.specs.Layout.{names, packetFrom}
+use Rattle.bitmap.specs.Bitmap.{names}
+use Rattle.plan.specs.Layout.{packetFrom}
 use Rattle.exchange.specs.Exchange.{sentTo, inboxTo, maxInbox, fillOf}
 use Rattle.exchange.specs.Private.{inboxBy}
 use Rattle.exchange.specs.declared.Mail.{Mail}

@@ -11,7 +11,7 @@ use lib.Seq.{length-take-le, take-append-le, take-append-seam, drop-append-le, d
 use Rattle.buffer.specs.Splice.{spliced}
 use Rattle.buffer.proofs.Places.{drop-min, take-min}
 use Rattle.buffer.proofs.Rows.{row-inside}
-use Rattle.plan.specs.Layout.{names}
+use Rattle.bitmap.specs.Bitmap.{names}
 use Rattle.exchange.specs.Exchange.{slotOf, Slots}
 
 -- a part of a list's front

@@ -11,7 +11,8 @@ use Rattle.buffer.specs.Entries.{entryAt}
 use Rattle.buffer.specs.Given.{Given, gave}
 use Rattle.buffer.specs.declared.Written.the-variants.{Refused, Short, Done}
 use Rattle.packet.specs.Inbox.{inboxOf}
-use Rattle.plan.specs.Layout.{names, packetFrom}
+use Rattle.bitmap.specs.Bitmap.{names}
+use Rattle.plan.specs.Layout.{packetFrom}
 use Rattle.exchange.specs.declared.Mail.{Mail}
 
 -- Among n parties, of whom the map g names the good ones: what a good party wrote, whole (a relay, which goes to all) or not (an outbox, with

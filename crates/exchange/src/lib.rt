@@ -117,7 +117,7 @@ fn sent(
     if p == i {
         return 0;
     }
-    if plan::names(mail.good, p) {
+    if bitmap::names(mail.good, p) {
         return handed(mail, slots, lens, p, i, out);
     }
     buffer::value_of(plan::packet(blocks, mail.n, mail.good, p, i, out))

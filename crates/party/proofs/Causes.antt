@@ -1,20 +1,21 @@
 -- The causes for which a party's steps are refused: one law for each, and what holds where none applies. Assumes nothing.
-use mathlib.Core.Path.{_≡_, refl, sym, _∙_}
+use mathlib.Core.Path.{_≡_, refl, sym, ap, _∙_}
 use mathlib.Core.Bool.{Bool, true, false, cond, not, _||_}
 use mathlib.Core.List.{List}
-use Prim.Native.Nat.{ℕ, _<_, _≤_}
+use Prim.Native.Nat.{ℕ, _^_, _<_, _≤_}
 use native.Mathlib.Omega.{arith}
-use borrow.Author.Tests.{lt-ltb, le-ltb, eq-eqb, ne-eqb, ltb-false, eqb-true, not-false}
+use borrow.Author.Tests.{lt-ltb, le-ltb, eq-eqb, ne-eqb, ltb-true, ltb-false, eqb-true, not-false}
 use lib.Dec.{ltb, eqb}
 use lib.ListN.{length}
 use Rattle.limits.specs.Limits.{maxMessage, maxShare, numbered, groupCause}
 use Rattle.limits.proofs.Ranges.{numbered-within, numbered-range}
 use Rattle.limits.proofs.Group.{group-of, group-fine}
 use Rattle.buffer.specs.Entries.{fills}
+use Rattle.bitmap.specs.Bitmap.{names, upTo}
 use Rattle.limits.proofs.Booleans.{neither}
 use Rattle.commitment.specs.Commitment.{openCause}
 use Rattle.commitment.proofs.Opening.{spared, cleared, open-fine, open-bounds}
-use Rattle.party.specs.State.{hasEnded, broken, overlong}
+use Rattle.party.specs.State.{hasEnded, stray, broken, overlong}
 use Rattle.party.specs.Steps.{turnOf, stateCause, rootCause, bitCause, inboxCause, relaysCause}
 use Rattle.party.specs.Private.{Fit}
 use Rattle.party.specs.declared.Party.{Party}
@@ -28,8 +29,11 @@ fit-of x e =
     let o : Bool = not (numbered (x .seat .n) (x .seat .own)) in
     let l : Bool = ltb maxMessage (x .len) in
     let h : Bool = ltb maxShare (x .held) in
-    let stage = neither (g || o || l || h) (overlong (x .stage)) e in
-    let held = neither (g || o || l) h (stage .0) in
+    let m : Bool = not (upTo (x .seat .n) (x .faulty)) in
+    let stage = neither (g || o || l || h || stray x) (overlong (x .stage)) e in
+    let map = neither (g || o || l || h) (stray x) (stage .0) in
+    let named = neither m (names (x .faulty) (x .seat .own)) (map .1) in
+    let held = neither (g || o || l) h (map .0) in
     let long = neither (g || o) l (held .0) in
     let first = neither g o (long .0) in
     let group = group-of (x .seat .n) (x .seat .t) (eqb-true (groupCause (x .seat .n) (x .seat .t)) 0 (not-false (eqb (groupCause (x .seat .n) (x .seat .t)) 0) (first .0))) in
@@ -42,6 +46,8 @@ fit-of x e =
       last = own .1;
       short = ltb-false maxMessage (x .len) (long .1);
       few = ltb-false maxShare (x .held) (held .1);
+      named = ltb-true (x .faulty) (2 ^ x .seat .n) (not-false (upTo (x .seat .n) (x .faulty)) (named .0));
+      others = named .1;
     }
 
 -- and a result within its limit
@@ -50,7 +56,7 @@ unfolding broken
 whole-stage x e =
     neither
     (not (eqb (groupCause (x .seat .n) (x .seat .t)) 0) || not (numbered (x .seat .n) (x .seat .own)) || ltb maxMessage (x .len)
-    || ltb maxShare (x .held))
+    || ltb maxShare (x .held) || stray x)
     (overlong (x .stage)) e .1
 
 -- the opening of such a state's message would be accepted
@@ -80,16 +86,23 @@ module _ (x : Party) where
           lt-ltb maxShare (x .held) h,
         )
 
-    pub broken-stage : x .held ≤ maxShare → broken x ≡ overlong (x .stage)
-    unfolding broken
-    broken-stage h =
-        let b = open-bounds (x .seat .n) (x .seat .t) (x .seat .own) (x .len) fine in
-        rw (
-          eq-eqb (groupCause (x .seat .n) (x .seat .t)) 0 (b .0),
-          numbered-within (x .seat .n) (x .seat .own) (b .1) (b .2),
-          le-ltb maxMessage (x .len) (b .3),
-          le-ltb maxShare (x .held) h,
-        )
+    module _ (short : x .held ≤ maxShare) where
+      last-two : broken x ≡ stray x || overlong (x .stage)
+      unfolding broken
+      last-two =
+          let b = open-bounds (x .seat .n) (x .seat .t) (x .seat .own) (x .len) fine in
+          rw (
+            eq-eqb (groupCause (x .seat .n) (x .seat .t)) 0 (b .0),
+            numbered-within (x .seat .n) (x .seat .own) (b .1) (b .2),
+            le-ltb maxMessage (x .len) (b .3),
+            le-ltb maxShare (x .held) short,
+          )
+
+      pub broken-map : stray x ≡ true → broken x ≡ true
+      broken-map h = last-two ∙ ap (λ (b : Bool). b || overlong (x .stage)) h
+
+      pub broken-stage : stray x ≡ false → broken x ≡ overlong (x .stage)
+      broken-stage h = last-two ∙ ap (λ (b : Bool). b || overlong (x .stage)) h
 
 -- causes 5 and 6
 module _ (turn : ℕ) (x : Party) where

@@ -1,9 +1,9 @@
 -- Packets that pass in an inbox: the strings of their check are among those hashed, step 4 finds one where there is one, and what step 5
 -- gathers. By cases of a packet's class, and by induction along an inbox. Assumes nothing.
 use mathlib.Core.Path.{_≡_, refl, sym, ap, ap₂, _∙_, subst}
-use mathlib.Core.Logic.{_≢_}
+use mathlib.Core.Logic.{_≢_, inl, inr}
 use mathlib.Core.Bool.{cond}
-use mathlib.Core.List.{List, [], _∷_, List·Memᴰ, Memᴰ·append-left, Memᴰ·append-right}
+use mathlib.Core.List.{List, [], _∷_, _++_, List·Memᴰ, List·Memᴰ·not-nil, List·Memᴰ·append-cases, Memᴰ·append-left, Memᴰ·append-right}
 use Prim.Native.Nat.{ℕ, zero, suc, _+_, _<_}
 use native.Mathlib.Nat.{add-zero}
 use native.Mathlib.Omega.{arith}
@@ -13,7 +13,7 @@ use lib.ListN.{length, getD}
 use Rattle.packet.specs.Class.{Class, silent, faulty, valid, classOf, classStrings}
 use Rattle.party.specs.State.{shareHeld}
 use Rattle.party.specs.Steps.{missing, found, firstValid, shareFrom, gathered}
-use Rattle.party.specs.Strings.{unlessValid, shareStrings, relayStrings}
+use Rattle.party.specs.Strings.{unlessValid, shareStrings, judgedStrings, allShareStrings, relayStrings}
 use Rattle.party.specs.declared.Party.{Party}
 use Rattle.party.proofs.Ways.{Way, on, off, way}
 
@@ -90,20 +90,51 @@ module _ (H : List ℕ → List ℕ) (session n : ℕ) where
       go (off a) faulty f r = (r .0, r .1, rw (a, f) (r .2))
       go (off a) (valid y q) f r = (y, q, rw (a, f))
 
-  -- the strings of step 5's checks
-  pub in-relays : (i j : ℕ) (ps : List (List ℕ)) (k : ℕ) → k < length ps → j + k ≢ i → (s : List ℕ)
-      → List·Memᴰ s (classStrings H session n (j + k) (getD ps k [])) → List·Memᴰ s (relayStrings H session n i j ps)
-  unfolding relayStrings
-  in-relays i j [] k l d s h = absurd (omega arith)
-  in-relays i j (w ∷ ps) zero l d s h =
+  -- the strings of all checks of an inbox
+  pub in-judged : (i : ℕ) (number : ℕ → ℕ) (j : ℕ) (ps : List (List ℕ)) (k : ℕ) → k < length ps → j + k ≢ i → (s : List ℕ)
+      → List·Memᴰ s (classStrings H session n (number (j + k)) (getD ps k [])) → List·Memᴰ s (judgedStrings H session n i number j ps)
+  unfolding judgedStrings
+  in-judged i number j [] k l d s h = absurd (omega arith)
+  in-judged i number j (w ∷ ps) zero l d s h =
       let e : j + 0 ≡ j = add-zero j in
       rw (ne-eqb j i (λ a. d (e ∙ a)))
-      (Memᴰ·append-left (relayStrings H session n i (j + 1) ps) (subst (λ (u : ℕ). List·Memᴰ s (classStrings H session n u w)) e h))
-  in-relays i j (w ∷ ps) (suc k) l d s h =
+      (Memᴰ·append-left (judgedStrings H session n i number (j + 1) ps)
+      (subst (λ (u : ℕ). List·Memᴰ s (classStrings H session n (number u) w)) e h))
+  in-judged i number j (w ∷ ps) (suc k) l d s h =
       let e : j + suc k ≡ j + 1 + k = omega arith in
-      Memᴰ·append-right (cond (eqb j i) [] (classStrings H session n j w))
-      (in-relays i (j + 1) ps k (omega arith) (λ a. d (e ∙ a)) s
-      (subst (λ (u : ℕ). List·Memᴰ s (classStrings H session n u (getD ps k []))) e h))
+      Memᴰ·append-right (cond (eqb j i) [] (classStrings H session n (number j) w))
+      (in-judged i number (j + 1) ps k (omega arith) (λ a. d (e ∙ a)) s
+      (subst (λ (u : ℕ). List·Memᴰ s (classStrings H session n (number u) (getD ps k []))) e h))
+
+  -- those of step 5's
+  pub in-relays : (i j : ℕ) (ps : List (List ℕ)) (k : ℕ) → k < length ps → j + k ≢ i → (s : List ℕ)
+      → List·Memᴰ s (classStrings H session n (j + k) (getD ps k [])) → List·Memᴰ s (relayStrings H session n i j ps)
+  in-relays i j ps k l d s h = in-judged i (λ u. u) j ps k l d s h
+
+  -- the checks that settle what is relayed are among those of all
+  pub shares-judged : (i : ℕ) (z : List ℕ) (j : ℕ) (ps : List (List ℕ)) (s : List ℕ) → List·Memᴰ s (shareStrings H session n i z j ps)
+      → List·Memᴰ s (allShareStrings H session n i j ps)
+  unfolding shareStrings judgedStrings
+  shares-judged i z j [] s h = h
+  shares-judged i z j (w ∷ ps) s h = go (way (eqb j i)) (classOf H session n i z w) refl (shares-judged i z (j + 1) ps s)
+    where
+      split : (c : Class) → (List·Memᴰ s (shareStrings H session n i z (j + 1) ps) → List·Memᴰ s (allShareStrings H session n i (j + 1) ps))
+          → List·Memᴰ s (classStrings H session n i w ++ unlessValid c (shareStrings H session n i z (j + 1) ps))
+          → List·Memᴰ s (classStrings H session n i w ++ allShareStrings H session n i (j + 1) ps)
+      split c r m = elim (List·Memᴰ·append-cases (classStrings H session n i w) m) [
+        | inl a ↦ Memᴰ·append-left (allShareStrings H session n i (j + 1) ps) a
+        | inr b ↦ Memᴰ·append-right (classStrings H session n i w) (rest c b)
+      ]
+        where
+          rest : (c : Class) → List·Memᴰ s (unlessValid c (shareStrings H session n i z (j + 1) ps)) → List·Memᴰ s (allShareStrings H session n i (j + 1) ps)
+          rest silent b = r b
+          rest faulty b = r b
+          rest (valid x p) b = absurd (List·Memᴰ·not-nil b)
+
+      go : Way (eqb j i) → (c : Class) → classOf H session n i z w ≡ c → (List·Memᴰ s (shareStrings H session n i z (j + 1) ps) → List·Memᴰ s (allShareStrings H session n i (j + 1) ps))
+          → List·Memᴰ s (cond (eqb j i) [] (classStrings H session n i w) ++ allShareStrings H session n i (j + 1) ps)
+      go (on a) c q r = rw a (r (rw a at h))
+      go (off a) c q r = rw a (split c r (rw (a, q) at h))
 
 -- what step 5 gathers under each number
 pub gathered-at : (H : List ℕ → List ℕ) (x : Party) (j : ℕ) (ps : List (List ℕ)) (k : ℕ) → k < length ps

@@ -35,7 +35,7 @@ pub length-message : (x : Party) → x .len ≤ length (x .message) → length (
 length-message x h = length-take-le (x .len) (x .message) h
 
 -- a state with its message and its share kept waits
-pub waiting-kept : (s : Seat) (stage : Stage) (bs m r z a y : List ℕ) (len held : ℕ) → bs ≡ padded maxMessage m → len ≡ length m
+pub waiting-kept : (s : Seat) (stage : Stage) (bs m r z a y : List ℕ) (len held f : ℕ) → bs ≡ padded maxMessage m → len ≡ length m
     → r ≡ z → a ≡ padded maxShare y → held ≡ length y
     → _≡_ {A = Party} (record {
       seat = s;
@@ -45,11 +45,12 @@ pub waiting-kept : (s : Seat) (stage : Stage) (bs m r z a y : List ℕ) (len hel
       root = r;
       share = a;
       held = held;
-    }) (waiting s stage m z y)
-waiting-kept s stage bs m r z a y len held e l q p h = rw (e, l, q, p, h)
+      faulty = f;
+    }) (waiting s stage m z y f)
+waiting-kept s stage bs m r z a y len held f e l q p h = rw (e, l, q, p, h)
 
 -- a state with a result kept has ended
-pub ended-kept : (s : Seat) (r : Result) (bs : List ℕ) → bs ≡ padded maxMessage (resultBytes r)
+pub ended-kept : (s : Seat) (r : Result) (f : ℕ) (bs : List ℕ) → bs ≡ padded maxMessage (resultBytes r)
     → _≡_ {A = Party} (record {
       seat = s;
       stage = Ended (outcomeOf r);
@@ -58,15 +59,16 @@ pub ended-kept : (s : Seat) (r : Result) (bs : List ℕ) → bs ≡ padded maxMe
       root = blank;
       share = replicate maxShare 0;
       held = 0;
-    }) (atEnd s r)
+      faulty = f;
+    }) (atEnd s r f)
 unfolding atEnd
-ended-kept s r bs e = rw e
+ended-kept s r f bs e = rw e
 
 -- and holds it
-pub result-end : (s : Seat) (r : Result) → resultIn (atEnd s r) ≡ some r
+pub result-end : (s : Seat) (r : Result) (f : ℕ) → resultIn (atEnd s r f) ≡ some r
 unfolding atEnd
-result-end s nothing = refl
-result-end s (settled m) = ap {B = Option Result} (λ (l : List ℕ). some (settled l)) (take-padded maxMessage m)
+result-end s nothing f = refl
+result-end s (settled m) f = ap {B = Option Result} (λ (l : List ℕ). some (settled l)) (take-padded maxMessage m)
 
 -- the message of a state that waits, and its relayed share
 module _ (s : Seat) (m z : List ℕ) where
@@ -82,10 +84,10 @@ module _ (s : Seat) (m z : List ℕ) where
   unfolding atFirst
   message-first = take-padded maxMessage m
 
-  pub message-second : (x : List ℕ) → messageIn (atSecond s m z x) ≡ m
+  pub message-second : (x : List ℕ) (f : ℕ) → messageIn (atSecond s m z x f) ≡ m
   unfolding atSecond
-  message-second x = take-padded maxMessage m
+  message-second x f = take-padded maxMessage m
 
-  pub share-second : (x : List ℕ) → shareHeld (atSecond s m z x) ≡ x
+  pub share-second : (x : List ℕ) (f : ℕ) → shareHeld (atSecond s m z x f) ≡ x
   unfolding atSecond
-  share-second x = take-padded maxShare x
+  share-second x f = take-padded maxShare x

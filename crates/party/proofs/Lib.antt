@@ -3,6 +3,9 @@ pub mod Outcomes
 pub mod Kept
 pub mod Silence
 pub mod Walk
+pub mod Found
+pub mod Faulty
+pub mod Marked
 pub mod Gather
 pub mod Taking
 pub mod Ways

@@ -20,8 +20,8 @@ use Rattle.commitment.specs.Rebuild.{underRoot}
 use Rattle.party.specs.State.{seatOf, Result, nothing, settled, messageIn, atRoot, atFirst, atSecond, atEnd, blankState, messageRoot, happy}
 use Rattle.party.specs.State.{resultFrom, resultAt, resultIn, hasEnded}
 use Rattle.party.specs.Steps.{turnOf, openCause, openOf, rootCause, withRoot, agreeRootOf, bitCause, gives, refused, stepped, writes, outboxOf}
-use Rattle.party.specs.Steps.{agreeBitOf, inboxCause, takenBy, shareTaken, packetTaken, ownRelay, relayOf, heldOf, takeSharesOf}
-use Rattle.party.specs.Steps.{rebuilt, recoveredBy, relaysCause, resultFound, resultOf, ending, takeRelaysOf}
+use Rattle.party.specs.Steps.{agreeBitOf, inboxCause, faultyShares, takenBy, shareTaken, packetTaken, ownRelay, relayOf, heldOf, takeSharesOf}
+use Rattle.party.specs.Steps.{rebuilt, recoveredBy, relaysCause, faultyRelays, resultFound, resultOf, faultyOf, ending, takeRelaysOf}
 use Rattle.party.specs.Private.{after}
 use Rattle.party.specs.declared.Stage.{Stage}
 use Rattle.party.specs.declared.Stage.the-variants.{Root, Bit, First, Second, Ended}
@@ -91,7 +91,7 @@ module _ (H : List ℕ → List ℕ) where
 
     module _ (fine : bitCause x bit ≡ 0) where
       bit-given : agreeBitOf H x bit out
-          ≡ writes x (cond (eqb bit 0) (atEnd (x .seat) nothing) (atFirst (x .seat) (messageIn x) (x .root)))
+          ≡ writes x (cond (eqb bit 0) (atEnd (x .seat) nothing 0) (atFirst (x .seat) (messageIn x) (x .root)))
           (outboxOf H x bit) out
       unfolding agreeBitOf
       bit-given = rw (eq-eqb (bitCause x bit) 0 fine)
@@ -99,15 +99,15 @@ module _ (H : List ℕ → List ℕ) where
       abbrev Sent : ℕ → Party → Type 0
       Sent b y = agreeBitOf H x bit out ≡ writes x y (outboxOf H x b) out
 
-      pub bit-end : bit ≡ 0 → agreeBitOf H x bit out ≡ writes x (atEnd (x .seat) nothing) (outboxOf H x 0) out
+      pub bit-end : bit ≡ 0 → agreeBitOf H x bit out ≡ writes x (atEnd (x .seat) nothing 0) (outboxOf H x 0) out
       bit-end e =
-          subst (λ (b : ℕ). Sent b (cond (eqb b 0) (atEnd (x .seat) nothing)
+          subst (λ (b : ℕ). Sent b (cond (eqb b 0) (atEnd (x .seat) nothing 0)
           (atFirst (x .seat) (messageIn x) (x .root)))) e bit-given
 
       pub bit-first : bit ≡ 1
           → agreeBitOf H x bit out ≡ writes x (atFirst (x .seat) (messageIn x) (x .root)) (outboxOf H x 1) out
       bit-first e =
-          subst (λ (b : ℕ). Sent b (cond (eqb b 0) (atEnd (x .seat) nothing)
+          subst (λ (b : ℕ). Sent b (cond (eqb b 0) (atEnd (x .seat) nothing 0)
           (atFirst (x .seat) (messageIn x) (x .root)))) e bit-given
 
   -- step 4, the first inbox
@@ -118,12 +118,12 @@ module _ (H : List ℕ → List ℕ) where
 
     module _ (fine : inboxCause 4 x inbox ≡ 0) where
       pub shares-happy : happy H x ≡ true
-          → takeSharesOf H x inbox out ≡ writes x (atSecond (x .seat) (messageIn x) (x .root) []) (ownRelay H x) out
+          → takeSharesOf H x inbox out ≡ writes x (atSecond (x .seat) (messageIn x) (x .root) [] (faultyShares H x inbox)) (ownRelay H x) out
       unfolding takeSharesOf relayOf heldOf
       shares-happy h = rw (eq-eqb (inboxCause 4 x inbox) 0 fine, h)
 
       pub shares-taken : happy H x ≡ false → takeSharesOf H x inbox out
-          ≡ writes x (atSecond (x .seat) (messageIn x) (x .root) (shareTaken (takenBy H x inbox)))
+          ≡ writes x (atSecond (x .seat) (messageIn x) (x .root) (shareTaken (takenBy H x inbox)) (faultyShares H x inbox))
           (packetTaken x (takenBy H x inbox)) out
       unfolding takeSharesOf relayOf heldOf
       shares-taken h = rw (eq-eqb (inboxCause 4 x inbox) 0 fine, h)
@@ -135,13 +135,13 @@ module _ (H : List ℕ → List ℕ) where
     relays-refused h = rw (ne-eqb (relaysCause x inbox) 0 h)
 
     module _ (fine : relaysCause x inbox ≡ 0) where
-      pub relays-found : resultIn x ≡ none → takeRelaysOf H x inbox out ≡ ending x (resultFound H x inbox) out
-      unfolding takeRelaysOf resultOf
-      relays-found h = rw (eq-eqb (relaysCause x inbox) 0 fine, h)
+      pub relays-found : resultIn x ≡ none → takeRelaysOf H x inbox out ≡ ending x (resultFound H x inbox) (faultyRelays H x inbox) out
+      unfolding takeRelaysOf resultOf faultyOf
+      relays-found h = rw (eq-eqb (relaysCause x inbox) 0 fine, h, holds-not x h)
 
-      pub relays-again : (r : Result) → resultIn x ≡ some r → takeRelaysOf H x inbox out ≡ ending x r out
-      unfolding takeRelaysOf resultOf
-      relays-again r h = rw (eq-eqb (relaysCause x inbox) 0 fine, h)
+      pub relays-again : (r : Result) → resultIn x ≡ some r → takeRelaysOf H x inbox out ≡ ending x r (x .faulty) out
+      unfolding takeRelaysOf resultOf faultyOf
+      relays-again r h = rw (eq-eqb (relaysCause x inbox) 0 fine, h, holds-ended x r h .0)
 
   -- the result that is found, by whether the party is happy
   module _ (x : Party) (inbox : List ℕ) where
@@ -173,10 +173,10 @@ pub writes-nothing : (x next : Party) (out : List ℕ) → writes x next [] out 
 writes-nothing x next out = rw (le-ltb (length out) 0 (omega arith), spliced-none out 0)
 
 -- an end with a message: cause 9, or the message is written
-module _ (x : Party) (m out : List ℕ) where
-  pub ending-short : length out < length m → ending x (settled m) out ≡ gives x (answer.Short (length m)) out
+module _ (x : Party) (m : List ℕ) (f : ℕ) (out : List ℕ) where
+  pub ending-short : length out < length m → ending x (settled m) f out ≡ gives x (answer.Short (length m)) out
   ending-short h = rw (lt-ltb (length out) (length m) h)
 
   pub ending-done : length m ≤ length out
-      → ending x (settled m) out ≡ gives (atEnd (x .seat) (settled m)) (answer.Message (length m)) (spliced out 0 m)
+      → ending x (settled m) f out ≡ gives (atEnd (x .seat) (settled m) f) (answer.Message (length m) f) (spliced out 0 m)
   ending-done h = rw (le-ltb (length out) (length m) h)

@@ -19,7 +19,7 @@ use Rattle.packet.proofs.Class.{passing}
 use Rattle.party.specs.State.{Result, nothing, settled, resultBytes, messageIn, atRoot, atBit, atFirst, atSecond, atEnd, broken, happy}
 use Rattle.party.specs.State.{resultAt, hasEnded, overlong}
 use Rattle.party.specs.Steps.{turnOf, openOf, bitCause, inboxCause, relaysCause, agreeRootOf, outboxOf, agreeBitOf, Taken, missing, found, takenBy}
-use Rattle.party.specs.Steps.{shareTaken, relayOf, heldOf, takeSharesOf, gathered, recoveredBy, rebuilt, resultFound, heldOr, resultOf, ending, takeRelaysOf, writes, Stepped}
+use Rattle.party.specs.Steps.{shareTaken, faultyShares, relayOf, heldOf, takeSharesOf, gathered, recoveredBy, rebuilt, resultFound, heldOr, resultOf, faultyOf, ending, takeRelaysOf, writes, Stepped}
 use Rattle.party.specs.declared.Outcome.the-variants.{Nothing, Message}
 use Rattle.party.specs.declared.Stage.{Stage}
 use Rattle.party.specs.declared.Stage.the-variants.{Root, Bit, First, Second, Ended}
@@ -33,14 +33,15 @@ use Rattle.commitment.proofs.Rebuild.{Short, short-recovered, short-under}
 use Rattle.party.proofs.Causes.{fit-of, whole-stage, broken-stage, state-fine, root-fine, bit-fine, inbox-fine, relays-fine}
 use Rattle.party.proofs.Outcomes.{open-given, root-given}
 use Rattle.party.proofs.Checks.{took}
+use Rattle.party.proofs.Faulty.{Holds, holds-empty, holds-fine}
 
 -- a buffer that is long enough is written to
 room-for : (x next : Party) (bs out : List ℕ) → length bs ≤ length out → writes x next bs out .cause ≡ 0
 room-for x next bs out h = rw (le-ltb (length out) (length bs) h)
 
-room-for-end : (x : Party) (r : Result) (out : List ℕ) → length (resultBytes r) ≤ length out → ending x r out .cause ≡ 0
-room-for-end x nothing out h = refl
-room-for-end x (settled m) out h = rw (le-ltb (length out) (length m) h)
+room-for-end : (x : Party) (r : Result) (f : ℕ) (out : List ℕ) → length (resultBytes r) ≤ length out → ending x r f out .cause ≡ 0
+room-for-end x nothing f out h = refl
+room-for-end x (settled m) f out h = rw (le-ltb (length out) (length m) h)
 
 module _ (H : List ℕ → List ℕ) where
   -- step 1
@@ -64,7 +65,7 @@ module _ (H : List ℕ → List ℕ) where
         let e = bit-fine x bit (state-fine 3 x whole turn) low in
         rw (eq-eqb (bitCause x bit) 0 e)
         (room-for x
-        (cond (eqb bit 0) (atEnd (x .seat) nothing) (atFirst (x .seat) (messageIn x) (x .root)))
+        (cond (eqb bit 0) (atEnd (x .seat) nothing 0) (atFirst (x .seat) (messageIn x) (x .root)))
         (outboxOf H x bit) out room)
 
     -- step 4
@@ -74,7 +75,7 @@ module _ (H : List ℕ → List ℕ) where
     shares-accepted inbox out turn filled room =
         let e = inbox-fine 4 x inbox (state-fine 4 x whole turn) filled in
         rw (eq-eqb (inboxCause 4 x inbox) 0 e)
-        (room-for x (atSecond (x .seat) (messageIn x) (x .root) (heldOf H x inbox)) (relayOf H x inbox) out room)
+        (room-for x (atSecond (x .seat) (messageIn x) (x .root) (heldOf H x inbox) (faultyShares H x inbox)) (relayOf H x inbox) out room)
 
     -- step 5; the inbox of a party that has ended may be any
     pub relays-accepted : (inbox out : List ℕ) → turnOf (x .stage) ≡ 5 → (hasEnded (x .stage) ≡ false → fills (x .seat .n) inbox ≡ true)
@@ -82,7 +83,7 @@ module _ (H : List ℕ → List ℕ) where
     unfolding takeRelaysOf
     relays-accepted inbox out turn filled room =
         let e = relays-fine x inbox (state-fine 5 x whole turn) filled in
-        rw (eq-eqb (relaysCause x inbox) 0 e) (room-for-end x (resultOf H x inbox) out room)
+        rw (eq-eqb (relaysCause x inbox) 0 e) (room-for-end x (resultOf H x inbox) (faultyOf H x inbox) out room)
 
 -- the forms of states within their limits are not broken
 module _ (s : Seat) (low : 1 ≤ s .n) (high : s .n ≤ maxParties) (faults : 2 * s .t < s .n) (first : 1 ≤ s .own) (last : s .own ≤ s .n) where
@@ -92,25 +93,26 @@ module _ (s : Seat) (low : 1 ≤ s .n) (high : s .n ≤ maxParties) (faults : 2 
   module _ (m : List ℕ) (short : length m ≤ maxMessage) where
     pub root-whole : broken (atRoot s m) ≡ false
     unfolding atRoot
-    root-whole = broken-stage (atRoot s m) (opened (length m) short) (omega arith)
+    root-whole = broken-stage (atRoot s m) (opened (length m) short) (omega arith) (holds-fine (atRoot s m) (holds-empty (s .n) (s .own)))
 
     pub bit-whole : (z : List ℕ) → broken (atBit s m z) ≡ false
     unfolding atBit
-    bit-whole z = broken-stage (atBit s m z) (opened (length m) short) (omega arith)
+    bit-whole z = broken-stage (atBit s m z) (opened (length m) short) (omega arith) (holds-fine (atBit s m z) (holds-empty (s .n) (s .own)))
 
     pub first-whole : (z : List ℕ) → broken (atFirst s m z) ≡ false
     unfolding atFirst
-    first-whole z = broken-stage (atFirst s m z) (opened (length m) short) (omega arith)
+    first-whole z = broken-stage (atFirst s m z) (opened (length m) short) (omega arith) (holds-fine (atFirst s m z) (holds-empty (s .n) (s .own)))
 
-    pub second-whole : (z y : List ℕ) → length y ≤ maxShare → broken (atSecond s m z y) ≡ false
+    pub second-whole : (z y : List ℕ) (f : ℕ) → length y ≤ maxShare → Holds (s .n) (s .own) f → broken (atSecond s m z y f) ≡ false
     unfolding atSecond
-    second-whole z y few = broken-stage (atSecond s m z y) (opened (length m) short) few
+    second-whole z y f few map = broken-stage (atSecond s m z y f) (opened (length m) short) few (holds-fine (atSecond s m z y f) map)
 
-  pub end-whole : (r : Result) → length (resultBytes r) ≤ maxMessage → broken (atEnd s r) ≡ false
+  pub end-whole : (r : Result) (f : ℕ) → length (resultBytes r) ≤ maxMessage → Holds (s .n) (s .own) f → broken (atEnd s r f) ≡ false
   unfolding atEnd
-  end-whole nothing h = broken-stage (atEnd s nothing) (opened 0 (omega arith)) (omega arith)
-  end-whole (settled m) h =
-      broken-stage (atEnd s (settled m)) (opened 0 (omega arith)) (omega arith) ∙ le-ltb maxMessage (length m) h
+  end-whole nothing f h map = broken-stage (atEnd s nothing f) (opened 0 (omega arith)) (omega arith) (holds-fine (atEnd s nothing f) map)
+  end-whole (settled m) f h map =
+      broken-stage (atEnd s (settled m) f) (opened 0 (omega arith)) (omega arith) (holds-fine (atEnd s (settled m) f) map)
+      ∙ le-ltb maxMessage (length m) h
 
 -- what an accepted call keeps is within the limits: the message, the share taken, and the result
 module _ (H : List ℕ → List ℕ) (x : Party) (whole : broken x ≡ false) where

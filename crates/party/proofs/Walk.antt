@@ -24,17 +24,6 @@ use Rattle.party.specs.declared.Placed.the-variants.{At}
 abbrev pub bodiesAfter : ℕ → ℕ → List ℕ → List (List ℕ)
 bodiesAfter m at s = bodies m (drop (nextAt s at) s)
 
--- what a class gives, by whether it is taken
-later : (c : Class) (t : Taken) → PassedOver c → orLater c t ≡ t
-later silent t h = refl
-later faulty t h = refl
-later (valid x p) t h = absurd h
-
-taken : (c : Class) (t : Taken) (s : List ℕ) (f l k : ℕ) → TakenAt s f l k c → TakenIs (At f l k) (orLater c t) s
-taken silent t s f l k h = absurd h
-taken faulty t s f l k h = absurd h
-taken (valid x p) t s f l k h = h
-
 missed : (c : Class) → PassedOver c → shareFrom c ≡ []
 missed silent h = refl
 missed faulty h = refl
@@ -63,21 +52,10 @@ module _ (H : List ℕ → List ℕ) (session : ℕ) where
     unfolding firstValid
     first-own q = rw (bodies-more m k at s e, eq-eqb j own q)
 
-    module _ (other : j ≡ own → ⊥) where
-      first-other : firstValid H session n own z j (bodies k (drop at s))
-          ≡ orLater (classOf H session n own z (bodyAt at s)) (firstValid H session n own z (j + 1) (bodiesAfter m at s))
-      unfolding firstValid
-      first-other = rw (bodies-more m k at s e, ne-eqb j own other)
-
-      pub first-later : PassedOver (classOf H session n own z (bodyAt at s))
-          → firstValid H session n own z j (bodies k (drop at s)) ≡ firstValid H session n own z (j + 1) (bodiesAfter m at s)
-      first-later h = first-other ∙ later (classOf H session n own z (bodyAt at s)) (firstValid H session n own z (j + 1) (bodiesAfter m at s)) h
-
-      pub first-taken : (f l c : ℕ) → TakenAt s f l c (classOf H session n own z (bodyAt at s))
-          → TakenIs (At f l c) (firstValid H session n own z j (bodies k (drop at s))) s
-      first-taken f l c h =
-          subst (λ (t : Taken). TakenIs (At f l c) t s) (sym first-other)
-          (taken (classOf H session n own z (bodyAt at s)) (firstValid H session n own z (j + 1) (bodiesAfter m at s)) s f l c h)
+    pub first-other : (j ≡ own → ⊥) → firstValid H session n own z j (bodies k (drop at s))
+        ≡ orLater (classOf H session n own z (bodyAt at s)) (firstValid H session n own z (j + 1) (bodiesAfter m at s))
+    unfolding firstValid
+    first-other other = rw (bodies-more m k at s e, ne-eqb j own other)
 
   -- the shares gathered, by what the walk knows of the state: the session's number, n, the own number, the root and the share held
   unfoldable pub picked : ℕ → ℕ → List ℕ → List ℕ → ℕ → List (List ℕ) → List (List ℕ)

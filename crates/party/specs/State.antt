@@ -7,6 +7,7 @@ use Prim.Native.Nat.{ℕ, _-_}
 use lib.Dec.{ltb, eqb}
 use lib.ListN.{length, take, replicate}
 use Rattle.limits.specs.Limits.{maxParties, maxMessage, maxShare, numbered, groupCause}
+use Rattle.bitmap.specs.Bitmap.{names, upTo}
 use Rattle.merkle.specs.Shares.{blank, same}
 unfoldable pub use Rattle.commitment.specs.Commitment.{messageRoot}
 use Rattle.commitment.specs.declared.Seat.{Seat}
@@ -36,9 +37,9 @@ messageIn x = take (x .len) (x .message)
 abbrev pub shareHeld : Party → List ℕ
 shareHeld x = take (x .held) (x .share)
 
--- a state that waits, with its message, agreed root and relayed share
-abbrev pub waiting : Seat → Stage → List ℕ → List ℕ → List ℕ → Party
-waiting s stage m z x =
+-- a state that waits, with its message, agreed root, relayed share and map of parties seen to be faulty (document 02, No. 7: the map of those seen to cheat)
+abbrev pub waiting : Seat → Stage → List ℕ → List ℕ → List ℕ → ℕ → Party
+waiting s stage m z x f =
     record {
       seat = s;
       stage = stage;
@@ -47,20 +48,21 @@ waiting s stage m z x =
       root = z;
       share = padded maxShare x;
       held = length x;
+      faulty = f;
     }
 
--- the five forms: waiting for the root, for the bit, for the first inbox, for the second, and ended
+-- the five forms: waiting for the root, for the bit, for the first inbox, for the second, and ended; the map is held from the first inbox on
 unfoldable pub atRoot : Seat → List ℕ → Party
-atRoot s m = waiting s Root m blank []
+atRoot s m = waiting s Root m blank [] 0
 
 unfoldable pub atBit : Seat → List ℕ → List ℕ → Party
-atBit s m z = waiting s Bit m z []
+atBit s m z = waiting s Bit m z [] 0
 
 unfoldable pub atFirst : Seat → List ℕ → List ℕ → Party
-atFirst s m z = waiting s First m z []
+atFirst s m z = waiting s First m z [] 0
 
-unfoldable pub atSecond : Seat → List ℕ → List ℕ → List ℕ → Party
-atSecond s m z x = waiting s Second m z x
+unfoldable pub atSecond : Seat → List ℕ → List ℕ → List ℕ → ℕ → Party
+atSecond s m z x f = waiting s Second m z x f
 
 -- a result: nothing, or a message (which may be empty)
 pub data Result : Type 0 where
@@ -75,9 +77,9 @@ abbrev pub resultBytes : Result → List ℕ
 resultBytes nothing = []
 resultBytes (settled m) = m
 
--- an ended party holds its result's bytes, and neither message, root nor share
-unfoldable pub atEnd : Seat → Result → Party
-atEnd s r =
+-- an ended party holds its result's bytes and its map, and neither message, root nor share
+unfoldable pub atEnd : Seat → Result → ℕ → Party
+atEnd s r f =
     record {
       seat = s;
       stage = Ended (outcomeOf r);
@@ -86,6 +88,7 @@ atEnd s r =
       root = blank;
       share = padded maxShare [];
       held = 0;
+      faulty = f;
     }
 
 -- a result told by its outcome, with the bytes beside it
@@ -122,6 +125,7 @@ blankState =
       root = blank;
       share = replicate maxShare 0;
       held = 0;
+      faulty = 0;
     }
 
 -- the length of a result is over its limit
@@ -133,11 +137,15 @@ overlong Second = false
 overlong (Ended Nothing) = false
 overlong (Ended (Message l)) = ltb maxMessage l
 
--- cause 5: a state that breaks causes 1 to 4, or holds a length over its limit
+-- the map names a party beyond n, or the party itself
+abbrev pub stray : Party → Bool
+stray x = not (upTo (x .seat .n) (x .faulty)) || names (x .faulty) (x .seat .own)
+
+-- cause 5: a state that breaks causes 1 to 4, holds a length over its limit, or a map that names a party which it cannot
 unfoldable pub broken : Party → Bool
 broken x =
     not (eqb (groupCause (x .seat .n) (x .seat .t)) 0) || not (numbered (x .seat .n) (x .seat .own)) || ltb maxMessage (x .len) || ltb maxShare (x .held)
-    || overlong (x .stage)
+    || stray x || overlong (x .stage)
 
 module _ (H : List ℕ → List ℕ) where
   -- a party is happy if the agreed root is that of its own message under the session's number: worked out, never stored

@@ -1,22 +1,24 @@
 // One party of a session (document 01: a box): its state, its opening, and the four steps that follow.
 ghost use mathlib.Core.Path.{_≡_};
-ghost use mathlib.Core.Bool.{true, false};
+ghost use mathlib.Core.Bool.{true, false, cond, _||_};
 ghost use mathlib.Core.List.{[]};
-ghost use Prim.Native.Nat.{_+_, _-_, _*_, _≤_, _<_};
+ghost use Prim.Native.Nat.{_+_, _-_, _*_, _^_, _≤_, _<_};
 ghost use lib.ListN.{length, replicate};
 ghost use Rattle.sha256.specs.Sha256.{sha256};
 ghost use Rattle.limits.specs.Limits.{maxParties, maxMessage, maxShare};
+ghost use Rattle.bitmap.specs.Bitmap.{mapOf};
 ghost use Rattle.buffer.specs.Splice.{spliced};
 ghost use Rattle.buffer.specs.Entries.{fills, bodies};
 ghost use Rattle.buffer.specs.Given.{gave, written};
 ghost use Rattle.merkle.specs.Shares.{blank, same};
 ghost use Rattle.commitment.specs.Commitment.{messageRoot, mailWith};
-ghost use Rattle.party.specs.State.{partyLimits, padded, messageIn, shareHeld, nothing, settled, atEnd, resultFrom, hasEnded, blankState, overlong, broken, happy};
-ghost use Rattle.party.specs.Steps.{turnOf, openCause, refusedOpening, stateCause, inboxCause, relaysCause, firstValid, gathered, resultFound};
+ghost use Rattle.party.specs.State.{partyLimits, padded, messageIn, shareHeld, nothing, settled, atEnd, resultFrom, hasEnded, blankState, overlong, stray, broken, happy};
+ghost use Rattle.party.specs.Steps.{turnOf, openCause, refusedOpening, stateCause, inboxCause, relaysCause, firstValid, gathered, resultFound, sentFaulty, faultyRelays};
 ghost use Rattle.party.specs.Steps.{stepped, writes, ending, openOf, agreeRootOf, agreeBitOf, takeSharesOf, takeRelaysOf};
 ghost use Rattle.packet.specs.Message.{readMessage};
 ghost use Rattle.party.specs.Sender.{messageRead, senderCause, begun, openBySenderOf};
-ghost use Rattle.party.specs.Private.{Fit, TakenIs, Gathered, after};
+ghost use Rattle.packet.specs.Answer.{judgeOf};
+ghost use Rattle.party.specs.Private.{Fit, TakenIs, Gathered, placeOf, findingOf, foundFaulty, earlierOf, after};
 use buffer::Written;
 use commitment::Seat;
 use commitment::Sent;
@@ -53,6 +55,7 @@ pub struct Party {
     pub root: [u8; 32],
     pub share: [u8; MAX_SHARE],
     pub held: usize,
+    pub faulty: u32,
 }
 
 // The limits that belong to a party: how many parties there may be, and how long a message.
@@ -76,14 +79,14 @@ pub struct OpenedBySender {
 }
 
 // The answer of a step: the cause for which it was refused, with cause 9 the length needed; else of step 2 the party's bit, of steps 3 and 4 how
-// many bytes were written, of step 5 the result.
+// many bytes were written, of step 5 the result with the map of parties seen to be faulty.
 pub enum Answer {
     Refused(u8),
     Short(usize),
     Happy(bool),
     Sent(usize),
-    Nothing,
-    Message(usize),
+    Nothing(u32),
+    Message(usize, u32),
 }
 
 // What a step gives back.
@@ -128,6 +131,7 @@ impl Party {
             root: [0; 32],
             share: [0; MAX_SHARE],
             held: 0,
+            faulty: 0,
         };
         Opened {
             state,
@@ -210,7 +214,7 @@ impl Party {
         }
         let mut agreed = [0u8; 32];
         buffer::put(&mut agreed, 0, root);
-        let state = self.waiting(Stage::Bit, agreed, [0; MAX_SHARE], 0);
+        let state = self.waiting(Stage::Bit, agreed, [0; MAX_SHARE], 0, 0);
         Reply {
             state,
             answer: Answer::Happy(state.happy()),
@@ -229,19 +233,19 @@ impl Party {
             return self.refused(7);
         }
         if bit == 0 {
-            let next = self.ended(Outcome::Nothing, [0; Party::MAX_MESSAGE]);
+            let next = self.ended(Outcome::Nothing, [0; Party::MAX_MESSAGE], 0);
             return self.silent(next, out);
         }
         let root = self.root;
         let Sent { happy, answer } = self.send(false, out);
-        let next = self.waiting(Stage::First, root, [0; MAX_SHARE], 0);
+        let next = self.waiting(Stage::First, root, [0; MAX_SHARE], 0, 0);
         if happy {
             return self.after(next, answer);
         }
         self.silent(next, out)
     }
 
-    // Step 4: the first inbox comes. A happy party relays its own share, another the one it was sent.
+    // Step 4: the first inbox comes. A happy party relays its own share, another the one it was sent; both note whose packets are faulty.
     pub fn take_shares(self, inbox: &[u8], out: &mut [u8]) -> Reply
         ensures { λ r. ⌜ stepped r (now (out .exit)) ≡ takeSharesOf sha256 self (now (inbox .entry)) (now (out .entry)) ⌝ }
     {
@@ -253,12 +257,13 @@ impl Party {
         let n = self.seat.n;
         let own = self.seat.own;
         let root = self.root;
+        let Shares { taken, faulty } = judge_shares(session, n, own, &root, inbox);
         let Sent { happy, answer } = self.send(true, out);
-        let next = self.waiting(Stage::Second, root, [0; MAX_SHARE], 0);
+        let next = self.waiting(Stage::Second, root, [0; MAX_SHARE], 0, faulty);
         if happy {
             return self.after(next, answer);
         }
-        let Placed::At(from, len, count) = first_valid(session, n, own, &root, inbox) else {
+        let Placed::At(from, len, count) = taken else {
             return Reply {
                 state: next,
                 answer: Answer::Sent(0),
@@ -268,7 +273,7 @@ impl Party {
         let path = packet::path_at(inbox, end, count);
         let mut share = [0u8; MAX_SHARE];
         buffer::put(&mut share, 0, &inbox[from..end]);
-        let holding = self.waiting(Stage::Second, root, share, len);
+        let holding = self.waiting(Stage::Second, root, share, len, faulty);
         let answer = packet::write(n, own, &inbox[from..end], path, count, out);
         self.after(holding, answer)
     }
@@ -288,17 +293,17 @@ impl Party {
         self.give_again(outcome, out)
     }
 
-    // Ends: a happy party with its message, another with what it rebuilds, if that has the agreed root.
+    // Ends: a happy party with its message, another with what it rebuilds, if that has the agreed root; both with the map of those whose packets were faulty.
     fn conclude(self, inbox: &[u8], out: &mut [u8]) -> Reply
         requires { ⌜ Fit self × (fills (self .seat .n) (now inbox) ≡ true) ⌝ }
-        ensures { λ r. ⌜ stepped r (now (out .exit)) ≡ ending self (resultFound sha256 self (now (inbox .entry))) (now (out .entry)) ⌝ }
+        ensures { λ r. ⌜ stepped r (now (out .exit)) ≡ ending self (resultFound sha256 self (now (inbox .entry))) (faultyRelays sha256 self (now (inbox .entry))) (now (out .entry)) ⌝ }
     {
+        let Relays { places, faulty } = self.judge_relays(inbox);
         if self.happy() {
             let len = self.len;
             let message = self.message;
-            return self.settle(&message[..len], out);
+            return self.settle(&message[..len], faulty, out);
         }
-        let places = self.gather(inbox);
         let share = self.share;
         let held = self.held;
         let mut message = [0u8; Party::MAX_MESSAGE];
@@ -310,24 +315,24 @@ impl Party {
             places,
             &mut message,
         ) else {
-            return self.settle_nothing();
+            return self.settle_nothing(faulty);
         };
         if self.has_root(&message[..len]) {
-            return self.settle(&message[..len], out);
+            return self.settle(&message[..len], faulty, out);
         }
-        self.settle_nothing()
+        self.settle_nothing(faulty)
     }
 
-    // Gives the result that the state holds, in the ended form built anew.
+    // Gives the result and the map that the state holds, in the ended form built anew.
     fn give_again(self, outcome: Outcome, out: &mut [u8]) -> Reply
         requires { ⌜ overlong (Stage.Ended outcome) ≡ false ⌝ }
-        ensures { λ r. ⌜ stepped r (now (out .exit)) ≡ ending self (resultFrom outcome (self .message)) (now (out .entry)) ⌝ }
+        ensures { λ r. ⌜ stepped r (now (out .exit)) ≡ ending self (resultFrom outcome (self .message)) (self .faulty) (now (out .entry)) ⌝ }
     {
         let Outcome::Message(len) = outcome else {
-            return self.settle_nothing();
+            return self.settle_nothing(self.faulty);
         };
         let kept = self.message;
-        self.settle(&kept[..len], out)
+        self.settle(&kept[..len], self.faulty, out)
     }
 
     // Cause 5, 6 or 8 of step 5, or 0.
@@ -389,10 +394,10 @@ impl Party {
         }
     }
 
-    // Ends with a message, which is written to out; cause 9 where out is too short.
-    fn settle(self, message: &[u8], out: &mut [u8]) -> Reply
+    // Ends with a message, which is written to out, and with a map; cause 9 where out is too short.
+    fn settle(self, message: &[u8], faulty: u32, out: &mut [u8]) -> Reply
         requires { ⌜ length (now message) ≤ maxMessage ⌝ }
-        ensures { λ r. ⌜ stepped r (now (out .exit)) ≡ ending self (settled (now (message .entry))) (now (out .entry)) ⌝ }
+        ensures { λ r. ⌜ stepped r (now (out .exit)) ≡ ending self (settled (now (message .entry))) faulty (now (out .entry)) ⌝ }
     {
         let len = message.len();
         if out.len() < len {
@@ -402,59 +407,61 @@ impl Party {
         let mut kept = [0u8; Party::MAX_MESSAGE];
         buffer::put(&mut kept, 0, message);
         Reply {
-            state: self.ended(Outcome::Message(len), kept),
-            answer: Answer::Message(len),
+            state: self.ended(Outcome::Message(len), kept, faulty),
+            answer: Answer::Message(len, faulty),
         }
     }
 
-    // Ends with nothing.
-    fn settle_nothing(self) -> Reply
-        ensures { λ r. ⌜ r ≡ record { state = atEnd (self .seat) nothing; answer = Answer.Nothing } ⌝ }
+    // Ends with nothing, and with a map.
+    fn settle_nothing(self, faulty: u32) -> Reply
+        ensures { λ r. ⌜ r ≡ record { state = atEnd (self .seat) nothing faulty; answer = Answer.Nothing faulty } ⌝ }
     {
         Reply {
-            state: self.ended(Outcome::Nothing, [0; Party::MAX_MESSAGE]),
-            answer: Answer::Nothing,
+            state: self.ended(Outcome::Nothing, [0; Party::MAX_MESSAGE], faulty),
+            answer: Answer::Nothing(faulty),
         }
     }
 
-    // Where the shares lie to rebuild from: of each sender j a share numbered j that passes the check, in the inbox; the own relayed share, behind it.
-    fn gather(self, inbox: &[u8]) -> Places
+    // Where the shares lie to rebuild from: of each sender j a share numbered j that passes the check, in the inbox; the own relayed share, behind it. And
+    // the map of the parties seen to be faulty, with those whose packets are so here.
+    fn judge_relays(self, inbox: &[u8]) -> Relays
         requires { ⌜ Fit self × (fills (self .seat .n) (now inbox) ≡ true) ⌝ }
-        ensures { λ r. ⌜ Gathered (self .seat .n) (gathered sha256 self 1 (bodies (self .seat .n) (now (inbox .entry)))) (now (inbox .entry)) (shareHeld self) r ⌝ }
+        ensures { λ r. ⌜ Gathered (self .seat .n) (gathered sha256 self 1 (bodies (self .seat .n) (now (inbox .entry)))) (now (inbox .entry)) (shareHeld self) (r .places)
+            × (r .faulty ≡ faultyRelays sha256 self (now (inbox .entry))) ⌝ }
     {
         let session = self.seat.session;
         let n = self.seat.n;
         let own = self.seat.own;
         let root = self.root;
+        let before = self.faulty as usize;
         let mut from = [0usize; Party::MAX_PARTIES];
         let mut len = [0usize; Party::MAX_PARTIES];
+        let mut faulty: u32 = 0;
+        let mut bit: u32 = 1;
         let mut at: usize = 0;
         let mut j: usize = 0;
         while j < n {
             let Entry { packet, next } = packet::read_entry(n, inbox, at);
             let i = j;
+            let value = bit;
             at = next;
+            bit = 2 * bit;
             j += 1;
             if j == own {
                 from[i] = inbox.len();
                 len[i] = self.held;
                 continue;
             }
-            let Packet::Share {
-                from: start,
-                len: size,
-                ..
-            } = packet
-            else {
-                continue;
-            };
-            let Judged::Valid = packet::judge(session, n, j, &root, inbox, packet) else {
+            let finding = find(session, n, j, &root, inbox, packet);
+            faulty = faulty + mark(bitmap::names(before, j), finding, value);
+            let Finding::Valid(start, size, _) = finding else {
                 continue;
             };
             from[i] = start;
             len[i] = size;
         }
-        Places { from, len }
+        let places = Places { from, len };
+        Relays { places, faulty }
     }
 
     // Cause 5 or 6, or 0.
@@ -471,7 +478,7 @@ impl Party {
         0
     }
 
-    // Whether the state breaks causes 1 to 4 or holds a length over its limit.
+    // Whether the state breaks causes 1 to 4, holds a length over its limit, or a map of parties that it cannot hold.
     pub fn broken(self) -> bool
         ensures { λ r. ⌜ r ≡ broken self ⌝ }
     {
@@ -481,8 +488,22 @@ impl Party {
         if MAX_SHARE < self.held {
             return true;
         }
+        if self.stray() {
+            return true;
+        }
         let stage = self.stage;
         overlong(stage)
+    }
+
+    // Whether the map names a party beyond n, or the party itself.
+    fn stray(self) -> bool
+        ensures { λ r. ⌜ r ≡ stray self ⌝ }
+    {
+        let map = self.faulty as usize;
+        if bitmap::up_to(self.seat.n, map) {
+            return bitmap::names(map, self.seat.own);
+        }
+        true
     }
 
     // Cause 1, 2, 3 or 4 of a party with this number and a message of `len` bytes, or 0. The first three are judged with no message, the length by the
@@ -501,9 +522,16 @@ impl Party {
     }
 
     // The state at another stage, with its message and with zeros past every length.
-    fn waiting(self, stage: Stage, root: Hash, share: [u8; MAX_SHARE], held: usize) -> Party
+    fn waiting(
+        self,
+        stage: Stage,
+        root: Hash,
+        share: [u8; MAX_SHARE],
+        held: usize,
+        faulty: u32,
+    ) -> Party
         requires { ⌜ self .len ≤ maxMessage ⌝ }
-        ensures { λ r. ⌜ r ≡ record { seat = self .seat; stage = stage; message = padded maxMessage (messageIn self); len = self .len; root = root; share = share; held = held } ⌝ }
+        ensures { λ r. ⌜ r ≡ record { seat = self .seat; stage = stage; message = padded maxMessage (messageIn self); len = self .len; root = root; share = share; held = held; faulty = faulty } ⌝ }
     {
         let seat = self.seat;
         let len = self.len;
@@ -518,11 +546,12 @@ impl Party {
             root,
             share,
             held,
+            faulty,
         }
     }
 
-    fn ended(self, outcome: Outcome, message: [u8; Party::MAX_MESSAGE]) -> Party
-        ensures { λ r. ⌜ r ≡ record { seat = self .seat; stage = Stage.Ended outcome; message = message; len = 0; root = blank; share = replicate maxShare 0; held = 0 } ⌝ }
+    fn ended(self, outcome: Outcome, message: [u8; Party::MAX_MESSAGE], faulty: u32) -> Party
+        ensures { λ r. ⌜ r ≡ record { seat = self .seat; stage = Stage.Ended outcome; message = message; len = 0; root = blank; share = replicate maxShare 0; held = 0; faulty = faulty } ⌝ }
     {
         let seat = self.seat;
         Party {
@@ -533,6 +562,7 @@ impl Party {
             root: [0; 32],
             share: [0; MAX_SHARE],
             held: 0,
+            faulty,
         }
     }
 
@@ -599,35 +629,105 @@ enum Placed {
     At(usize, usize, usize),
 }
 
-// What the lowest-numbered sender gave whose packet bears the own number and passes the check; the own entry is ignored.
-fn first_valid(session: u32, n: usize, own: usize, root: &Hash, inbox: &[u8]) -> Placed
+// What a sender's packet is to a walk over an inbox: silence, faulty, or a valid share by its place as above.
+enum Finding {
+    Silent,
+    Faulty,
+    Valid(usize, usize, usize),
+}
+
+// What the first inbox gives: the share to relay, and a map of the senders whose packets are faulty.
+struct Shares {
+    taken: Placed,
+    faulty: u32,
+}
+
+// What the second inbox gives: where the shares lie to rebuild from, and the map of all parties seen to be faulty.
+struct Relays {
+    places: Places,
+    faulty: u32,
+}
+
+// Of the lowest-numbered sender whose packet bears the own number and passes the check, its share; and whose packets are faulty. The own entry is ignored.
+fn judge_shares(session: u32, n: usize, own: usize, root: &Hash, inbox: &[u8]) -> Shares
     requires { ⌜ (1 ≤ n) × (n ≤ maxParties) × (1 ≤ own) × (own ≤ n) × (fills n (now inbox) ≡ true) × (length (now root) ≡ 32) ⌝ }
-    ensures { λ r. ⌜ TakenIs r (firstValid sha256 session n own (now (root .entry)) 1 (bodies n (now (inbox .entry)))) (now (inbox .entry)) ⌝ }
+    ensures { λ r. ⌜ TakenIs (r .taken) (firstValid sha256 session n own (now (root .entry)) 1 (bodies n (now (inbox .entry)))) (now (inbox .entry))
+        × (r .faulty ≡ mapOf (sentFaulty sha256 session n own (now (root .entry)) (now (inbox .entry)) own) n) ⌝ }
 {
+    let mut taken = Placed::Nowhere;
+    let mut faulty: u32 = 0;
+    let mut bit: u32 = 1;
     let mut at: usize = 0;
     let mut j: usize = 0;
     while j < n {
         let Entry { packet, next } = packet::read_entry(n, inbox, at);
+        let value = bit;
         at = next;
+        bit = 2 * bit;
         j += 1;
         if j == own {
             continue;
         }
-        let Packet::Share {
+        let finding = find(session, n, own, root, inbox, packet);
+        faulty = faulty + mark(false, finding, value);
+        taken = earlier(taken, finding);
+    }
+    Shares { taken, faulty }
+}
+
+// A packet that was read from an inbox, judged with a number demanded of it.
+fn find(session: u32, n: usize, number: usize, root: &Hash, inbox: &[u8], packet: Packet) -> Finding
+    ensures { λ r. ⌜ r ≡ findingOf (judgeOf sha256 session n number (now (root .entry)) (now (inbox .entry)) packet) packet ⌝ }
+{
+    match packet::judge(session, n, number, root, inbox, packet) {
+        Judged::Refused(_) => Finding::Silent,
+        Judged::Silent => Finding::Silent,
+        Judged::Faulty => Finding::Faulty,
+        Judged::Valid => place_of(packet),
+    }
+}
+
+fn place_of(packet: Packet) -> Finding
+    ensures { λ r. ⌜ r ≡ placeOf packet ⌝ }
+{
+    match packet {
+        Packet::Refused(_) => Finding::Silent,
+        Packet::Silence => Finding::Silent,
+        Packet::Share {
             from,
             len,
             count,
             ..
-        } = packet
-        else {
-            continue;
-        };
-        let Judged::Valid = packet::judge(session, n, own, root, inbox, packet) else {
-            continue;
-        };
-        return Placed::At(from, len, count);
+        } => Finding::Valid(from, len, count),
     }
-    Placed::Nowhere
+}
+
+// The value that stands for a sender in the map: its own, if the map names it already or its packet is faulty, else 0.
+fn mark(named: bool, finding: Finding, value: u32) -> u32
+    ensures { λ r. ⌜ r ≡ cond (named || foundFaulty finding) value 0 ⌝ }
+{
+    if named {
+        return value;
+    }
+    match finding {
+        Finding::Silent => 0,
+        Finding::Faulty => value,
+        Finding::Valid(_, _, _) => 0,
+    }
+}
+
+// The share that was taken, or else the one that was found.
+fn earlier(taken: Placed, finding: Finding) -> Placed
+    ensures { λ r. ⌜ r ≡ earlierOf taken finding ⌝ }
+{
+    match taken {
+        Placed::At(from, len, count) => Placed::At(from, len, count),
+        Placed::Nowhere => match finding {
+            Finding::Silent => Placed::Nowhere,
+            Finding::Faulty => Placed::Nowhere,
+            Finding::Valid(from, len, count) => Placed::At(from, len, count),
+        },
+    }
 }
 
 fn blank() -> Party
@@ -646,6 +746,7 @@ fn blank() -> Party
         root: [0; 32],
         share: [0; MAX_SHARE],
         held: 0,
+        faulty: 0,
     }
 }
 

@@ -19,7 +19,8 @@ use Rattle.plan.proofs.Options.{field-inside}
 use Rattle.plan.proofs.Walks.{every-each}
 use Rattle.plan.proofs.Blocks.{entry-none}
 use Rattle.plan.proofs.Tails.{tail-entries, behind-there}
-use Rattle.plan.specs.Layout.{mapWidth, names, member, unnamed, lowest, orEmpty, skipEntries, partyEntry, booksFit, fields, fieldAt, nIn, tIn, optionsIn}
+use Rattle.bitmap.specs.Bitmap.{names}
+use Rattle.plan.specs.Layout.{mapWidth, member, unnamed, lowest, orEmpty, skipEntries, partyEntry, booksFit, fields, fieldAt, nIn, tIn, optionsIn}
 use Rattle.plan.specs.Layout.{fieldIn, hasRoot, rootIn, hasSender, senderIn, goodAt, goodIn, booksIn, badSender, holders, behindBooks, blockEntry, senderPacket}
 use Rattle.plan.specs.Layout.{endOf, empty, laidOut}
 use Rattle.plan.specs.Plan.{planCause}

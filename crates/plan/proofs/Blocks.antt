@@ -12,7 +12,8 @@ use Rattle.limits.specs.Limits.{numbered}
 use Rattle.buffer.specs.Entries.{size, body}
 use Rattle.buffer.proofs.Entries.{rest-drop, entry, entry-rest}
 use Rattle.buffer.proofs.Entries as entries
-use Rattle.plan.specs.Layout.{mapWidth, names, member, within, orEmpty, skipEntry, skipEntries, partyEntry, skipBlock, blockEntry, skipBlocks, packetFrom}
+use Rattle.bitmap.specs.Bitmap.{names}
+use Rattle.plan.specs.Layout.{mapWidth, member, within, orEmpty, skipEntry, skipEntries, partyEntry, skipBlock, blockEntry, skipBlocks, packetFrom}
 
 module _ (at : ℕ) (s : List ℕ) where
   pub entry-short : length s - at < 2 + size (drop at s) → skipEntry (drop at s) ≡ none

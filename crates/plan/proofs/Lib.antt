@@ -1,4 +1,3 @@
-pub mod Maps
 pub mod Options
 pub mod Walks
 pub mod Tails

@@ -7,7 +7,8 @@ use Prim.Native.Nat.{ℕ, zero, suc, _+_, _-_, _*_, _≤_, _<_}
 use native.Mathlib.Decide.{ℕ-discrete}
 use native.Mathlib.Omega.{arith}
 use lib.ListN.{length, getD, List·getD-eq-default}
-use Rattle.plan.specs.Layout.{names, fields, fieldBytes, fieldAt}
+use Rattle.bitmap.specs.Bitmap.{names}
+use Rattle.plan.specs.Layout.{fields, fieldBytes, fieldAt}
 
 -- no field has more than 255 bytes, since all together have no more
 unfoldable sum : List ℕ → ℕ

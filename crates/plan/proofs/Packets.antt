@@ -14,7 +14,8 @@ use Rattle.limits.specs.Limits.{numbered}
 use Rattle.limits.proofs.Booleans.{both}
 use Rattle.limits.proofs.Ranges.{numbered-range}
 use Rattle.buffer.specs.Entries.{size, body, rest}
-use Rattle.plan.specs.Layout.{mapWidth, names, member, within, andThen, orEmpty, walk, skipEntry, skipEntries, partyEntry, skipBlock, blockEntry}
+use Rattle.bitmap.specs.Bitmap.{names}
+use Rattle.plan.specs.Layout.{mapWidth, member, within, andThen, orEmpty, walk, skipEntry, skipEntries, partyEntry, skipBlock, blockEntry}
 use Rattle.plan.specs.Layout.{skipBlocks, packetFrom}
 
 -- f of k numbers from p on, added up

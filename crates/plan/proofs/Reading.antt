@@ -10,7 +10,8 @@ use lib.Dec.{ltb, eqb}
 use lib.ListN.{length, drop, length-drop}
 use Rattle.limits.specs.Limits.{maxParties, maxPlan, numbered, groupCause}
 use Rattle.limits.proofs.Ranges.{numbered-range}
-use Rattle.plan.specs.Layout.{names, member, only, skipBlock}
+use Rattle.bitmap.specs.Bitmap.{names, only}
+use Rattle.plan.specs.Layout.{member, skipBlock}
 use Rattle.plan.specs.Layout.{mapWidth, andThen, orEmpty, skipEntries, booksFit, fields, nIn, tIn, optionsIn, hasSender, senderIn, sessionOf, goodAt, goodIn, booksIn, walk}
 use Rattle.plan.specs.Layout.{holders, behindBooks, skipSender, exchanges, skipExchanges, exchangeIn, exchangeAt, endOf, laidOut}
 use Rattle.plan.specs.Plan.{planCause, refused, partsOf, planOf}

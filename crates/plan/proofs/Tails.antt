@@ -11,7 +11,8 @@ use lib.ListN.{length, drop, length-drop}
 use lib.Seq.{drop-drop, drop-length}
 use Rattle.buffer.specs.Entries.{size, rest}
 use Rattle.buffer.proofs.Places.{drop-min}
-use Rattle.plan.specs.Layout.{mapWidth, names, within, andThen, orEmpty, walk, skipEntry, skipEntries, skipBlock, skipExchange, nIn, goodAt, goodIn}
+use Rattle.bitmap.specs.Bitmap.{names}
+use Rattle.plan.specs.Layout.{mapWidth, within, andThen, orEmpty, walk, skipEntry, skipEntries, skipBlock, skipExchange, nIn, goodAt, goodIn}
 use Rattle.plan.specs.Layout.{booksIn, badSender, holders, behindBooks, skipSender, skipExchanges, exchangeIn, exchangeAt}
 use Rattle.plan.specs.Plan.{planCause, planOf, exchangeOf}
 

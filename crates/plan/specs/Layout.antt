@@ -4,19 +4,17 @@
 use mathlib.Core.Bool.{Bool, true, false, cond, not, _&&_, _||_}
 use mathlib.Core.List.{List, [], _∷_}
 use mathlib.Core.Option.{Option, none, some}
-use Prim.Native.Nat.{ℕ, zero, suc, _+_, _-_, _/_, _%_, _^_}
+use Prim.Native.Nat.{ℕ, zero, suc, _+_, _-_, _^_}
 use lib.Dec.{ltb, leb, eqb}
 use lib.ListN.{length, getD, take, drop}
 use Rattle.limits.specs.Limits.{maxMessage, numbered}
 use Rattle.buffer.specs.Entries.{size, body, rest}
+use Rattle.bitmap.specs.Bitmap.{names, upTo, only}
 use Rattle.buffer.specs.Numbers.{number}
 
--- a map has two bytes, and names party p by the value two to the p - 1
+-- a map has two bytes
 abbrev pub mapWidth : ℕ
 mapWidth = 2
-
-abbrev pub names : ℕ → ℕ → Bool
-names map p = eqb (map / 2 ^ (p - 1) % 2) 1
 
 -- q is one of n parties, and a map names it
 abbrev pub member : ℕ → ℕ → ℕ → Bool
@@ -72,7 +70,7 @@ booksFit n map s = every (λ p. leb (length (partyEntry n map p s)) maxMessage) 
 -- a bad party's block: a map of receivers, who are good parties up to n, and an entry for each; what stands behind it
 unfoldable pub skipBlock : ℕ → ℕ → List ℕ → Option (List ℕ)
 skipBlock n g s =
-    cond (ltb (length s) mapWidth || not (ltb (size s) (2 ^ n)) || not (within n (size s) g)) none (skipEntries n (size s) (drop mapWidth s))
+    cond (ltb (length s) mapWidth || not (upTo n (size s)) || not (within n (size s) g)) none (skipEntries n (size s) (drop mapWidth s))
 
 -- what it has for party i; no bytes if it does not name i
 abbrev pub blockEntry : ℕ → ℕ → List ℕ → List ℕ
@@ -173,10 +171,7 @@ goodSender s = hasSender s && member (nIn s) (goodIn s) (senderIn s)
 abbrev pub badSender : List ℕ → Bool
 badSender s = hasSender s && not (member (nIn s) (goodIn s) (senderIn s))
 
--- the map that names party q alone; and the map of those whose books are listed: all good parties, a good sender alone, or none where the sender is bad
-abbrev pub only : ℕ → ℕ
-only q = 2 ^ (q - 1)
-
+-- the map of those whose books are listed: all good parties, a good sender alone, or none where the sender is bad
 unfoldable pub holders : List ℕ → ℕ
 holders s = cond (hasSender s) (cond (goodSender s) (only (senderIn s)) 0) (goodIn s)
 
@@ -209,7 +204,7 @@ exchangeAt e s = length s - length (exchangeIn e s)
 unfoldable pub endOf : List ℕ → Option (List ℕ)
 endOf s =
     cond
-    (ltb (length s) (goodAt s + mapWidth) || not (ltb (optionsIn s) (2 ^ length fields)) || not (ltb (goodIn s) (2 ^ nIn s))) none
+    (ltb (length s) (goodAt s + mapWidth) || not (ltb (optionsIn s) (2 ^ length fields)) || not (upTo (nIn s) (goodIn s))) none
     (andThen (andThen (skipEntries (nIn s) (holders s) (booksIn s)) (skipSender s)) (skipExchanges exchanges (nIn s) (goodIn s)))
 
 abbrev pub empty : Option (List ℕ) → Bool

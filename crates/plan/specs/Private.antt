@@ -6,7 +6,8 @@ use mathlib.Core.Option.{Option, none, some}
 use Prim.Native.Nat.{ℕ, _+_, _-_, _≤_, _<_, _^_}
 use lib.ListN.{length, take, drop}
 use Rattle.limits.specs.Limits.{maxPlan, groupCause}
-use Rattle.plan.specs.Layout.{mapWidth, skipBlock, fields, nIn, tIn, optionsIn, hasSender, senderIn, goodAt, goodIn, goodSender, only, behindBooks, exchangeAt, laidOut}
+use Rattle.bitmap.specs.Bitmap.{only}
+use Rattle.plan.specs.Layout.{mapWidth, skipBlock, fields, nIn, tIn, optionsIn, hasSender, senderIn, goodAt, goodIn, goodSender, behindBooks, exchangeAt, laidOut}
 use Rattle.plan.specs.declared.Offset.{Offset}
 use Rattle.plan.specs.declared.Offset.the-variants.{Nowhere, At}
 use Rattle.plan.specs.declared.Span.{Span}

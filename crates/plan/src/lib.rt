@@ -6,7 +6,8 @@ ghost use lib.Dec.{ltb};
 ghost use lib.ListN.{length, take, drop};
 ghost use Rattle.limits.specs.Limits.{maxParties, numbered};
 ghost use Rattle.buffer.specs.Given.{gave, written};
-ghost use Rattle.plan.specs.Layout.{names, member, within, skipEntry, skipEntries, partyEntry, booksFit, skipBlock, skipBlocks, blockEntry, packetFrom};
+ghost use Rattle.bitmap.specs.Bitmap.{names};
+ghost use Rattle.plan.specs.Layout.{member, within, skipEntry, skipEntries, partyEntry, booksFit, skipBlock, skipBlocks, blockEntry, packetFrom};
 ghost use Rattle.plan.specs.Layout.{fieldAt, nIn, optionsIn, sessionOf, goodAt, goodIn, holders, skipExchanges};
 ghost use Rattle.plan.specs.Plan.{refused, planOf, bookGiven, packetGiven, blockGiven, exchangeOf};
 ghost use Rattle.plan.specs.Private.{Ends, orEnd, Spans, Header, HeaderEnds, Rest, sourceOf, holdersBy, skipSenderBy, LaidAt};
@@ -146,7 +147,7 @@ pub fn field_at(options: usize, k: usize) -> usize
         if OPTIONS < j {
             return at;
         }
-        if names(options, j) {
+        if bitmap::names(options, j) {
             at += FIELDS[j - 1];
         }
         j += 1;
@@ -163,19 +164,6 @@ pub fn exchange_at(plan: &[u8], parts: Plan, e: usize) -> usize
         skip_exchanges(plan, from, parts.n, parts.good, e),
         plan.len(),
     )
-}
-
-// Whether a map names party p, or the option map option p.
-pub fn names(map: usize, p: usize) -> bool
-    ensures { λ r. ⌜ r ≡ names map p ⌝ }
-{
-    let mut m = map;
-    let mut q: usize = 1;
-    while q < p {
-        m = m / 2;
-        q += 1;
-    }
-    m % 2 == 1
 }
 
 fn refused(cause: u8) -> Plan
@@ -216,8 +204,8 @@ fn books_at(plan: &[u8], n: usize) -> Offset
     if plan.len() < books {
         return Offset::Nowhere;
     }
-    if up_to(OPTIONS, options) {
-        if up_to(n, buffer::size_at(plan, map)) {
+    if bitmap::up_to(OPTIONS, options) {
+        if bitmap::up_to(n, buffer::size_at(plan, map)) {
             return Offset::At(books);
         }
     }
@@ -263,7 +251,7 @@ fn sender_of(plan: &[u8], options: usize, n: usize, good: usize) -> Source
         × (goodAt (now plan) ≤ length (now plan)) ⌝ }
     ensures { λ r. ⌜ r ≡ sourceOf (now (plan .entry)) ⌝ }
 {
-    if !names(options, SENDER) {
+    if !bitmap::names(options, SENDER) {
         return Source {
             given: false,
             number: 0,
@@ -283,7 +271,7 @@ fn session_of(plan: &[u8], options: usize) -> u32
     requires { ⌜ options ≡ optionsIn (now plan) ⌝ }
     ensures { λ r. ⌜ r ≡ sessionOf (now (plan .entry)) ⌝ }
 {
-    if names(options, SESSION) {
+    if bitmap::names(options, SESSION) {
         return buffer::number_at(plan, field_at(options, SESSION));
     }
     0
@@ -354,19 +342,6 @@ fn skip_sender(s: &[u8], at: usize, n: usize, good: usize, source: Source) -> Of
     Offset::At(at)
 }
 
-// Whether a map names no party beyond n.
-fn up_to(n: usize, map: usize) -> bool
-    ensures { λ r. ⌜ r ≡ ltb map (2 ^ n) ⌝ }
-{
-    let mut m = map;
-    let mut p: usize = 0;
-    while p < n {
-        m = m / 2;
-        p += 1;
-    }
-    m == 0
-}
-
 // An offset that was found, or the end.
 fn or_end(found: Offset, end: usize) -> usize
     ensures { λ r. ⌜ r ≡ orEnd found end ⌝ }
@@ -382,7 +357,7 @@ fn member(n: usize, map: usize, q: usize) -> bool
     ensures { λ r. ⌜ r ≡ member n map q ⌝ }
 {
     if limits::numbered(n, q) {
-        return names(map, q);
+        return bitmap::names(map, q);
     }
     false
 }
@@ -393,8 +368,8 @@ fn within(n: usize, receivers: usize, good: usize) -> bool
 {
     let mut p = n;
     while 0 < p {
-        if names(receivers, p) {
-            if !names(good, p) {
+        if bitmap::names(receivers, p) {
+            if !bitmap::names(good, p) {
                 return false;
             }
         }
@@ -428,7 +403,7 @@ fn skip_entries(s: &[u8], from: usize, k: usize, map: usize) -> Offset
     let mut p: usize = 0;
     while p < k {
         p += 1;
-        if !names(map, p) {
+        if !bitmap::names(map, p) {
             continue;
         }
         let Offset::At(next) = skip_entry(s, at) else {
@@ -479,7 +454,7 @@ fn skip_block(s: &[u8], at: usize, n: usize, good: usize) -> Offset
         return Offset::Nowhere;
     }
     let map = buffer::size_at(s, at);
-    if up_to(n, map) {
+    if bitmap::up_to(n, map) {
         if within(n, map, good) {
             return skip_entries(s, at + MAP, n, map);
         }
@@ -496,7 +471,7 @@ fn skip_blocks(s: &[u8], from: usize, k: usize, n: usize, good: usize) -> Offset
     let mut p: usize = 0;
     while p < k {
         p += 1;
-        if names(good, p) {
+        if bitmap::names(good, p) {
             continue;
         }
         let Offset::At(next) = skip_block(s, at, n, good) else {
@@ -531,7 +506,7 @@ fn packet_from(s: &[u8], n: usize, good: usize, q: usize, i: usize) -> Span
     if !limits::numbered(n, q) {
         return Span { from: 0, end: 0 };
     }
-    if names(good, q) {
+    if bitmap::names(good, q) {
         return Span { from: 0, end: 0 };
     }
     let at = or_end(skip_blocks(s, 0, q - 1, n, good), s.len());

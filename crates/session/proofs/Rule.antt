@@ -24,12 +24,13 @@ use Rattle.party.specs.State.{happy}
 use Rattle.party.specs.Steps.{openOf, rootCause, withRoot, gives, refused, agreeRootOf}
 use Rattle.party.specs.declared.Party.{Party}
 use Rattle.party.specs.declared.Answer.the-variants.{Happy}
-use Rattle.plan.specs.Layout.{sessionOf, mapWidth, names, member, unnamed, lowest, fieldAt, nIn, tIn, optionsIn, hasRoot, hasBit, rootIn, bitIn, goodAt, goodIn, booksIn}
+use Rattle.bitmap.specs.Bitmap.{names}
+use Rattle.plan.specs.Layout.{sessionOf, mapWidth, member, unnamed, lowest, fieldAt, nIn, tIn, optionsIn, hasRoot, hasBit, rootIn, bitIn, goodAt, goodIn, booksIn}
 use Rattle.plan.specs.Layout.{hasSender, senderIn, goodSender, badSender, holders, behindBooks, blockEntry, senderPacket, laidOut}
 use Rattle.plan.specs.Plan.{planCause, partsOf, planOf, bookGiven, blockGiven}
 use Rattle.plan.specs.declared.Plan.{Plan}
-use Rattle.plan.proofs.Maps.{named}
-use Rattle.plan.proofs.Maps as maps
+use Rattle.bitmap.proofs.Maps.{named}
+use Rattle.bitmap.proofs.Maps as maps
 use Rattle.plan.proofs.Given.{book-none, book-some, block-given}
 use Rattle.plan.proofs.Tails.{behind-there, behind-short}
 use Rattle.plan.proofs.Packets.{entries-fit}

@@ -23,7 +23,8 @@ pub use Rattle.commitment.specs.Rooms.{maxOutbox}
 use Rattle.agreement.specs.Calls.{Call, agreeRoot, agreeBit, takeShares, takeRelays, lengths}
 use Rattle.agreement.specs.Agreement.{Good}
 use Rattle.agreement.specs.Broadcast.{Opener}
-use Rattle.plan.specs.Layout.{names, partyEntry, unnamed, lowest, nIn, tIn, hasRoot, hasBit, hasSender, rootIn, bitIn, senderIn, sessionOf, goodIn, booksIn}
+use Rattle.bitmap.specs.Bitmap.{names}
+use Rattle.plan.specs.Layout.{partyEntry, unnamed, lowest, nIn, tIn, hasRoot, hasBit, hasSender, rootIn, bitIn, senderIn, sessionOf, goodIn, booksIn}
 use Rattle.plan.specs.Layout.{goodSender, holders, senderPacket, exchangeIn}
 use Rattle.plan.specs.Plan.{planCause}
 use Rattle.exchange.specs.Exchange.{inboxTo}

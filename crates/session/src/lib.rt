@@ -147,7 +147,7 @@ fn put_lines(
     while p < n {
         let state = states[p];
         p += 1;
-        if plan::names(good, p) {
+        if bitmap::names(good, p) {
             at += put_line(bytes, turn, state, relays, sizes, p, &mut text[at..]);
         }
     }
@@ -216,7 +216,7 @@ fn sent_all(bytes: &[u8], parts: Plan, boxes: &[u8], lens: &[usize], sizes: &[us
     let mut p: usize = 0;
     while p < n {
         p += 1;
-        if plan::names(parts.good, p) {
+        if bitmap::names(parts.good, p) {
             sum += sent_in_all(bytes, parts, boxes, lens, sizes, p);
         }
     }
@@ -323,7 +323,7 @@ fn opened(bytes: &[u8], parts: Plan, q: usize) -> Opened
     requires { ⌜ Ready (now bytes) parts ⌝ }
     ensures { λ r. ⌜ r ≡ opened sha256 (now (bytes .entry)) q ⌝ }
 {
-    if plan::names(parts.options, SENDER) {
+    if bitmap::names(parts.options, SENDER) {
         return opened_by_sender(bytes, parts, q);
     }
     let mut message = [0u8; MAX_MESSAGE];
@@ -360,7 +360,7 @@ fn handed(bytes: &[u8], parts: Plan, q: usize, out: &mut [u8]) -> usize
     if q == sender {
         return book(bytes, parts, q, out);
     }
-    if plan::names(parts.good, sender) {
+    if bitmap::names(parts.good, sender) {
         return sender_wrote(bytes, parts, out);
     }
     let at = parts.packets;
@@ -395,7 +395,7 @@ fn given(bytes: &[u8], parts: Plan, q: usize) -> usize
     requires { ⌜ Ready (now bytes) parts ⌝ }
     ensures { λ r. ⌜ (r ≤ maxMessagePacket) × (r ≡ length (givenBy sha256 (now (bytes .entry)) q)) ⌝ }
 {
-    if plan::names(parts.options, SENDER) {
+    if bitmap::names(parts.options, SENDER) {
         if q == parts.sender {
             let mut packet = [0u8; MAX_MESSAGE_PACKET];
             return sender_wrote(bytes, parts, &mut packet);
@@ -425,7 +425,7 @@ fn agreed_root(bytes: &[u8], parts: Plan) -> Hash
     requires { ⌜ Ready (now bytes) parts ⌝ }
     ensures { λ r. ⌜ r ≡ agreedRoot sha256 (now (bytes .entry)) ⌝ }
 {
-    if plan::names(parts.options, ROOT) {
+    if bitmap::names(parts.options, ROOT) {
         let at = plan::field_at(parts.options, ROOT);
         let end = at + 32;
         let mut root = [0u8; 32];
@@ -477,7 +477,7 @@ fn agreed_bit(bytes: &[u8], parts: Plan, root: &Hash) -> u8
     requires { ⌜ Ready (now bytes) parts × (now root ≡ agreedRoot sha256 (now bytes)) ⌝ }
     ensures { λ r. ⌜ r ≡ agreedBit sha256 (now (bytes .entry)) ⌝ }
 {
-    if plan::names(parts.options, BIT) {
+    if bitmap::names(parts.options, BIT) {
         let at = plan::field_at(parts.options, BIT);
         return bytes[at];
     }
@@ -494,7 +494,7 @@ fn same_roots(bytes: &[u8], parts: Plan, w: &Hash) -> bool
     let mut p: usize = 0;
     while p < n {
         p += 1;
-        if plan::names(parts.good, p) {
+        if bitmap::names(parts.good, p) {
             let own = opened(bytes, parts, p).root;
             if !check::same(&own, w) {
                 return false;
@@ -513,7 +513,7 @@ fn same_bits(bytes: &[u8], parts: Plan, root: &Hash, b: u8) -> bool
     let mut p: usize = 0;
     while p < n {
         p += 1;
-        if plan::names(parts.good, p) {
+        if bitmap::names(parts.good, p) {
             if own_bit(bytes, parts, root, p) != b {
                 return false;
             }
@@ -530,7 +530,7 @@ fn unlawful(bytes: &[u8], parts: Plan, root: &Hash, bit: u8) -> bool
     if parts.t < unnamed(parts.n, parts.good) {
         return true;
     }
-    if plan::names(parts.options, BIT) {
+    if bitmap::names(parts.options, BIT) {
         if 1 < bit {
             return true;
         }
@@ -567,7 +567,7 @@ fn voted_all(bytes: &[u8], parts: Plan, root: &Hash) -> [Party; MAX_PARTIES]
     let mut p: usize = 0;
     while p < n {
         let q = p + 1;
-        if plan::names(good, q) {
+        if bitmap::names(good, q) {
             let Reply { state: own, .. } = ballot(bytes, parts, root, q);
             states[p] = own;
         }
@@ -601,7 +601,7 @@ fn round(
     while p < n {
         let at = p * MAX_OUTBOX;
         let q = p + 1;
-        if plan::names(good, q) {
+        if bitmap::names(good, q) {
             let old = states[p];
             let Moved { state, len } = kept(bytes, turn, old, slots, lens, q, &mut next[at..]);
             sizes[p] = len;

@@ -4,7 +4,8 @@ use mathlib.Core.Logic.{inl, inr}
 use Prim.Native.Nat.{ℕ, suc, _+_, _-_, _≤_}
 use native.Mathlib.Omega.{arith}
 use lib.ListN.{length}
-use Rattle.plan.specs.Layout.{names, fields, fieldBytes}
+use Rattle.bitmap.specs.Bitmap.{names}
+use Rattle.plan.specs.Layout.{fields, fieldBytes}
 use Rattle.plan.proofs.Options.{field-more, field-none, width-short, fields-short, fields-all}
 use borrow.Author.Needs.{needs}
 use Rattle.plan.proofs.field_at.Statement.{statement}

@@ -5,8 +5,8 @@ use native.Mathlib.Decide.{decLt}
 use native.Mathlib.Omega.{arith}
 use borrow.Author.Tests.{not-true, not-false}
 use Rattle.limits.specs.Limits.{maxParties}
-use Rattle.plan.specs.Layout.{only}
-use Rattle.plan.proofs.Maps.{doubled, only-small}
+use Rattle.bitmap.specs.Bitmap.{only}
+use Rattle.bitmap.proofs.Maps.{doubled, only-small}
 use borrow.Author.Needs.{needs}
 use Rattle.plan.proofs.holders.Statement.{statement}
 use Rattle.plan.proofs.holders.Tie as tie

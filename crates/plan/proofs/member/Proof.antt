@@ -1,7 +1,7 @@
 -- `plan::member` meets its contract: a test of two tests. Assumes nothing.
 use mathlib.Core.Path.{sym, ap, _∙_}
 use mathlib.Core.Bool.{Bool, _&&_}
-use Rattle.plan.specs.Layout.{names}
+use Rattle.bitmap.specs.Bitmap.{names}
 use borrow.Author.Needs.{needs}
 use Rattle.plan.proofs.member.Statement.{statement}
 use Rattle.plan.proofs.member.Tie as tie

@@ -11,7 +11,8 @@ use Rattle.limits.proofs.Booleans.{both, denied}
 use Rattle.limits.proofs.Ranges.{numbered-range}
 use Rattle.buffer.specs.Entries.{size, body}
 use Rattle.buffer.proofs.Places.{entry-body}
-use Rattle.plan.specs.Layout.{names, member, partyEntry}
+use Rattle.bitmap.specs.Bitmap.{names}
+use Rattle.plan.specs.Layout.{member, partyEntry}
 use Rattle.plan.proofs.Blocks.{entry-none, entry-some}
 use Rattle.plan.proofs.Walks.{found-there}
 use borrow.Author.Needs.{needs}

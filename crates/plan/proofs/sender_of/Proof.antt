@@ -7,7 +7,8 @@ use native.Mathlib.Omega.{arith}
 use borrow.Author.Tests.{not-false}
 use lib.ListN.{length, getD}
 use Rattle.limits.proofs.Booleans.{denied}
-use Rattle.plan.specs.Layout.{names, member, senderOption, fieldAt, nIn, optionsIn, hasSender, senderIn, goodIn}
+use Rattle.bitmap.specs.Bitmap.{names}
+use Rattle.plan.specs.Layout.{member, senderOption, fieldAt, nIn, optionsIn, hasSender, senderIn, goodIn}
 use Rattle.plan.specs.declared.Source.{Source}
 use Rattle.plan.proofs.Options.{field-inside}
 use borrow.Author.Needs.{needs}

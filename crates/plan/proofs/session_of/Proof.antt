@@ -4,7 +4,8 @@ use mathlib.Core.List.{List}
 use Prim.Native.Nat.{ℕ}
 use lib.ListN.{drop}
 use Rattle.buffer.specs.Numbers.{number}
-use Rattle.plan.specs.Layout.{names, sessionOption, fieldAt, hasSession}
+use Rattle.bitmap.specs.Bitmap.{names}
+use Rattle.plan.specs.Layout.{sessionOption, fieldAt, hasSession}
 use Rattle.plan.proofs.Session.{session-given, session-absent}
 use borrow.Author.Needs.{needs}
 use Rattle.plan.proofs.session_of.Statement.{statement}

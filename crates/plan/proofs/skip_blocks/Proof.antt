@@ -6,7 +6,8 @@ use mathlib.Core.Option.{Option}
 use Prim.Native.Nat.{ℕ, _+_, _-_, _≤_}
 use native.Mathlib.Omega.{arith}
 use lib.ListN.{drop}
-use Rattle.plan.specs.Layout.{names, skipBlock, skipBlocks}
+use Rattle.bitmap.specs.Bitmap.{names}
+use Rattle.plan.specs.Layout.{skipBlock, skipBlocks}
 use Rattle.plan.specs.Private.{Ends}
 use Rattle.plan.specs.declared.Offset.{Offset}
 use Rattle.plan.specs.declared.Offset.the-variants.{Nowhere, At}

@@ -6,7 +6,8 @@ use native.Mathlib.Omega.{arith}
 use borrow.Author.Tests.{not-false}
 use lib.ListN.{drop}
 use Rattle.limits.proofs.Booleans.{denied}
-use Rattle.plan.specs.Layout.{names, skipEntry, skipEntries}
+use Rattle.bitmap.specs.Bitmap.{names}
+use Rattle.plan.specs.Layout.{skipEntry, skipEntries}
 use Rattle.plan.specs.Private.{Ends}
 use Rattle.plan.specs.declared.Offset.{Offset}
 use Rattle.plan.specs.declared.Offset.the-variants.{Nowhere, At}

@@ -6,7 +6,8 @@ use Prim.Native.Nat.{ℕ, _-_, _≤_}
 use native.Mathlib.Omega.{arith}
 use borrow.Author.Tests.{not-false}
 use Rattle.limits.proofs.Booleans.{denied}
-use Rattle.plan.specs.Layout.{names, within}
+use Rattle.bitmap.specs.Bitmap.{names}
+use Rattle.plan.specs.Layout.{within}
 use Rattle.plan.proofs.Walks.{every-none, every-fails, every-next}
 use borrow.Author.Needs.{needs}
 use Rattle.plan.proofs.within.Statement.{statement}

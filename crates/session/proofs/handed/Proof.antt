@@ -6,7 +6,8 @@ use native.Mathlib.Omega.{arith}
 use lib.ListN.{length, take, drop, length-drop}
 use lib.Seq.{take-all}
 use Rattle.sha256.specs.Sha256.{sha256}
-use Rattle.plan.specs.Layout.{names, senderIn, goodSender}
+use Rattle.bitmap.specs.Bitmap.{names}
+use Rattle.plan.specs.Layout.{senderIn, goodSender}
 use Rattle.plan.specs.Plan.{blockGiven}
 use Rattle.session.proofs.Openings.{handed-own, handed-good, handed-bad}
 use Rattle.session.proofs.Rule.{Known, known, sender-number, packets-room, sender-good, block-told}

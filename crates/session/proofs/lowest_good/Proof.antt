@@ -4,7 +4,7 @@ use Prim.Native.Nat.{_+_, _-_, _/_, _^_, _≤_}
 use native.Mathlib.Nat.{sub-zero}
 use native.Mathlib.Omega.{arith}
 use Rattle.plan.specs.Layout.{lowest}
-use Rattle.plan.proofs.Maps.{unhalved, halved, named, unnamed}
+use Rattle.bitmap.proofs.Maps.{unhalved, halved, named, unnamed}
 use Rattle.session.proofs.Rule.{lowest-end, lowest-found, lowest-later}
 use borrow.Author.Needs.{needs}
 use Rattle.session.proofs.lowest_good.Statement.{statement}

@@ -5,7 +5,7 @@ use Prim.Native.Nat.{_+_, _-_, _/_, _^_, _≤_}
 use native.Mathlib.Nat.{sub-zero}
 use native.Mathlib.Omega.{arith}
 use Rattle.plan.specs.Layout.{unnamed}
-use Rattle.plan.proofs.Maps.{unhalved, halved}
+use Rattle.bitmap.proofs.Maps.{unhalved, halved}
 use Rattle.session.proofs.Rule.{unnamed-end, unnamed-more}
 use borrow.Author.Needs.{needs}
 use Rattle.session.proofs.unnamed.Statement.{statement}

@@ -82,7 +82,7 @@ returns-3 c =
     let x = a .self in
     w .silent .ensures
     ∙ ap₂ (λ (y : Party) (bs : List ℕ). writes x y bs (a .out .now))
-    (d .ended .ensures ∙ ended-kept (x .seat) nothing _ refl) (sym (outbox-silent sha256 x 0 refl))
+    (d .ended .ensures ∙ ended-kept (x .seat) nothing 0 _ refl) (sym (outbox-silent sha256 x 0 refl))
     ∙ sym (bit-end sha256 x (a .bit) (a .out .now) (bit-fine x (a .bit) (fine e) (omega (arith, t .if3 .taken))) (t .if3 .taken))
 
 -- a bit that is neither above 1 nor 0
@@ -113,7 +113,7 @@ next v =
     let e = One v .before .before in
     let x = Entry e .args .self in
     v .waiting .ensures
-    ∙ waiting-kept (x .seat) First _ (messageIn x) _ (x .root) _ [] (x .len) 0 refl
+    ∙ waiting-kept (x .seat) First _ (messageIn x) _ (x .root) _ [] (x .len) 0 0 refl
     (sym (length-message x (omega (arith, fit e .short, long (Entry e))))) refl refl refl
 
 after-requires : tie.Need-after-requires

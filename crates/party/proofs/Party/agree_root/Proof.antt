@@ -18,6 +18,7 @@ use Rattle.party.proofs.Outcomes.{root-refused, root-given}
 use Rattle.party.proofs.Kept.{put-whole, length-message, waiting-kept}
 use borrow.Author.Needs.{needs}
 use Rattle.sha256.specs.Sha256.{sha256}
+use Rattle.party.proofs.Faulty.{names-none, holds-empty}
 use Rattle.party.proofs.Party.agree_root.Statement.{statement}
 use Rattle.party.proofs.Party.agree_root.Tie as tie
 
@@ -71,7 +72,9 @@ waiting-requires c κs = fit (c .before .before .before .before) .short
 
 happy-requires : tie.Need-happy-requires
 happy-requires c κs =
-    let f = fit (c .before .before .before .before .before) in
+    let e = c .before .before .before .before .before in
+    let f = fit e in
+    let s = e .before .before .before .args .self .seat in
     rw (c .waiting .ensures) (record {
       low = f .low;
       high = f .high;
@@ -80,6 +83,8 @@ happy-requires c κs =
       last = f .last;
       short = f .short;
       few = omega arith;
+      named = holds-empty (s .n) (s .own) .named;
+      others = names-none (s .own);
     })
 
 returns-3 : tie.Need-returns-3
@@ -93,7 +98,7 @@ returns-3 c =
     let x = s .args .self in
     let z = s .args .root .now in
     let state : w .waiting .result ≡ withRoot x z = w .waiting .ensures
-    ∙ waiting-kept (x .seat) Bit _ (messageIn x) _ z _ [] (x .len) 0 refl
+    ∙ waiting-kept (x .seat) Bit _ (messageIn x) _ z _ [] (x .len) 0 0 refl
     (sym (length-message x (omega (arith, fit e .short, long s)))) (p .put .ensures .1 ∙ put-whole 32 z (o .if2 .left)) refl refl in
     ap₂ {C = Stepped} (λ (y : Party) (h : Bool). gives y (Happy h) []) state (c .happy .ensures ∙ ap (happy sha256) state)
     ∙ sym (root-given sha256 x z (root-fine x z (fine e) (o .if2 .left)))

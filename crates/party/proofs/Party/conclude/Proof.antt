@@ -1,6 +1,6 @@
 -- `party::Party::conclude` meets its contract: each return is one result that is found, by whether the party is happy, by the answer of rebuilding from
 -- the shares that were gathered, and by whether what was rebuilt has the agreed root. Assumes nothing.
-use mathlib.Core.Path.{_≡_, sym, ap, _∙_}
+use mathlib.Core.Path.{_≡_, sym, ap, ap₂, _∙_}
 use mathlib.Core.Bool.{Bool, cond}
 use mathlib.Core.List.{List}
 use Prim.Native.Nat.{ℕ, zero, _-_, _≤_}
@@ -14,7 +14,7 @@ use Rattle.erasure.specs.Rebuild.{Recovered, cause, message, present, answered}
 use Rattle.commitment.specs.Rebuild.{underRoot}
 use Rattle.commitment.proofs.Rebuild.{Short, short-recovered, answer-found, answer-cause}
 use Rattle.party.specs.State.{Result, messageIn}
-use Rattle.party.specs.Steps.{gathered, rebuilt, recoveredBy, resultFound, stepped, ending}
+use Rattle.party.specs.Steps.{gathered, rebuilt, recoveredBy, resultFound, faultyRelays, Stepped, stepped, ending}
 use Rattle.party.specs.Private.{Fit}
 use Rattle.party.specs.declared.Party.{Party}
 use Rattle.party.specs.declared.Reply.{Reply}
@@ -36,8 +36,18 @@ abbrev Out : tie.Start → List ℕ
 Out st = st .args .out .now
 
 -- the function's entry, from where it is known whether the party is happy
+abbrev Judges : tie.After-happy → tie.After-judge-relays
+Judges h = h .before .before
+
 abbrev Entry : tie.After-happy → tie.Start
-Entry h = h .before .before .before
+Entry h = Judges h .before .before .before
+
+-- the map that goes with the result
+abbrev F : tie.Start → ℕ
+F st = faultyRelays sha256 (X st) (S st)
+
+map : (h : tie.After-happy) → Judges h .judge-relays .result .faulty ≡ F (Entry h)
+map h = Judges h .judge-relays .ensures .1
 
 fit : (st : tie.Start) → Fit (X st)
 fit st = st .pre .0
@@ -52,12 +62,12 @@ share-long st = search needs
 held : (st : tie.Start) → length (messageIn (X st)) ≡ X st .len
 held st = length-message (X st) (omega (arith, long st, fit st .short))
 
-abbrev Gather : tie.After-rebuild-at → tie.After-gather
-Gather d = d .before .before .before .before
+abbrev Unhappy : tie.After-rebuild-at → tie.Else1
+Unhappy d = d .before .before .before .before
 
 -- a party that is not happy: what is recovered of the shares gathered
 abbrev E : tie.After-rebuild-at → tie.Start
-E d = Entry (Gather d .before .before)
+E d = Entry (Unhappy d .before)
 
 abbrev A : tie.Start → Recovered
 A st = recoveredBy sha256 (X st) (S st)
@@ -68,7 +78,7 @@ Under st a = rebuilt (underRoot sha256 (X st .seat .session) (X st .seat .n) (X 
 rebuilding : (d : tie.After-rebuild-at) → let st = E d in resultFound sha256 (X st) (S st) ≡ Under st (A st)
 rebuilding d =
     let st = E d in
-    let u = Gather d .before in
+    let u = Unhappy d in
     found-rebuilt sha256 (X st) (S st) (sym (u .before .happy .ensures) ∙ u .if1 .left)
 
 -- the entries, the buffer after rebuilding, and what the answer says
@@ -81,8 +91,8 @@ Zeros = replicate maxMessage 0
 told : (d : tie.After-rebuild-at) → gave (d .rebuild-at .result) (O d) ≡ answered (A (E d)) Zeros
 told d =
     let st = E d in
-    let g = Gather d .gather in
-    d .rebuild-at .ensures ∙ rebuilt-of sha256 (X st) (S st) (g .result) Zeros (fit (E d)) (g .ensures)
+    let g = Judges (Unhappy d .before) .judge-relays in
+    d .rebuild-at .ensures ∙ rebuilt-of sha256 (X st) (S st) (g .result .places) Zeros (fit (E d)) (g .ensures .0)
 
 short : (st : tie.Start) → Short (A st)
 short st = short-recovered (X st .seat .n - X st .seat .t) (present 1 (gathered sha256 (X st) 1 (bodies (X st .seat .n) (S st))))
@@ -112,6 +122,9 @@ judged h =
     rebuilding d ∙ ap (Under (E d)) (found (Len h) .0)
     ∙ ap (λ (b : Bool). rebuilt (cond b (message (M h)) (cause 15))) (sym (h .has-root .ensures))
 
+judge-relays-requires : tie.Need-judge-relays-requires
+judge-relays-requires c κs = search needs
+
 happy-requires : tie.Need-happy-requires
 happy-requires c κs = search needs
 
@@ -137,19 +150,16 @@ returns c =
     let u = w .before .before .before .before in
     let st = Entry (u .before) in
     w .settle .ensures
-    ∙ ap (λ (r : Result). ending (X st) r (Out st)) (sym (found-happy sha256 (X st) (S st) (sym (u .before .happy .ensures) ∙ u .if1 .taken)))
-
-gather-requires : tie.Need-gather-requires
-gather-requires c κs = search needs
+    ∙ ap₂ {C = Stepped} (λ (r : Result) (f : ℕ). ending (X st) r f (Out st)) (sym (found-happy sha256 (X st) (S st) (sym (u .before .happy .ensures) ∙ u .if1 .taken))) (map (u .before))
 
 array-share-prefix-share : tie.Need-array-share-prefix-share
 array-share-prefix-share c =
-    let st = Entry (c .before .before .before) in
+    let st = Entry (c .before .before) in
     omega (arith, share-long st, fit st .few)
 
 slice-aggregate-rebuild-at : tie.Need-slice-aggregate-rebuild-at
 slice-aggregate-rebuild-at c =
-    let st = Entry (c .before .before .before .before) in
+    let st = Entry (c .before .before .before) in
     sym (length-take-le (X st .held) (X st .share) (omega (arith, share-long st, fit st .few)))
 
 slice-aggregate-rebuild-at-2 : tie.Need-slice-aggregate-rebuild-at-2
@@ -169,9 +179,9 @@ returns-2 c =
     let d = c .before .before .before in
     let st = E d in
     ap (λ (r : Reply). stepped r (Out st)) (c .settle-nothing .ensures)
-    ∙ sym (ap (λ (r : Result). ending (X st) r (Out st))
+    ∙ sym (ap₂ {C = Stepped} (λ (r : Result) (f : ℕ). ending (X st) r f (Out st))
     (rebuilding d ∙ ap (Under st) (answer-cause (O d) Zeros (d .rebuild-at .result) (length-replicate maxMessage zero) (A st) (short st) (told d)
-    (c .before .match .keys2) .1)))
+    (c .before .match .keys2) .1)) (sym (map (Unhappy d .before))))
 
 array-share-prefix-message-2 : tie.Need-array-share-prefix-message-2
 array-share-prefix-message-2 c = found (c .before) .2
@@ -205,7 +215,8 @@ returns-3 c =
     let h = e .before in
     let st = E (Len h .before .before .before) in
     w .settle2 .ensures
-    ∙ ap (λ (r : Result). ending (X st) r (Out st)) (sym (judged h ∙ ap (λ (b : Bool). rebuilt (cond b (message (M h)) (cause 15))) (e .if2 .taken)))
+    ∙ ap₂ {C = Stepped} (λ (r : Result) (f : ℕ). ending (X st) r f (Out st))
+    (sym (judged h ∙ ap (λ (b : Bool). rebuilt (cond b (message (M h)) (cause 15))) (e .if2 .taken))) (map (Unhappy (Len h .before .before .before) .before))
 
 settle-nothing-requires-2 : tie.Need-settle-nothing-requires-2
 settle-nothing-requires-2 c κs = search needs
@@ -216,19 +227,20 @@ returns-4 c =
     let h = e .before in
     let st = E (Len h .before .before .before) in
     ap (λ (r : Reply). stepped r (Out st)) (c .settle-nothing2 .ensures)
-    ∙ sym (ap (λ (r : Result). ending (X st) r (Out st)) (judged h ∙ ap (λ (b : Bool). rebuilt (cond b (message (M h)) (cause 15))) (e .if2 .left)))
+    ∙ sym (ap₂ {C = Stepped} (λ (r : Result) (f : ℕ). ending (X st) r f (Out st))
+    (judged h ∙ ap (λ (b : Bool). rebuilt (cond b (message (M h)) (cause 15))) (e .if2 .left)) (sym (map (Unhappy (Len h .before .before .before) .before))))
 
 pub conclude-spec : {M : Type 1} → statement M
 conclude-spec =
     tie.close
     (tie.spec
+    judge-relays-requires
     happy-requires
     array-share-prefix-message
     slice-aggregate-settle
     settle-requires
     same-length
     returns
-    gather-requires
     array-share-prefix-share
     slice-aggregate-rebuild-at
     slice-aggregate-rebuild-at-2

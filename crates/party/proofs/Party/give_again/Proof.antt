@@ -53,7 +53,7 @@ returns : tie.Need-returns
 returns c =
     let st = c .before .before .before .before in
     ap (λ (r : Reply). stepped r (Out st)) (c .settle-nothing .ensures)
-    ∙ ap (λ (o : Outcome). ending (X st) (resultFrom o (X st .message)) (Out st)) (sym (c .before .enum-told .given .1))
+    ∙ ap (λ (o : Outcome). ending (X st) (resultFrom o (X st .message)) (X st .faulty) (Out st)) (sym (c .before .enum-told .given .1))
 
 array-share-prefix-kept : tie.Need-array-share-prefix-kept
 array-share-prefix-kept c = let k = c .before .before in omega (arith, long (Entry k), short k)
@@ -72,7 +72,7 @@ returns-2 c =
     let w = c .before .before in
     let k = w .before .before .before .before .before in
     let st = Entry k in
-    w .settle .ensures ∙ ap (λ (o : Outcome). ending (X st) (resultFrom o (X st .message)) (Out st)) (sym (k .outcome .given .1))
+    w .settle .ensures ∙ ap (λ (o : Outcome). ending (X st) (resultFrom o (X st .message)) (X st .faulty) (Out st)) (sym (k .outcome .given .1))
 
 pub give-again-spec : {M : Type 1} → statement M
 give-again-spec =

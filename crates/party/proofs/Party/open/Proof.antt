@@ -57,7 +57,7 @@ returns-2 c =
     let b = open-bounds (a .n) (a .t) (a .own) (length m) none in
     let k = p .put .ensures .1 ∙ put-padded maxMessage m (b .3) in
     ap₂ {C = Opened} (λ (x : Party) (r : Rooted). record { state = x; cause = 0; root = r .root })
-    (waiting-kept (seatOf (a .session) (a .n) (a .t) (a .own)) Root _ m blank blank _ [] (length m) 0 k refl refl refl refl)
+    (waiting-kept (seatOf (a .session) (a .n) (a .t) (a .own)) Root _ m blank blank _ [] (length m) 0 0 k refl refl refl refl)
     (r .root .ensures ∙ rooted-given sha256 (a .session) (a .n) (a .t) (a .own) m none)
     ∙ sym (open-given sha256 (a .session) (a .n) (a .t) (a .own) m none)
 

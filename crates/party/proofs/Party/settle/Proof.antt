@@ -25,7 +25,7 @@ returns c =
     let t = c .before in
     let a = t .before .before .before .args in
     ap (λ (r : Reply). stepped r (a .out .now)) (c .short .ensures)
-    ∙ sym (ending-short (a .self) (a .message .now) (a .out .now) (t .if1 .taken))
+    ∙ sym (ending-short (a .self) (a .message .now) (a .faulty) (a .out .now) (t .if1 .taken))
 
 put-requires : tie.Need-put-requires
 put-requires c κs = search needs
@@ -51,10 +51,10 @@ returns-2 c =
     let a = s .args in
     let x = a .self in
     let m = a .message .now in
-    ap₂ {C = Stepped} (λ (y : Party) (o : List ℕ). gives y (Message (length m)) o)
-    (c .ended .ensures ∙ ended-kept (x .seat) (settled m) _ (p .put2 .ensures .1 ∙ put-padded maxMessage m (s .pre)))
+    ap₂ {C = Stepped} (λ (y : Party) (o : List ℕ). gives y (Message (length m) (a .faulty)) o)
+    (c .ended .ensures ∙ ended-kept (x .seat) (settled m) (a .faulty) _ (p .put2 .ensures .1 ∙ put-padded maxMessage m (s .pre)))
     (q .put .ensures .1 ∙ put-fits (a .out .now) 0 m (omega arith))
-    ∙ sym (ending-done x m (a .out .now) (e .if1 .left))
+    ∙ sym (ending-done x m (a .faulty) (a .out .now) (e .if1 .left))
 
 pub settle-spec : {M : Type 1} → statement M
 settle-spec =

@@ -14,8 +14,8 @@ ended-requires c κs = search needs
 
 returns : tie.Need-returns
 returns c =
-    ap {B = Reply} (λ (y : Party). record { state = y; answer = answer.Nothing })
-    (c .ended .ensures ∙ ended-kept _ nothing _ refl)
+    ap {B = Reply} (λ (y : Party). record { state = y; answer = answer.Nothing (c .before .args .faulty) })
+    (c .ended .ensures ∙ ended-kept _ nothing _ _ refl)
 
 pub settle-nothing-spec : {M : Type 1} → statement M
 settle-nothing-spec = tie.close (tie.spec ended-requires returns)

@@ -17,7 +17,7 @@ use Rattle.packet.specs.Answer.{writeOf}
 use Rattle.packet.proofs.Path.{padded as path-padded, path-there, length-hashes}
 use Rattle.commitment.specs.Commitment.{mailWith}
 use Rattle.party.specs.State.{messageIn, atSecond}
-use Rattle.party.specs.Steps.{inboxCause, Taken, takenBy, shareTaken, packetTaken, Stepped, gives, stepped, refused}
+use Rattle.party.specs.Steps.{inboxCause, faultyShares, Taken, takenBy, shareTaken, packetTaken, Stepped, gives, stepped, refused}
 use Rattle.party.specs.Steps.{writes, takeSharesOf}
 use Rattle.party.specs.Private.{Fit, TakenIs}
 use Rattle.party.specs.declared.Party.{Party}
@@ -55,7 +55,7 @@ T st = takenBy sha256 (X st) (S st)
 
 -- the state at the next stage, with a share
 abbrev Next : tie.Start → List ℕ → Party
-Next st y = let x = X st in atSecond (x .seat) (messageIn x) (x .root) y
+Next st y = let x = X st in atSecond (x .seat) (messageIn x) (x .root) y (faultyShares sha256 x (S st))
 
 fine : (e : tie.Else1) → inboxCause 4 (X (Entry e)) (S (Entry e)) ≡ 0
 fine e = sym (e .before .inbox-cause .ensures) ∙ e .if1 .left
@@ -79,8 +79,16 @@ Sends v = v .before .before .before
 abbrev Left : tie.After-waiting → List ℕ
 Left v = Sends v .send .last .1 .1 .0
 
+abbrev Judges : tie.After-waiting → tie.After-judge-shares
+Judges v = Sends v .before .before
+
 abbrev Fine : tie.After-waiting → tie.Else1
-Fine v = Sends v .before .before .before
+Fine v = Judges v .before .before .before
+
+-- the map of those whose packets are faulty
+map : (v : tie.After-waiting) → let st = Entry (Fine v) in Judges v .judge-shares .result .faulty ≡ faultyShares sha256 (X st) (S st)
+unfolding faultyShares
+map v = Judges v .judge-shares .ensures .1
 
 -- the state that waits for the second inbox without a share
 next : (v : tie.After-waiting) → v .waiting .result ≡ Next (Entry (Fine v)) []
@@ -89,65 +97,66 @@ next v =
     let e = Fine v in
     let x = X (Entry e) in
     v .waiting .ensures
-    ∙ waiting-kept (x .seat) Second _ (messageIn x) _ (x .root) _ [] (x .len) 0 refl (sym (held e)) refl refl refl
+    ∙ waiting-kept (x .seat) Second _ (messageIn x) _ (x .root) _ [] (x .len) 0 _ refl (sym (held e)) refl refl refl
+    ∙ ap (atSecond (x .seat) (messageIn x) (x .root) []) (map v)
 
 -- a party that is not happy: the buffer is as it was, and what is sent goes by what was taken
-abbrev Waits : tie.After-first-valid → tie.After-waiting
-Waits d = d .before .before .before
+abbrev Waits : tie.Else2 → tie.After-waiting
+Waits d = d .before
 
-abbrev E : tie.After-first-valid → tie.Else1
+abbrev E : tie.Else2 → tie.Else1
 E d = Fine (Waits d)
 
-left : (d : tie.After-first-valid) → Left (Waits d) ≡ Out (Entry (E d))
-left d = Sends (Waits d) .send .ensures .2 (d .before .before .if2 .left)
+left : (d : tie.Else2) → Left (Waits d) ≡ Out (Entry (E d))
+left d = Sends (Waits d) .send .ensures .2 (d .if2 .left)
 
-taking : (d : tie.After-first-valid) → let st = Entry (E d) in
+taking : (d : tie.Else2) → let st = Entry (E d) in
     takeSharesOf sha256 (X st) (S st) (Out st) ≡ writes (X st) (Next st (shareTaken (T st))) (packetTaken (X st) (T st)) (Out st)
 taking d =
     let st = Entry (E d) in
-    shares-taken sha256 (X st) (S st) (Out st) (fine (E d)) (sym (Sends (Waits d) .send .ensures .0) ∙ d .before .before .if2 .left)
+    shares-taken sha256 (X st) (S st) (Out st) (fine (E d)) (sym (Sends (Waits d) .send .ensures .0) ∙ d .if2 .left)
 
-took : (d : tie.After-first-valid) (r : Placed) → d .first-valid .result ≡ r → TakenIs r (T (Entry (E d))) (S (Entry (E d)))
-took d r q = let st = Entry (E d) in subst (λ (y : Placed). TakenIs y (T st) (S st)) q (d .first-valid .ensures)
+took : (d : tie.Else2) (r : Placed) → Judges (Waits d) .judge-shares .result .taken ≡ r → TakenIs r (T (Entry (E d))) (S (Entry (E d)))
+took d r q = let st = Entry (E d) in subst (λ (y : Placed). TakenIs y (T st) (S st)) q (Judges (Waits d) .judge-shares .ensures .0)
 
 -- where a share was found: its place, length and count of hashes
-abbrev D : tie.After-from → tie.After-first-valid
+abbrev D : tie.After-taken → tie.Else2
 D k = k .before .before
 
-abbrev F : tie.After-from → ℕ
-F k = k .from .given .0 .0
+abbrev F : tie.After-taken → ℕ
+F k = k .taken .given .0 .0
 
-abbrev L : tie.After-from → ℕ
-L k = k .from .given .0 .1 .0
+abbrev L : tie.After-taken → ℕ
+L k = k .taken .given .0 .1 .0
 
-abbrev C : tie.After-from → ℕ
-C k = k .from .given .0 .1 .1 .0
+abbrev C : tie.After-taken → ℕ
+C k = k .taken .given .0 .1 .1 .0
 
-got : (k : tie.After-from) → let st = Entry (E (D k)) in
+got : (k : tie.After-taken) → let st = Entry (E (D k)) in
     Got sha256 (X st .seat .session) (X st .seat .n) (X st .seat .own) (X st .root) (S st) (F k) (L k) (C k) (T st)
 got k =
     let st = Entry (E (D k)) in
     let x = X st in
-    got-of sha256 (x .seat .session) (x .seat .n) (x .seat .own) (x .root) (S st) (F k) (L k) (C k) (T st) (took (D k) (At (F k) (L k) (C k)) (k .from .given .1))
+    got-of sha256 (x .seat .session) (x .seat .n) (x .seat .own) (x .root) (S st) (F k) (L k) (C k) (T st) (took (D k) (At (F k) (L k) (C k)) (k .taken .given .1))
     (passed sha256 (x .seat .session) (x .seat .n) (x .seat .own) (x .root) 1 (bodies (x .seat .n) (S st)))
 
 -- the share, the hashes of its path, and the packet
-abbrev Y : tie.After-from → List ℕ
+abbrev Y : tie.After-taken → List ℕ
 Y k = take (L k) (drop (F k) (S (Entry (E (D k)))))
 
-abbrev Q : tie.After-from → List ℕ
+abbrev Q : tie.After-taken → List ℕ
 Q k = drop (F k + L k) (S (Entry (E (D k))))
 
-abbrev Packet : tie.After-from → List ℕ
+abbrev Packet : tie.After-taken → List ℕ
 Packet k = packetOf (X (Entry (E (D k))) .seat .own) (Y k) (hashes (C k) (Q k))
 
-size : (k : tie.After-from) → length (Y k) ≡ L k
+size : (k : tie.After-taken) → length (Y k) ≡ L k
 size k = length-part (S (Entry (E (D k)))) (F k) (L k) (omega (arith, got k .inside))
 
-part : (k : tie.After-from) → take (F k + L k - F k) (drop (F k) (S (Entry (E (D k))))) ≡ Y k
+part : (k : tie.After-taken) → take (F k + L k - F k) (drop (F k) (S (Entry (E (D k))))) ≡ Y k
 part k = part-ends (S (Entry (E (D k)))) (F k) (L k)
 
-goal : (k : tie.After-from) → let st = Entry (E (D k)) in
+goal : (k : tie.After-taken) → let st = Entry (E (D k)) in
     takeSharesOf sha256 (X st) (S st) (Out st) ≡ writes (X st) (Next st (Y k)) (Packet k) (Out st)
 goal k =
     let st = Entry (E (D k)) in
@@ -163,7 +172,7 @@ P v = v .before .before
 abbrev Path : tie.After-put → tie.After-path-at
 Path p = p .before .before .before
 
-abbrev K : tie.After-put → tie.After-from
+abbrev K : tie.After-put → tie.After-taken
 K p = Path p .before .before
 
 abbrev O : tie.After-write → List ℕ
@@ -209,9 +218,10 @@ holds v =
     let k = K p in
     let x = X (Entry (E (D k))) in
     v .waiting2 .ensures
-    ∙ waiting-kept (x .seat) Second _ (messageIn x) _ (x .root) _ (Y k) (x .len) (L k) refl (sym (held (E (D k)))) refl
+    ∙ waiting-kept (x .seat) Second _ (messageIn x) _ (x .root) _ (Y k) (x .len) (L k) _ refl (sym (held (E (D k)))) refl
     (p .put .ensures .1 ∙ ap (putOf (replicate maxShare 0) 0) (part k) ∙ put-padded maxShare (Y k) (omega (arith, size k, got k .most)))
     (sym (size k))
+    ∙ ap (atSecond (x .seat) (messageIn x) (x .root) (Y k)) (map (Waits (D k)))
 
 inbox-cause-requires : tie.Need-inbox-cause-requires
 inbox-cause-requires c κs = search needs
@@ -227,11 +237,17 @@ returns c =
     ap (λ (r : Reply). stepped r (Out st)) (c .refused .ensures)
     ∙ sym (shares-refused sha256 (X st) (S st) (Out st) (λ q. b .if1 .taken (k ∙ q)) ∙ ap (λ (i : ℕ). refused (X st) i (Out st)) (sym k))
 
+judge-shares-requires : tie.Need-judge-shares-requires
+judge-shares-requires c κs =
+    let e = c .before .before in
+    let f = fit e in
+    (f .low, f .high, f .first, f .last, inbox-sound 4 (X (Entry e)) (S (Entry e)) (fine e) .1, root-long (Entry e))
+
 send-requires : tie.Need-send-requires
-send-requires c κs = fit (c .before .before)
+send-requires c κs = fit (c .before .before .before .before)
 
 waiting-requires : tie.Need-waiting-requires
-waiting-requires c κs = fit (c .before .before .before .before .before) .short
+waiting-requires c κs = fit (c .before .before .before .before .before .before .before) .short
 
 after-requires : tie.Need-after-requires
 after-requires c κs = search needs
@@ -253,14 +269,8 @@ returns-2 c =
     ∙ ap₂ (λ (y : Party) (bs : List ℕ). writes x y bs (Out st)) (next v) (sym (relay-mail sha256 x))
     ∙ sym (shares-happy sha256 x (S st) (Out st) (fine e) (sym (s .send .ensures .0) ∙ t .if2 .taken))
 
-first-valid-requires : tie.Need-first-valid-requires
-first-valid-requires c κs =
-    let e = Fine (c .before .before) in
-    let f = fit e in
-    (f .low, f .high, f .first, f .last, inbox-sound 4 (X (Entry e)) (S (Entry e)) (fine e) .1, root-long (Entry e))
-
-enum-known-from : tie.Need-enum-known-from
-enum-known-from c = search needs
+enum-known-taken : tie.Need-enum-known-taken
+enum-known-taken c = search needs
 
 enum-told : tie.Need-enum-told
 enum-told c = search needs
@@ -342,13 +352,13 @@ take-shares-spec =
     inbox-cause-requires
     refused-requires
     returns
+    judge-shares-requires
     send-requires
     waiting-requires
     after-requires
     same-length
     returns-2
-    first-valid-requires
-    enum-known-from
+    enum-known-taken
     enum-told
     same-length-2
     returns-3

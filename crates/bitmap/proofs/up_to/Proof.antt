@@ -1,12 +1,12 @@
--- `plan::up_to` meets its contract: after p turns the map is halved p times. Assumes nothing.
+-- `bitmap::up_to` meets its contract: after p turns the map is halved p times. Assumes nothing.
 use mathlib.Core.Path.{_≡_, ap, _∙_}
 use Prim.Native.Nat.{ℕ, _-_, _/_, _^_, _≤_}
 use native.Mathlib.Omega.{arith}
 use lib.Dec.{ltb}
-use Rattle.plan.proofs.Maps.{unhalved, halved, none-left}
+use Rattle.bitmap.proofs.Maps.{unhalved, halved, none-left}
 use borrow.Author.Needs.{needs}
-use Rattle.plan.proofs.up_to.Statement.{statement}
-use Rattle.plan.proofs.up_to.Tie as tie
+use Rattle.bitmap.proofs.up_to.Statement.{statement}
+use Rattle.bitmap.proofs.up_to.Tie as tie
 
 abbrev Inv-loop : tie.InvT-loop
 Inv-loop n map m₀ p₀ m p = (p ≤ n) × (m ≡ map / 2 ^ p)

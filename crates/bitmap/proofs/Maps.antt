@@ -9,7 +9,7 @@ use borrow.Author.Tests.{ltb-true, ltb-false, eq-eqb, ne-eqb}
 use lib.Dec.{ltb, eqb}
 use lib.Pow.{pow-mono}
 use Rattle.limits.specs.Limits.{maxParties}
-use Rattle.plan.specs.Layout.{names, only}
+use Rattle.bitmap.specs.Bitmap.{names, only}
 
 -- a map as it is given, halved no times
 pub unhalved : (map : ℕ) → map ≡ map / 2 ^ 0

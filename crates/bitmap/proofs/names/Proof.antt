@@ -1,12 +1,12 @@
--- `plan::names` meets its contract: after q turns from 1 on the map is halved q - 1 times. Assumes nothing.
+-- `bitmap::names` meets its contract: after q turns from 1 on the map is halved q - 1 times. Assumes nothing.
 use mathlib.Core.Path.{_≡_, ap, _∙_}
 use Prim.Native.Nat.{ℕ, _+_, _-_, _/_, _%_, _^_, _≤_}
 use native.Mathlib.Omega.{arith}
 use lib.Dec.{eqb}
-use Rattle.plan.proofs.Maps.{unhalved, halved}
+use Rattle.bitmap.proofs.Maps.{unhalved, halved}
 use borrow.Author.Needs.{needs}
-use Rattle.plan.proofs.names.Statement.{statement}
-use Rattle.plan.proofs.names.Tie as tie
+use Rattle.bitmap.proofs.names.Statement.{statement}
+use Rattle.bitmap.proofs.names.Tie as tie
 
 abbrev Inv-loop : tie.InvT-loop
 Inv-loop map p m₀ q₀ m q = (1 ≤ q) × (q - 1 ≤ p - 1) × (m ≡ map / 2 ^ (q - 1))
