@@ -33,7 +33,7 @@ use Rattle.merkle.proofs.Trees.{length-root}
 use Rattle.packet.specs.Inbox.{inboxOf}
 use Rattle.packet.proofs.Inbox.{inbox-fills, inbox-bodies}
 use Rattle.party.specs.State.{seatOf, Result, nothing, resultBytes, atRoot, atBit, atFirst, atSecond, atEnd, resultIn, messageRoot, happy}
-use Rattle.party.specs.Steps.{turnOf, openCause, withRoot, Stepped, gives, outboxOf, heldOf, relayOf}
+use Rattle.party.specs.Steps.{turnOf, openCause, withRoot, Stepped, gives, outboxOf, heldOf, relayOf, faultyShares}
 use Rattle.party.specs.Steps as steps
 use Rattle.party.specs.declared.Party.{Party}
 use Rattle.party.specs.declared.Opened.{Opened}
@@ -44,6 +44,8 @@ use Rattle.commitment.specs.Private.{Coded}
 use Rattle.commitment.proofs.Messages.{fine}
 use Rattle.party.proofs.Causes.{state-fine, root-fine}
 use Rattle.party.proofs.Outcomes.{open-given, root-given, root-refused}
+use Rattle.party.proofs.Causes.{fit-of}
+use Rattle.party.proofs.Faulty.{holds-shares}
 use Rattle.party.proofs.Progress.{open-accepted, bit-accepted, shares-accepted, relays-accepted}
 use Rattle.party.proofs.Progress.{root-whole, bit-whole, first-whole, second-whole, held-short, result-short}
 use Rattle.party.proofs.Rooms.{outbox-fits, relay-fits}
@@ -271,19 +273,19 @@ module _ (H : List ℕ → List ℕ) (wide : (x : List ℕ) → length (H x) ≡
         ∙ bit-accepted H X1 (bit-whole (seatOf session n t p) (c .low) (c .high) (c .faults) one last m (c .short) z) bit room3 turn-bit bit-low fits-3
 
     -- what step 3 leaves, by the laws of calls
-    state-3 : step3 H s p .state ≡ cond (eqb bit 0) (atEnd (seatOf session n t p) nothing) X2
+    state-3 : step3 H s p .state ≡ cond (eqb bit 0) (atEnd (seatOf session n t p) nothing 0) X2
     unfolding step3 made atBit
     state-3 =
         let e : made H X1 (agreeBit bit room3) .cause ≡ 0 =
         sym (ap (λ (x : Party). steps.agreeBitOf H x bit room3 .cause) state-2) ∙ cause-3 in
         ap (λ (x : Party). steps.agreeBitOf H x bit room3 .state) state-2
         ∙ ap (λ (r : Stepped). r .state) (did3 H X1 bit room3 e .2)
-        ∙ ap (λ (b : List ℕ). cond (eqb bit 0) (atEnd (seatOf session n t p) nothing) (atFirst (seatOf session n t p) b z)) (message-bit (seatOf session n t p) m z)
+        ∙ ap (λ (b : List ℕ). cond (eqb bit 0) (atEnd (seatOf session n t p) nothing 0) (atFirst (seatOf session n t p) b z)) (message-bit (seatOf session n t p) m z)
 
     -- steps 4 and 5, on bit 1
     module _ (b1 : bit ≡ 1) where
       waits : step3 H s p .state ≡ X2
-      waits = state-3 ∙ ap (λ (b : Bool). cond b (atEnd (seatOf session n t p) nothing) X2) (ne-eqb bit 0 (λ q. omega arith))
+      waits = state-3 ∙ ap (λ (b : Bool). cond b (atEnd (seatOf session n t p) nothing 0) X2) (ne-eqb bit 0 (λ q. omega arith))
 
       turn-first : turnOf (atFirst (seatOf session n t p) m z .stage) ≡ 4
       unfolding atFirst
@@ -305,7 +307,7 @@ module _ (H : List ℕ → List ℕ) (wide : (x : List ℕ) → length (H x) ≡
           (filled (λ k. firstFrom p (k + 1))) fits
 
       abbrev X3 : Party
-      X3 = atSecond (seatOf session n t p) m z (heldOf H X2 (firstInbox H s p))
+      X3 = atSecond (seatOf session n t p) m z (heldOf H X2 (firstInbox H s p)) (faultyShares H X2 (firstInbox H s p))
 
       state-4 : step4 H s p .state ≡ X3
       unfolding step4 made atFirst
@@ -314,7 +316,7 @@ module _ (H : List ℕ → List ℕ) (wide : (x : List ℕ) → length (H x) ≡
           sym (ap (λ (x : Party). steps.takeSharesOf H x (firstInbox H s p) room4 .cause) waits) ∙ cause-4 in
           ap (λ (x : Party). steps.takeSharesOf H x (firstInbox H s p) room4 .state) waits
           ∙ ap (λ (r : Stepped). r .state) (did4 H X2 (firstInbox H s p) room4 e .1)
-          ∙ ap (λ (b : List ℕ). atSecond (seatOf session n t p) b z (heldOf H X2 (firstInbox H s p))) (message-first (seatOf session n t p) m z)
+          ∙ ap (λ (b : List ℕ). atSecond (seatOf session n t p) b z (heldOf H X2 (firstInbox H s p)) (faultyShares H X2 (firstInbox H s p))) (message-first (seatOf session n t p) m z)
 
       turn-second : turnOf (X3 .stage) ≡ 5
       unfolding atSecond
@@ -324,11 +326,11 @@ module _ (H : List ℕ → List ℕ) (wide : (x : List ℕ) → length (H x) ≡
       room5 = replicate maxMessage 0
 
       cause-5 : step5 H s p .cause ≡ 0
-      unfolding step5 secondInbox inboxTo atSecond
+      unfolding step5 secondInbox inboxTo atFirst atSecond
       cause-5 =
           let w2 = first-whole (seatOf session n t p) (c .low) (c .high) (c .faults) one last m (c .short) z in
           let w = second-whole (seatOf session n t p) (c .low) (c .high) (c .faults) one last m (c .short) z (heldOf H X2 (firstInbox H s p))
-          (held-short H X2 w2 (firstInbox H s p)) in
+          (faultyShares H X2 (firstInbox H s p)) (held-short H X2 w2 (firstInbox H s p)) (holds-shares H X2 (firstInbox H s p) (fit-of X2 w2)) in
           let fits : length (resultBytes (steps.resultOf H X3 (secondInbox H s p))) ≤ length room5 =
           omega (arith, result-short H X3 w (secondInbox H s p), length-replicate {A = ℕ} maxMessage 0) in
           ap (λ (x : Party). steps.takeRelaysOf H x (secondInbox H s p) room5 .cause) state-4
@@ -449,7 +451,7 @@ module _ (H : List ℕ → List ℕ) (wide : (x : List ℕ) → length (H x) ≡
     ends-0 b =
         ap (λ (o : Opened). resultIn (final H (o .state) (callsOf H s p))) (sym opened-to)
         ∙ rw (eq-eqb bit 0 b)
-        (ap resultIn (state-3 ∙ ap (λ (e : Bool). cond e (atEnd (seatOf session n t p) nothing) X2) (eq-eqb bit 0 b)) ∙ result-end (seatOf session n t p) nothing)
+        (ap resultIn (state-3 ∙ ap (λ (e : Bool). cond e (atEnd (seatOf session n t p) nothing 0) X2) (eq-eqb bit 0 b)) ∙ result-end (seatOf session n t p) nothing 0)
 
     sent-is : sentBy H session n t p m (callsOf H s p) ≡ sentLater H s p
     unfolding sentBy sentOver sentLater made step3 step4

@@ -19,7 +19,7 @@ use Rattle.buffer.specs.declared.Written.{Written}
 use Rattle.buffer.specs.declared.Written.the-variants.{Refused, Done}
 use Rattle.buffer.proofs.Given.{written-done}
 use Rattle.party.specs.State.{Result, nothing, settled}
-use Rattle.party.specs.Steps.{resultGiven, refused, ending, relaysCause, resultOf, takeRelaysOf}
+use Rattle.party.specs.Steps.{resultGiven, refused, ending, relaysCause, resultOf, faultyOf, takeRelaysOf}
 use Rattle.party.specs.declared.Party.{Party}
 use Rattle.party.specs.declared.Answer.{Answer}
 use Rattle.party.specs.declared.Answer.the-variants as answer
@@ -124,11 +124,11 @@ module _ (H : List ℕ → List ℕ) (s : List ℕ) where
   ends-later q h = rw (ne-eqb (agreedBit H s) 0 h)
 
 -- a message that was given lies within the buffer
-ending-room : (x : Party) (r : Result) (out : List ℕ) → messageLength (ending x r out .answer) ≤ length out
-ending-room x nothing out = omega arith
-ending-room x (settled m) out = go (ltb (length out) (length m)) refl
+ending-room : (x : Party) (r : Result) (f : ℕ) (out : List ℕ) → messageLength (ending x r f out .answer) ≤ length out
+ending-room x nothing f out = omega arith
+ending-room x (settled m) f out = go (ltb (length out) (length m)) refl
   where
-    go : (b : Bool) → ltb (length out) (length m) ≡ b → messageLength (ending x (settled m) out .answer) ≤ length out
+    go : (b : Bool) → ltb (length out) (length m) ≡ b → messageLength (ending x (settled m) f out .answer) ≤ length out
     go true e = rw e (omega arith)
     go false e = rw e (ltb-false (length out) (length m) e)
 
@@ -138,9 +138,9 @@ module _ (H : List ℕ → List ℕ) where
   relays-room x inbox out = go (not (eqb (relaysCause x inbox) 0))
     where
       go : (b : Bool)
-          → messageLength (cond b (refused x (relaysCause x inbox) out) (ending x (resultOf H x inbox) out) .answer) ≤ length out
+          → messageLength (cond b (refused x (relaysCause x inbox) out) (ending x (resultOf H x inbox) (faultyOf H x inbox) out) .answer) ≤ length out
       go true = omega arith
-      go false = ending-room x (resultOf H x inbox) out
+      go false = ending-room x (resultOf H x inbox) (faultyOf H x inbox) out
 
   pub message-room : (s : List ℕ) (q : ℕ) → messageLength (step5 H s q .answer) ≤ maxMessage
   unfolding step5
@@ -157,8 +157,8 @@ no-message (answer.Refused k) o h = refl
 no-message (answer.Short l) o h = refl
 no-message (answer.Happy b) o h = refl
 no-message (answer.Sent l) o h = refl
-no-message answer.Nothing o h = refl
-no-message (answer.Message l) o h = absurd (miss (0 ∷ 1 ∷ 2 ∷ 3 ∷ 4 ∷ []) 5 tt h)
+no-message (answer.Nothing f) o h = refl
+no-message (answer.Message l f) o h = absurd (miss (0 ∷ 1 ∷ 2 ∷ 3 ∷ 4 ∷ []) 5 tt h)
 
 -- the outcomes of a rehearsal
 pub cause-is : (s : List ℕ) → planOf s .cause ≡ planCause s

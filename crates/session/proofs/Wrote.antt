@@ -68,5 +68,5 @@ sent-none (answer.Refused k) h = refl
 sent-none (answer.Short k) h = refl
 sent-none (answer.Happy b) h = refl
 sent-none (answer.Sent k) h = absurd (miss (0 ∷ 1 ∷ 2 ∷ 4 ∷ 5 ∷ []) 3 tt h)
-sent-none answer.Nothing h = refl
-sent-none (answer.Message l) h = refl
+sent-none (answer.Nothing f) h = refl
+sent-none (answer.Message l f) h = refl

@@ -89,8 +89,8 @@ messageLength (Refused k) = 0
 messageLength (Short l) = 0
 messageLength (Happy b) = 0
 messageLength (Sent l) = 0
-messageLength Nothing = 0
-messageLength (Message l) = l
+messageLength (Nothing f) = 0
+messageLength (Message l f) = l
 
 -- the bit that a party gave; 0 where it gave none
 abbrev pub ownBit : Answer → ℕ
@@ -98,5 +98,5 @@ ownBit (Refused k) = 0
 ownBit (Short l) = 0
 ownBit (Happy b) = cond b 1 0
 ownBit (Sent l) = 0
-ownBit Nothing = 0
-ownBit (Message l) = 0
+ownBit (Nothing f) = 0
+ownBit (Message l f) = 0

@@ -36,8 +36,8 @@ sentLength (Refused k) = 0
 sentLength (Short l) = 0
 sentLength (Happy b) = 0
 sentLength (Sent l) = l
-sentLength Nothing = 0
-sentLength (Message l) = 0
+sentLength (Nothing f) = 0
+sentLength (Message l f) = 0
 
 abbrev pub wroteIn : Stepped → List ℕ
 wroteIn r = take (sentLength (r .answer)) (r .buffer)

@@ -170,7 +170,7 @@ fn put_line(
 {
     let mut message = [0u8; MAX_MESSAGE];
     let result = result_of(bytes, turn, state, relays, sizes, q, &mut message);
-    let Answer::Message(len) = result else {
+    let Answer::Message(len, _) = result else {
         return write_line(q, false, &[], text);
     };
     write_line(q, true, &message[..len], text)
@@ -191,7 +191,7 @@ fn result_of(
         × (orNothing (resultGiven r (now (out .exit))) ≡ endsWith sha256 (now (bytes .entry)) q) ⌝ }
 {
     if turn.bit == 0 {
-        return Answer::Nothing;
+        return Answer::Nothing(0);
     }
     let Reply { answer, .. } = ended(bytes, turn.parts, state, relays, sizes, q, out);
     answer
@@ -458,8 +458,8 @@ fn bit_of(answer: Answer) -> u8
             0
         }
         Answer::Sent(_) => 0,
-        Answer::Nothing => 0,
-        Answer::Message(_) => 0,
+        Answer::Nothing(_) => 0,
+        Answer::Message(_, _) => 0,
     }
 }
 
