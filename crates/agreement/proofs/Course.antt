@@ -9,7 +9,7 @@ use native.Mathlib.Omega.{arith}
 use borrow.Author.Tests.{eqb-true, eqb-false}
 use lib.Dec.{eqb}
 use Rattle.party.specs.State.{seatOf, nothing, atRoot, atBit, atFirst, atSecond, atEnd}
-use Rattle.party.specs.Steps.{Stepped, resultOf, faultyOf}
+use Rattle.party.specs.Steps.{Stepped}
 use Rattle.party.specs.declared.Party.{Party}
 use Rattle.party.proofs.Ways.{Way, on, off, way}
 use Rattle.agreement.specs.Calls.{Call, agreeRoot, agreeBit, takeShares, takeRelays, Event, accepted, made, events, final}
@@ -18,8 +18,8 @@ use Rattle.agreement.proofs.Ran.{ev, is-second, is-third, is-fourth, is
 
 module _ (H : List ℕ → List ℕ) where
   -- the first of accepted calls, by what it is and gives
-  here : (x fin : Party) (d : Event) (es : List Event) (c : Call) (s : Stepped) → Chain H x (d ∷ es) fin → d .call ≡ c → (made H x c .cause ≡ 0 → made H x c ≡ s)
-      → (d ≡ ev x c s) × Chain H (s .state) es fin
+  here : (x fin : Party) (d : Event) (es : List Event) (c : Call) (s : Stepped) → Chain H x (d ∷ es) fin → d .call ≡ c
+      → (made H x c .cause ≡ 0 → made H x c ≡ s) → (d ≡ ev x c s) × Chain H (s .state) es fin
   here x fin d es c s h p g =
       let u : d ≡ event H x c = h .0 ∙ ap (event H x) p in
       let w : d ≡ ev x c s = u ∙ ap (ev x c) (g (subst (λ (v : Event). v .reply .cause ≡ 0) u (h .1))) in

@@ -4,10 +4,10 @@
 -- party's accepted calls went. Assumes nothing.
 use mathlib.Core.Path.{_≡_, refl, sym, ap, ap₂, _∙_, subst}
 use mathlib.Core.Logic.{_⊎_, inl, inr, _≢_}
-use mathlib.Core.Bool.{Bool, true, false, cond, not, _&&_, _||_}
+use mathlib.Core.Bool.{Bool, true, false, cond, _||_}
 use mathlib.Core.List.{List, [], _∷_, map, List·Memᴰ, List·Memᴰ·not-nil, List·Memᴰ·cases-cons}
 use mathlib.Core.Option.{Option, none, some, Option·none-ne-some}
-use Prim.Native.Nat.{ℕ, zero, suc, _+_, _-_, _≤_, _<_}
+use Prim.Native.Nat.{ℕ, zero, suc, _+_, _-_, _≤_}
 use native.Mathlib.Decide.{decLt}
 use native.Mathlib.Omega.{arith}
 use borrow.Author.Tests.{eqb-true, eqb-false}
@@ -19,7 +19,7 @@ use Rattle.buffer.proofs.Tabulate.{getD-tabulate}
 use Rattle.bitmap.specs.Bitmap.{names}
 use Rattle.bitmap.proofs.Collected.{map-others}
 use Rattle.merkle.proofs.Judged.{same-true}
-use Rattle.packet.specs.Class.{Class, classOf}
+use Rattle.packet.specs.Class.{classOf}
 use Rattle.commitment.specs.Commitment.{messageRoot, packetWith}
 use Rattle.commitment.specs.Private.{Coded}
 use Rattle.commitment.proofs.Opening.{open-bounds, open-coded}
@@ -28,21 +28,21 @@ use Rattle.party.specs.State.{seatOf, Result, nothing, atRoot, atBit, atFirst, 
 use Rattle.party.specs.Steps.{entry, isFaulty, sentFaulty, faultyShares, faultyRelays, faultyOf, openCause, openOf, outboxOf}
 use Rattle.party.specs.Steps.{Taken, missing, found, packetTaken, relayOf, resultOf}
 use Rattle.party.specs.declared.Party.{Party}
-use Rattle.party.specs.declared.Opened.{Opened}
 use Rattle.party.specs.declared.Stage.the-variants.{Second}
 use Rattle.party.proofs.Faulty.{names-none, shares-name, relays-name}
 use Rattle.party.proofs.Kept.{result-end}
 use Rattle.party.proofs.Outcomes.{holds-ended}
 use Rattle.party.proofs.Ways.{Way, on, off, way, clash}
-use Rattle.agreement.specs.Calls.{Call, agreeRoot, stepOf, inboxIn, Event, accepted, first, heard, wrote, packetTo, events, final, opening, did, firstOf}
-use Rattle.agreement.specs.Faulty.{faultyFirst, faultySecond, last, Named, NamedIfFaulty, Member, Every, begun, step, Premises, Unnamed, NoGoodNamed, memberOf, NoGoodNamedInAgreement}
+use Rattle.agreement.specs.Calls.{Call, agreeRoot, inboxIn, Event, accepted, first, heard, wrote, packetTo, final, opening, did, firstOf}
+use Rattle.agreement.specs.Faulty.{faultyFirst, faultySecond, last, Named, NamedIfFaulty}
+use Rattle.agreement.specs.Faulty.{Member, Every, begun, step, Premises, Unnamed, NoGoodNamed, memberOf, NoGoodNamedInAgreement}
 use Rattle.agreement.specs.Agreement.{Good}
 use Rattle.agreement.specs.Agreement as agreement
 use Rattle.agreement.proofs.Lists.{same-some, same-root, one-bit, first-in}
 use Rattle.agreement.proofs.Mapped.{in-map, all-map}
 use Rattle.agreement.proofs.Run.{Chain, still, gave-held}
 use Rattle.agreement.proofs.Ran.{opened-is, X1, X2, X3, ev2, ev3, ev4, ev5, x0-is, fin, did-chain}
-use Rattle.agreement.proofs.Course.{voted, Course, at-root, at-bit, ended-void, at-first, at-second, ended, course, every-map, final-map}
+use Rattle.agreement.proofs.Course.{Course, at-root, at-bit, ended-void, at-first, at-second, ended, course, every-map, final-map}
 use Rattle.agreement.proofs.Ended.{later-holds, opened-did}
 use Rattle.agreement.proofs.Needed.{glad}
 use Rattle.agreement.proofs.Conduct.{none-silent, out-happy, out-unhappy, out-zero, it, relay-happy, relay-is, relay-found}

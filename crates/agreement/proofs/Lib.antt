@@ -13,6 +13,7 @@ pub mod Depends
 pub mod Agreement
 pub mod AgreedRoot
 pub mod Instances
+pub mod Liars
 pub mod Forged
 pub mod Broadcast
 pub mod Senders
