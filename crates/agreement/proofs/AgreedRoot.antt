@@ -41,10 +41,10 @@ use Rattle.agreement.specs.Calls.{opening, did, firstOf, resultAfter, op
 use Rattle.agreement.specs.Agreement.{Good, joinOver, allOpenedAndChecked, allSettling, Clean, Premises}
 use Rattle.agreement.specs.AgreedRoot.{foundUnchecked, takeRelaysUnchecked, madeUnchecked, eventsUnchecked}
 use Rattle.agreement.specs.AgreedRoot.{EndsWith, EndsUnderItsRoot, Told, Somebodys, NoInventedMessage, NoStringMore, NoOtherEnding}
-use Rattle.agreement.proofs.Lists.{same-some, in-join, first-in}
-use Rattle.agreement.proofs.Run.{event}
+use Rattle.agreement.proofs.Lists.{same-some, same-root, one-bit, in-join, first-in}
+use Rattle.agreement.proofs.Run.{event, gave-held}
 use Rattle.agreement.proofs.Ran.{opened-is, Ran, did-chain, ends-is}
-use Rattle.agreement.proofs.Ended.{waits-none, held-after, opened-did, Went, went, ended-by}
+use Rattle.agreement.proofs.Ended.{waits-none, opened-did, Went, went, ended-by}
 use Rattle.agreement.proofs.Needed.{glad, isGlad, relayFrom, check}
 use Rattle.agreement.proofs.Conduct.{Conduct, sharesIn, shares-or, conduct, someone}
 
@@ -60,12 +60,6 @@ not-message e = let q : _≡_ {A = ℕ} 0 1 = cc in omega arith
 
 one-message : {m o : List ℕ} → message m ≡ message o → m ≡ o
 one-message e = cc
-
-one-bit : {a b : ℕ} {x y : List ℕ} → agreeBit a x ≡ agreeBit b y → a ≡ b
-one-bit e = cc
-
-same-root : {y z : List ℕ} → agreeRoot y ≡ agreeRoot z → y ≡ z
-same-root e = cc
 
 -- a collision is one in a longer list too
 collision-in : (H : List ℕ → List ℕ) {xs ys zs : List (List ℕ)} → ((s : List ℕ) → List·Memᴰ s xs → List·Memᴰ s zs) → Collision H xs ys → Collision H zs ys
@@ -235,8 +229,8 @@ module _ (H : List ℕ → List ℕ) where
     ends-after R (inl f) = f
     ends-after R (inr k) =
         let o = opened-did H session n t (A .own) (A .message) calls (k .0) (k .1) in
-        ends-is H session n t (A .own) (A .message) calls o
-        ∙ held-after H _ _ _ (did-chain H session n t (A .own) (A .message) calls o) (k .0) (k .1) (k .2) R (k .3)
+        let g = gave-held H _ _ _ (did-chain H session n t (A .own) (A .message) calls o) (k .0) (k .1) (k .2) in
+        ends-is H session n t (A .own) (A .message) calls o ∙ g .held ∙ sym (g .is) ∙ k .3
 
     -- a message at the end is the own one of a happy party, or was rebuilt
     data Known (z m : List ℕ) : Type 0 where

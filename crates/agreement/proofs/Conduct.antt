@@ -85,6 +85,11 @@ module _ (H : List ℕ → List ℕ) (session n t i : ℕ) (m : List ℕ) (calls
         × (happy H (e .before) ≡ glad H session n t m z)
         × (glad H session n t m z ≡ false → recoveredBy H (e .before) (inboxIn (e .call)) ≡ recovered (n - t) (present 1 sharesIn))
 
+-- no bytes are silence
+pub none-silent : (H : List ℕ → List ℕ) (session n i : ℕ) (z : List ℕ) → classOf H session n i z [] ≡ silent
+unfolding classOf
+none-silent H session n i z = ap (judged H session n i z) (read-empty n [] refl)
+
 module _ (H : List ℕ → List ℕ) (session n t i : ℕ) (m z : List ℕ) where
   abbrev X1 : Party
   X1 = atBit (seatOf session n t i) m z
@@ -112,22 +117,22 @@ module _ (H : List ℕ → List ℕ) (session n t i : ℕ) (m z : List ℕ) wher
   out-none : bodies n (inboxOf (replicate n [])) ≡ replicate n []
   out-none = bodies-of (replicate n []) (length-replicate {A = List ℕ} n [])
 
-  out-happy : glad H session n t m z ≡ true → bodies n (outboxOf H X1 1) ≡ packetsWith H session n t i m
+  pub out-happy : glad H session n t m z ≡ true → bodies n (outboxOf H X1 1) ≡ packetsWith H session n t i m
   unfolding outboxOf packetFor atBit
   out-happy e =
       rw (happy-bit ∙ e)
       (ap (λ (b : List ℕ). bodies n (inboxOf (packetsWith H session n t i b))) (message-bit (seatOf session n t i) m z)
       ∙ bodies-of (packetsWith H session n t i m) (length-tabulate n _))
 
-  out-unhappy : glad H session n t m z ≡ false → bodies n (outboxOf H X1 1) ≡ replicate n []
+  pub out-unhappy : glad H session n t m z ≡ false → bodies n (outboxOf H X1 1) ≡ replicate n []
   unfolding outboxOf atBit
   out-unhappy e = rw (happy-bit ∙ e) out-none
 
-  out-zero : bodies n (outboxOf H X1 0) ≡ replicate n []
+  pub out-zero : bodies n (outboxOf H X1 0) ≡ replicate n []
   unfolding outboxOf atBit
   out-zero = out-none
 
-  relay-happy : glad H session n t m z ≡ true → (inbox : List ℕ) → relayOf H X2 inbox ≡ relayWith H session n t i m
+  pub relay-happy : glad H session n t m z ≡ true → (inbox : List ℕ) → relayOf H X2 inbox ≡ relayWith H session n t i m
   unfolding relayOf packetFor atFirst
   relay-happy e inbox = rw (happy-first ∙ e) (ap (λ (b : List ℕ). relayWith H session n t i b) (message-first (seatOf session n t i) m z))
 
@@ -137,13 +142,13 @@ module _ (H : List ℕ → List ℕ) (session n t i : ℕ) (m z : List ℕ) wher
 
   -- an unhappy party: what it takes from the first inbox, relays and keeps
   module _ (u : glad H session n t m z ≡ false) (in4 : List ℕ) where
-    abbrev it : Taken
+    abbrev pub it : Taken
     it = firstValid H session n i z 1 (bodies n in4)
 
     abbrev X3 : Party
     X3 = atSecond (seatOf session n t i) m z (heldOf H X2 in4) (faultyShares H X2 in4)
 
-    relay-is : relayOf H X2 in4 ≡ packetTaken X2 it
+    pub relay-is : relayOf H X2 in4 ≡ packetTaken X2 it
     unfolding relayOf atFirst
     relay-is = rw (happy-first ∙ u)
 
@@ -154,11 +159,7 @@ module _ (H : List ℕ → List ℕ) (session n t i : ℕ) (m z : List ℕ) wher
     taken-valid : (x : List ℕ) (p : List (List ℕ)) → it ≡ found x p → classOf H session n i z (packetOf i x p) ≡ valid x p
     taken-valid x p e = let k = took H session n i z 1 (bodies n in4) x p e in rewritten H session n i z (k .packet) x p (k .good)
 
-    none-silent : classOf H session n i z [] ≡ silent
-    unfolding classOf
-    none-silent = ap (judged H session n i z) (read-empty n [] refl)
-
-    relay-found : (x : List ℕ) (p : List (List ℕ)) → it ≡ found x p → classOf H session n i z (relayOf H X2 in4) ≡ valid x p
+    pub relay-found : (x : List ℕ) (p : List (List ℕ)) → it ≡ found x p → classOf H session n i z (relayOf H X2 in4) ≡ valid x p
     unfolding atFirst
     relay-found x p e = rw relay-is (rw e (taken-valid x p e))
 
@@ -168,7 +169,7 @@ module _ (H : List ℕ → List ℕ) (session n t i : ℕ) (m z : List ℕ) wher
     relay-held = go it refl
       where
         go : (k : Taken) → it ≡ k → heldOf H X2 in4 ≡ shareFrom (classOf H session n i z (relayOf H X2 in4))
-        go missing e = held-is ∙ rw (relay-is, e, none-silent)
+        go missing e = held-is ∙ rw (relay-is, e, none-silent H session n i z)
         go (found x p) e = held-is ∙ rw (e, relay-found x p e)
 
     -- the strings of the check of what it relays are hashed

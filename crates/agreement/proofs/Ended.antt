@@ -22,7 +22,7 @@ use Rattle.party.proofs.Ways.{Way, on, off, way, clash}
 use Rattle.agreement.specs.Calls.{Call, agreeRoot, agreeBit, takeShares, stepOf, Event, accepted, first, events, final}
 use Rattle.agreement.specs.Calls.{opening, did, firstOf, resultAfter}
 use Rattle.agreement.proofs.Lists.{same-some, first-in}
-use Rattle.agreement.proofs.Run.{did2, did4, unbroken, Chain, chain, leads, still, gave}
+use Rattle.agreement.proofs.Run.{did2, did4, unbroken, Chain, chain, leads, still, gave, Gave, gave-held}
 use Rattle.agreement.proofs.Ran.{is-second, is-third, is-fourth, accepted-at, advance, turn-of, X3, reply2, reply4, is2, is4, Ran, ev2, ev3}
 use Rattle.agreement.proofs.Ran.{fin, did-chain, ends-is, begun, ran-none, ran-through}
 
@@ -44,50 +44,29 @@ module _ (H : List ℕ → List ℕ) where
       let s = eq-eqb (stepOf (d .call)) k (sym (leads H x fin d es h) ∙ a) in
       (d, rw s)
 
-  -- once a result is held, every later call gets a state that holds it
-  later-holds : (x fin : Party) (es : List Event) (r : Result) → resultIn x ≡ some r → Chain H x es fin
-      → (e : Event) → List·Memᴰ e es → resultIn (e .before) ≡ some r
+  -- once a result is held, every later call gets a state that holds it, and is a step 5
+  pub later-holds : (x fin : Party) (es : List Event) (r : Result) → resultIn x ≡ some r → Chain H x es fin
+      → (e : Event) → List·Memᴰ e es → (resultIn (e .before) ≡ some r) × (stepOf (e .call) ≡ 5)
   later-holds x fin [] r a h e m = absurd (List·Memᴰ·not-nil m)
   later-holds x fin (d ∷ es) r a h e m = go (List·Memᴰ·cases-cons m) (later-holds (d .reply .state) fin es r kept (h .2) e)
     where
       kept : resultIn (d .reply .state) ≡ some r
       kept = still H 0 x (d .reply .state) (d ∷ []) r a (h .0, h .1, refl) .0
 
-      go : (e ≡ d) ⊎ List·Memᴰ e es → (List·Memᴰ e es → resultIn (e .before) ≡ some r) → resultIn (e .before) ≡ some r
-      go (inl q) rest = ap (λ (v : Event). resultIn (v .before)) (q ∙ h .0) ∙ a
+      go : (e ≡ d) ⊎ List·Memᴰ e es → (List·Memᴰ e es → (resultIn (e .before) ≡ some r) × (stepOf (e .call) ≡ 5))
+          → (resultIn (e .before) ≡ some r) × (stepOf (e .call) ≡ 5)
+      go (inl q) rest = (
+        ap (λ (v : Event). resultIn (v .before)) (q ∙ h .0) ∙ a,
+        ap (λ (v : Event). stepOf (v .call)) q ∙ sym (leads H x fin d es h) ∙ holds-ended x r a .1,
+      )
       go (inr k) rest = rest k
 
   -- what an accepted step 5 gave is held
   held : (x fin : Party) (d : Event) (es : List Event) → Chain H x (d ∷ es) fin → stepOf (d .call) ≡ 5
-      → (r : Result) × (d .reply .result ≡ some r) × (resultIn (d .reply .state) ≡ some r)
+      → (r : Result) × (resultIn (d .reply .state) ≡ some r)
   held x fin d es h five =
       let g = gave H x (d .call) (subst (λ (v : Event). v .reply .cause ≡ 0) (h .0) (h .1)) five in
-      (g .0, ap (λ (v : Event). v .reply .result) (h .0) ∙ g .1, ap (λ (v : Event). resultIn (v .reply .state)) (h .0) ∙ g .2)
-
-  pub held-after : (x fin : Party) (es : List Event) → Chain H x es fin → (e : Event) → List·Memᴰ e es → stepOf (e .call) ≡ 5
-      → (R : Result) → e .reply .result ≡ some R → resultIn fin ≡ some R
-  held-after x fin [] h e m five R f = absurd (List·Memᴰ·not-nil m)
-  held-after x fin (d ∷ es) h e m five R f = go (List·Memᴰ·cases-cons m) (held-after (d .reply .state) fin es (h .2) e)
-    where
-      go : (e ≡ d) ⊎ List·Memᴰ e es
-          → (List·Memᴰ e es → stepOf (e .call) ≡ 5 → (R : Result) → e .reply .result ≡ some R → resultIn fin ≡ some R) → resultIn fin ≡ some R
-      go (inr k) rest = rest k five R f
-      go (inl q) rest =
-          let g = held x fin d es h (sym (ap (λ (v : Event). stepOf (v .call)) q) ∙ five) in
-          let e : g .0 ≡ R = same-some (sym (g .1) ∙ sym (ap (λ (v : Event). v .reply .result) q) ∙ f) in
-          still H 0 (d .reply .state) fin es R (g .2 ∙ ap {B = Option Result} some e) (h .2) .0
-
-  gives-some : (x fin : Party) (es : List Event) → Chain H x es fin → (e : Event) → List·Memᴰ e es → stepOf (e .call) ≡ 5
-      → (R : Result) × (e .reply .result ≡ some R)
-  gives-some x fin [] h e m five = absurd (List·Memᴰ·not-nil m)
-  gives-some x fin (d ∷ es) h e m five = go (List·Memᴰ·cases-cons m) (gives-some (d .reply .state) fin es (h .2) e)
-    where
-      go : (e ≡ d) ⊎ List·Memᴰ e es → (List·Memᴰ e es → stepOf (e .call) ≡ 5 → (R : Result) × (e .reply .result ≡ some R))
-          → (R : Result) × (e .reply .result ≡ some R)
-      go (inr k) rest = rest k five
-      go (inl q) rest =
-          let g = held x fin d es h (sym (ap (λ (v : Event). stepOf (v .call)) q) ∙ five) in
-          (g .0, ap (λ (v : Event). v .reply .result) q ∙ g .1)
+      (g .0, ap (λ (v : Event). resultIn (v .reply .state)) (h .0) ∙ g .2)
 
   -- an accepted step 5 on a state without a result is the first
   first-five : (x fin : Party) (es : List Event) → Chain H x es fin → (e : Event) → List·Memᴰ e es → stepOf (e .call) ≡ 5
@@ -104,7 +83,7 @@ module _ (H : List ℕ → List ℕ) where
       go (inr k) (off s) rest = rw s (rest k five w)
       go (inr k) (on s) rest =
           let g = held x fin d es h (eqb-true (stepOf (d .call)) 5 s) in
-          absurd (Option·none-ne-some (g .0) (sym w ∙ later-holds (d .reply .state) fin es (g .0) (g .2) (h .2) e k))
+          absurd (Option·none-ne-some (g .0) (sym w ∙ later-holds (d .reply .state) fin es (g .0) (g .1) (h .2) e k .0))
 
   -- the state of a refused opening accepts no call
   blank-broken : broken blankState ≡ true
@@ -239,12 +218,14 @@ module _ (H : List ℕ → List ℕ) where
         all : Chain H (atRoot (seatOf session n t i) m) (did H session n t i m calls) (fin H session n t i m calls o)
         all = did-chain H session n t i m calls o
 
+        g : Gave H (fin H session n t i m calls o) e
+        g = gave-held H (atRoot (seatOf session n t i) m) (fin H session n t i m calls o) (did H session n t i m calls) all e h five
+
         R : Result
-        R = gives-some (atRoot (seatOf session n t i) m) (fin H session n t i m calls o) (did H session n t i m calls) all e h five .0
+        R = g .result
 
         f : resultAfter H session n t i m calls ≡ some R
-        f = ends-is H session n t i m calls o ∙ held-after (atRoot (seatOf session n t i) m) (fin H session n t i m calls o) (did H session n t i m calls) all e h five R
-            (gives-some (atRoot (seatOf session n t i) m) (fin H session n t i m calls o) (did H session n t i m calls) all e h five .1)
+        f = ends-is H session n t i m calls o ∙ g .held
 
         waits : resultIn (e .before) ≡ none
         waits = waits-none (e .before) u
@@ -260,4 +241,4 @@ module _ (H : List ℕ → List ℕ) where
             (w .told ∙ ap (λ (k : ℕ). agreeBit k (w .out)) (q .0)) in
             let k = first-in 5 (b .0) e (sym (ap (first 5) (b .1)) ∙ five-is) in
             absurd (Option·none-ne-some nothing (sym waits
-            ∙ later-holds (atEnd (seatOf session n t i) nothing 0) (fin H session n t i m calls o) (b .0) nothing (result-end (seatOf session n t i) nothing 0) (b .3) e (k .0)))
+            ∙ later-holds (atEnd (seatOf session n t i) nothing 0) (fin H session n t i m calls o) (b .0) nothing (result-end (seatOf session n t i) nothing 0) (b .3) e (k .0) .0))

@@ -62,9 +62,10 @@ module _ (H : List ℕ → List ℕ) where
   module _ (session n t i : ℕ) (m : List ℕ) (calls : List Call) (r : Result) (h : resultAfter H session n t i m calls ≡ some r) where
     pub gave : (e : Event) → List·Memᴰ e (did H session n t i m calls) → stepOf (e .call) ≡ 5 → e .reply .result ≡ some r
     unfolding did
-    gave =
+    gave e k five =
         let x = opening H session n t i m .state in
-        gave-held H x (final H x calls) (accepted (events H x calls)) r (chain H x calls) h
+        let g = gave-held H x (final H x calls) (accepted (events H x calls)) (chain H x calls) e k five in
+        g .is ∙ sym (g .held) ∙ h
 
     -- further calls
     module _ (more : List Call) where

@@ -15,7 +15,7 @@ use lib.ListN.{length, getD, replicate}
 use Rattle.buffer.specs.Splice.{tabulate}
 use Rattle.erasure.specs.Rebuild.{present}
 use Rattle.party.proofs.Ways.{Way, on, off, way, clash}
-use Rattle.agreement.specs.Calls.{stepOf, Event, first, lengths}
+use Rattle.agreement.specs.Calls.{agreeRoot, agreeBit, stepOf, Event, first, lengths}
 use Rattle.agreement.specs.Agreement.{among, different, absent, sumOver, joinOver}
 
 -- lengths of packets
@@ -176,6 +176,13 @@ present-borne (g ∷ gs) j js h =
 
 pub same-some : {A : Type 0} {x y : A} → _≡_ {A = Option A} (some x) (some y) → x ≡ y
 same-some p = cc
+
+-- calls that are the same have the same root, or bit
+pub same-root : {y z : List ℕ} → agreeRoot y ≡ agreeRoot z → y ≡ z
+same-root e = cc
+
+pub one-bit : {a b : ℕ} {x y : List ℕ} → agreeBit a x ≡ agreeBit b y → a ≡ b
+one-bit e = cc
 
 -- the first event of step k is one of them, and of that step
 pub first-in : (k : ℕ) (es : List Event) (e : Event) → first k es ≡ some e → List·Memᴰ e es × (stepOf (e .call) ≡ k)

@@ -45,7 +45,7 @@ opened-is H session n t i m e = go (way (eqb (openCause n t i (length m)) 0))
         let c = eqb-false (openCause n t i (length m)) 0 q in
         absurd (c (sym (ap (λ (r : Opened). r .cause) (open-refused H session n t i m c)) ∙ e))
 
-abbrev ev : Party → Call → Stepped → Event
+abbrev pub ev : Party → Call → Stepped → Event
 ev x c r = record { before = x; call = c; reply = r }
 
 -- a call of step 2 has a root, one of step 3 a bit and a buffer, one of step 4 or 5 an inbox and a buffer
@@ -67,7 +67,7 @@ is-fourth (agreeBit bit out) e = absurd (omega arith)
 is-fourth (takeShares inbox out) e = (inbox, out, refl)
 is-fourth (takeRelays inbox out) e = absurd (omega arith)
 
-is-fifth : (c : Call) → stepOf c ≡ 5 → (inbox : List ℕ) × (out : List ℕ) × (c ≡ takeRelays inbox out)
+pub is-fifth : (c : Call) → stepOf c ≡ 5 → (inbox : List ℕ) × (out : List ℕ) × (c ≡ takeRelays inbox out)
 is-fifth (agreeRoot z) e = absurd (omega arith)
 is-fifth (agreeBit bit out) e = absurd (omega arith)
 is-fifth (takeShares inbox out) e = absurd (omega arith)
@@ -117,7 +117,7 @@ module _ (H : List ℕ → List ℕ) where
     abbrev pub reply4 : List ℕ → List ℕ → Stepped
     reply4 inbox out = gives (X3 inbox) (answer.Sent (length (relayOf H X2 inbox))) (spliced out 0 (relayOf H X2 inbox))
 
-    abbrev reply5 : List ℕ → List ℕ → List ℕ → Stepped
+    abbrev pub reply5 : List ℕ → List ℕ → List ℕ → Stepped
     reply5 in4 in5 out = endedWith (seatOf session n t i) (resultOf H (X3 in4) in5) (faultyOf H (X3 in4) in5) out
 
     pub is2 : made2 H (atRoot (seatOf session n t i) m) z ≡ reply2
@@ -126,7 +126,7 @@ module _ (H : List ℕ → List ℕ) where
         ap (λ (b : List ℕ). gives (atBit (seatOf session n t i) b z) (answer.Happy (happy H (atBit (seatOf session n t i) b z))) [])
         (take-padded maxMessage m)
 
-    is3 : (bit : ℕ) (out : List ℕ) → made3 H X1 bit out ≡ reply3 bit out
+    pub is3 : (bit : ℕ) (out : List ℕ) → made3 H X1 bit out ≡ reply3 bit out
     unfolding atBit
     is3 bit out =
         ap (λ (b : List ℕ). gives (cond (eqb bit 0) (atEnd (seatOf session n t i) nothing 0) (atFirst (seatOf session n t i) b z))
@@ -138,7 +138,7 @@ module _ (H : List ℕ → List ℕ) where
         ap (λ (b : List ℕ). gives (atSecond (seatOf session n t i) b z (heldOf H X2 inbox) (faultyShares H X2 inbox)) (answer.Sent (length (relayOf H X2 inbox)))
         (spliced out 0 (relayOf H X2 inbox))) (take-padded maxMessage m)
 
-    is5 : (in4 in5 out : List ℕ) → endedWith (X3 in4 .seat) (resultOf H (X3 in4) in5) (faultyOf H (X3 in4) in5) out ≡ reply5 in4 in5 out
+    pub is5 : (in4 in5 out : List ℕ) → endedWith (X3 in4 .seat) (resultOf H (X3 in4) in5) (faultyOf H (X3 in4) in5) out ≡ reply5 in4 in5 out
     unfolding atSecond
     is5 in4 in5 out = refl
 
@@ -148,10 +148,10 @@ module _ (H : List ℕ → List ℕ) where
     abbrev pub ev3 : ℕ → List ℕ → Event
     ev3 bit out = ev X1 (agreeBit bit out) (reply3 bit out)
 
-    abbrev ev4 : List ℕ → List ℕ → Event
+    abbrev pub ev4 : List ℕ → List ℕ → Event
     ev4 inbox out = ev X2 (takeShares inbox out) (reply4 inbox out)
 
-    abbrev ev5 : List ℕ → List ℕ → List ℕ → Event
+    abbrev pub ev5 : List ℕ → List ℕ → List ℕ → Event
     ev5 in4 in5 out = ev (X3 in4) (takeRelays in5 out) (reply5 in4 in5 out)
 
     -- the accepted calls up to step 3
@@ -233,7 +233,7 @@ pub record Ran (H : List ℕ → List ℕ) (session n t i : ℕ) (m : List ℕ) 
       ≡ lengths (bodies n (outboxOf H (atBit (seatOf session n t i) m z) 1)) + (n - 1) * length (relayOf H (atFirst (seatOf session n t i) m z) in4)
 
 module _ (H : List ℕ → List ℕ) (session n t i : ℕ) (m : List ℕ) (calls : List Call) (o : opening H session n t i m .cause ≡ 0) where
-  x0-is : opening H session n t i m .state ≡ atRoot (seatOf session n t i) m
+  pub x0-is : opening H session n t i m .state ≡ atRoot (seatOf session n t i) m
   x0-is = ap (λ (r : Opened). r .state) (opened-is H session n t i m o .1)
 
   abbrev pub fin : Party

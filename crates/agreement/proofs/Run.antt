@@ -29,9 +29,9 @@ use Rattle.agreement.specs.Calls.{Call, agreeRoot, agreeBit, takeShares,
 use Rattle.agreement.specs.Calls.{sentIn, sentOver, made, events, final, stringsOver, checkedIn, checkedOver, judgedIn, judgedOver, recodedIn, recodedOver}
 use Rattle.agreement.proofs.Lists.{same-some}
 
--- a call is taken, or turned away with the state kept
+-- a call is taken, or turned away with the state kept and no map given
 abbrev Turned : Party → Stepped → Type 0
-Turned x r = (r .cause ≢ 0) × (r .state ≡ x)
+Turned x r = (r .cause ≢ 0) × (r .state ≡ x) × (r .faulty ≡ 0)
 
 nine : _≡_ {A = ℕ} 9 0 → ⊥
 nine e = omega arith
@@ -47,8 +47,8 @@ written-or k x next bs out = go (way (eqb k 0)) (way (ltb (length out) (length b
         ≡ gives next (answer.Sent (length bs)) (spliced out 0 bs)))
         ⊎ Turned x (cond (not (eqb k 0)) (refused x k out) (writes x next bs out))
     go (on e) (off f) = inl (eqb-true k 0 e, rw (e, f))
-    go (on e) (on f) = inr (rw (e, f) (nine, refl))
-    go (off e) w = inr (rw e (eqb-false k 0 e, refl))
+    go (on e) (on f) = inr (rw (e, f) (nine, refl, refl))
+    go (off e) w = inr (rw e (eqb-false k 0 e, refl, refl))
 
 -- what a result leaves in the buffer
 abbrev left : Result → List ℕ → List ℕ
@@ -78,7 +78,7 @@ ending-or x (settled m) f out = go (way (ltb (length out) (length m)))
   where
     go : Way (ltb (length out) (length m))
         → (ending x (settled m) f out ≡ endedWith (x .seat) (settled m) f out) ⊎ Turned x (ending x (settled m) f out)
-    go (on e) = inr (rw e (nine, refl))
+    go (on e) = inr (rw e (nine, refl, refl))
     go (off e) = inl (rw (e, take-spliced out m))
 
 ended-or : (k : ℕ) (x : Party) (r : Result) (f : ℕ) (out : List ℕ)
@@ -91,12 +91,12 @@ ended-or k x r f out = go (way (eqb k 0)) (ending-or x r f out)
         ⊎ Turned x ((cond (not (eqb k 0)) (refused x k out) (ending x r f out)))
     go (on e) (inl g) = inl (eqb-true k 0 e, rw e g)
     go (on e) (inr g) = inr (rw e g)
-    go (off e) g = inr (rw e (eqb-false k 0 e, refl))
+    go (off e) g = inr (rw e (eqb-false k 0 e, refl, refl))
 
 -- of the two, by the cause
-keeps : {A : Type 0} {x : Party} (r : Stepped) → (A → r .cause ≡ 0) → r .cause ≢ 0 → A ⊎ Turned x r → r .state ≡ x
-keeps r f d (inl a) = absurd (d (f a))
-keeps r f d (inr b) = b .1
+away : {A : Type 0} {x : Party} (r : Stepped) → (A → r .cause ≡ 0) → r .cause ≢ 0 → A ⊎ Turned x r → Turned x r
+away r f d (inl a) = absurd (d (f a))
+away r f d (inr b) = b
 
 taken : {A : Type 0} {x : Party} (r : Stepped) → r .cause ≡ 0 → A ⊎ Turned x r → A
 taken r e (inl a) = a
@@ -137,7 +137,7 @@ module _ (H : List ℕ → List ℕ) where
     where
       go : Way (eqb (rootCause x z) 0) → ((rootCause x z ≡ 0) × (made H x (agreeRoot z) ≡ made2 x z)) ⊎ Turned x (made H x (agreeRoot z))
       go (on e) = let c = eqb-true (rootCause x z) 0 e in inl (c, root-given H x z c)
-      go (off e) = let c = eqb-false (rootCause x z) 0 e in inr (rw (root-refused H x z c) (c, refl))
+      go (off e) = let c = eqb-false (rootCause x z) 0 e in inr (rw (root-refused H x z c) (c, refl, refl))
 
   bit-or : (x : Party) (bit : ℕ) (out : List ℕ)
       → ((bitCause x bit ≡ 0) × (made H x (agreeBit bit out) ≡ made3 x bit out)) ⊎ Turned x (made H x (agreeBit bit out))
@@ -160,14 +160,18 @@ module _ (H : List ℕ → List ℕ) where
   unfolding made takeRelaysOf
   relays-or x inbox out = ended-or (relaysCause x inbox) x (resultOf H x inbox) (faultyOf H x inbox) out
 
-  -- a call that is turned away keeps the state
+  -- a call that is turned away keeps the state, and gives no map
+  turned : (x : Party) (c : Call) → made H x c .cause ≢ 0 → Turned x (made H x c)
+  turned x (agreeRoot z) d = away (made H x (agreeRoot z)) (λ e. ap (λ (r : Stepped). r .cause) (e .1)) d (root-or x z)
+  turned x (agreeBit bit out) d = away (made H x (agreeBit bit out)) (λ e. ap (λ (r : Stepped). r .cause) (e .1)) d (bit-or x bit out)
+  turned x (takeShares inbox out) d = away (made H x (takeShares inbox out)) (λ e. ap (λ (r : Stepped). r .cause) (e .1)) d (shares-or x inbox out)
+  turned x (takeRelays inbox out) d = away (made H x (takeRelays inbox out)) (λ e. ap (λ (r : Stepped). r .cause) (e .1)) d (relays-or x inbox out)
+
   pub refused-keeps : (x : Party) (c : Call) → made H x c .cause ≢ 0 → made H x c .state ≡ x
-  refused-keeps x (agreeRoot z) d = keeps (made H x (agreeRoot z)) (λ e. ap (λ (r : Stepped). r .cause) (e .1)) d (root-or x z)
-  refused-keeps x (agreeBit bit out) d = keeps (made H x (agreeBit bit out)) (λ e. ap (λ (r : Stepped). r .cause) (e .1)) d (bit-or x bit out)
-  refused-keeps x (takeShares inbox out) d =
-      keeps (made H x (takeShares inbox out)) (λ e. ap (λ (r : Stepped). r .cause) (e .1)) d (shares-or x inbox out)
-  refused-keeps x (takeRelays inbox out) d =
-      keeps (made H x (takeRelays inbox out)) (λ e. ap (λ (r : Stepped). r .cause) (e .1)) d (relays-or x inbox out)
+  refused-keeps x c d = turned x c d .1
+
+  pub refused-mapless : (x : Party) (c : Call) → made H x c .cause ≢ 0 → made H x c .faulty ≡ 0
+  refused-mapless x c d = turned x c d .2
 
   -- what an accepted call is: on a state that fits it, and what it gives
   pub did2 : (x : Party) (z : List ℕ) → made H x (agreeRoot z) .cause ≡ 0
@@ -304,23 +308,38 @@ module _ (H : List ℕ → List ℕ) where
       let s = still n (d .reply .state) fin es r kept (h .2) in
       (s .0, rw (g .unsent (writtenBy d), s .1), rw (none, s .2), rw (passed, s .3), rw (again, s .4), s .5 ∙ map)
 
-  -- so every accepted step 5 gave the result that is held at the end
+  -- what an accepted step 5 gave is held
   pub gave : (x : Party) (c : Call) → made H x c .cause ≡ 0 → stepOf c ≡ 5
-      → (r : Result) × (made H x c .result ≡ some r) × (resultIn (made H x c .state) ≡ some r)
+      → (r : Result) × (made H x c .result ≡ some r) × (resultIn (made H x c .state) ≡ some r) × (made H x c .faulty ≡ made H x c .state .faulty)
   gave x (agreeRoot z) a e = absurd (omega arith)
   gave x (agreeBit bit out) a e = absurd (omega arith)
   gave x (takeShares inbox out) a e = absurd (omega arith)
-  gave x (takeRelays inbox out) a e = let g = ends x inbox out a in (resultOf H x inbox, g .0, g .1)
+  gave x (takeRelays inbox out) a e = let g = ends x inbox out a in (resultOf H x inbox, g .0, g .1, g .2 ∙ sym (g .3))
 
-  pub gave-held : (x fin : Party) (es : List Event) (r : Result) → Chain x es fin → resultIn fin ≡ some r
-      → (e : Event) → List·Memᴰ e es → stepOf (e .call) ≡ 5 → e .reply .result ≡ some r
-  gave-held x fin [] r h f e m five = absurd (List·Memᴰ·not-nil m)
-  gave-held x fin (d ∷ es) r h f e m five = go (List·Memᴰ·cases-cons m) (gave-held (d .reply .state) fin es r (h .2) f e)
+  -- so it is the result and the map that are held at the end
+  pub record Gave (fin : Party) (e : Event) : Type 0 where
+    pub result : Result
+    pub is : e .reply .result ≡ some result
+    pub held : resultIn fin ≡ some result
+    pub map-given : e .reply .faulty ≡ fin .faulty
+    pub map-held : e .reply .state .faulty ≡ fin .faulty
+
+  pub gave-held : (x fin : Party) (es : List Event) → Chain x es fin → (e : Event) → List·Memᴰ e es → stepOf (e .call) ≡ 5 → Gave fin e
+  gave-held x fin [] h e m five = absurd (List·Memᴰ·not-nil m)
+  gave-held x fin (d ∷ es) h e m five = go (List·Memᴰ·cases-cons m) (gave-held (d .reply .state) fin es (h .2) e)
     where
-      go : (e ≡ d) ⊎ List·Memᴰ e es → (List·Memᴰ e es → stepOf (e .call) ≡ 5 → e .reply .result ≡ some r) → e .reply .result ≡ some r
+      go : (e ≡ d) ⊎ List·Memᴰ e es → (List·Memᴰ e es → stepOf (e .call) ≡ 5 → Gave fin e) → Gave fin e
       go (inr k) rest = rest k five
       go (inl q) rest =
-          let c = d .call in
-          let k = gave x c (subst (λ (v : Event). v .reply .cause ≡ 0) (h .0) (h .1)) (sym (ap (λ (v : Event). stepOf (v .call)) q) ∙ five) in
+          let k = gave x (d .call) (subst (λ (v : Event). v .reply .cause ≡ 0) (h .0) (h .1)) (sym (ap (λ (v : Event). stepOf (v .call)) q) ∙ five) in
           let held : resultIn (d .reply .state) ≡ some (k .0) = ap (λ (v : Event). resultIn (v .reply .state)) (h .0) ∙ k .2 in
-          ap (λ (v : Event). v .reply .result) (q ∙ h .0) ∙ k .1 ∙ sym (still 0 (d .reply .state) fin es (k .0) held (h .2) .0) ∙ f
+          let s = still 0 (d .reply .state) fin es (k .0) held (h .2) in
+          let map : d .reply .faulty ≡ d .reply .state .faulty =
+          ap (λ (v : Event). v .reply .faulty) (h .0) ∙ k .3 ∙ sym (ap (λ (v : Event). v .reply .state .faulty) (h .0)) in
+          record {
+            result = k .0;
+            is = ap (λ (v : Event). v .reply .result) (q ∙ h .0) ∙ k .1;
+            held = s .0;
+            map-given = ap (λ (v : Event). v .reply .faulty) q ∙ map ∙ sym (s .5);
+            map-held = ap (λ (v : Event). v .reply .state .faulty) q ∙ sym (s .5);
+          }

@@ -2,3 +2,4 @@ pub mod Calls
 pub mod Agreement
 pub mod AgreedRoot
 pub mod Broadcast
+pub mod Faulty
