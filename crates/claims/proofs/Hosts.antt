@@ -5,7 +5,7 @@ use mathlib.Core.Logic.{_⊎_, inl, inr, _≢_}
 use mathlib.Core.Bool.{true, false, cond}
 use mathlib.Core.List.{List, [], _∷_, map, List·Memᴰ}
 use mathlib.Core.Option.{Option, none, some}
-use Prim.Native.Nat.{ℕ, _-_, _/_, _^_, _≤_, _<_}
+use Prim.Native.Nat.{ℕ, _-_, _/_, _%_, _^_, _≤_, _<_}
 use native.Mathlib.Decide.{ℕ-discrete, decLt}
 use native.Mathlib.Omega.{arith}
 use borrow.Author.Tests.{lt-ltb, le-ltb, eq-eqb, ne-eqb, eqb-true, eqb-false}
@@ -22,7 +22,7 @@ use Rattle.commitment.proofs.Opening.{open-coded}
 use Rattle.commitment.proofs.Messages.{fine}
 use Rattle.erasure.specs.Coding.{shares}
 use Rattle.party.specs.State.{Result, nothing, settled, resultIn}
-use Rattle.party.specs.Steps.{openOf, Stepped, resultOf}
+use Rattle.party.specs.Steps.{openOf, Stepped, resultOf, faultyOf}
 use Rattle.party.specs.declared.Party.{Party}
 use Rattle.party.specs.declared.Opened.{Opened}
 use Rattle.party.proofs.Ways.{Way, on, off, way}
@@ -58,7 +58,7 @@ unfolding called
 host-step-tells s c =
     let r = made sha256 (stateOf s) c in
     record {
-      number = (refl, value-fits (r .result) (r .value) (call-small sha256 sha256-length (stateOf s) c));
+      number = let f = call-small sha256 sha256-length (stateOf s) c in (refl, value-fits (r .result) (r .faulty) (r .value) (f .0) (f .1));
       refused = λ d. (ap (λ (q : Replies). q .state) (over-left s r d), step-tells (stateOf s) c .refused d .1);
       accepted = λ e. (ap (λ (q : Replies). q .state) (over-written s r e), refl, call-kept sha256 s c);
     }
@@ -182,22 +182,25 @@ module _ (s : List ℕ) where
   x = stateOf s
 
   -- its number is its value
-  number-value : (r : Stepped) → r .cause ≡ 0 → numberOf r ≡ valueShown (r .result) (r .value)
+  number-value : (r : Stepped) → r .cause ≡ 0 → numberOf r ≡ valueShown (r .result) (r .faulty) (r .value)
   unfolding packed
   number-value r e = rw e (omega arith)
 
   number-plain : (c : Call) → made sha256 x c .cause ≡ 0 → made sha256 x c .result ≡ none → called sha256 s c .number ≡ made sha256 x c .value
   number-plain c e q =
-      called-number s c ∙ number-value (made sha256 x c) e ∙ ap (λ (r : Option Result). valueShown r (made sha256 x c .value)) q
+      called-number s c ∙ number-value (made sha256 x c) e ∙ ap (λ (r : Option Result). valueShown r (made sha256 x c .faulty) (made sha256 x c .value)) q
 
-  ended-seen : (inbox out : List ℕ) (R : Result) (r : Replies) → r .number ≡ valueShown (some R) 0 → resultLengthCall (r .state) ≡ lengthOf R
-      → r .out ≡ endedWith (x .seat) R out .buffer
-      → cond (eqb (r .number) 0) nothing (settled (take (resultLengthCall (r .state)) (r .out))) ≡ R
+  ended-seen : (inbox out : List ℕ) (R : Result) (f : ℕ) (r : Replies) → r .number ≡ valueShown (some R) f 0 → resultLengthCall (r .state) ≡ lengthOf R
+      → r .out ≡ endedWith (x .seat) R f out .buffer
+      → cond (eqb (r .number % 2) 0) nothing (settled (take (resultLengthCall (r .state)) (r .out))) ≡ R
   unfolding packed
-  ended-seen inbox out nothing r a b c = rw a
-  ended-seen inbox out (settled m) r a b c =
+  ended-seen inbox out nothing f r a b c =
+      let even : r .number % 2 ≡ 0 = omega (arith, a) in
+      rw even
+  ended-seen inbox out (settled m) f r a b c =
+      let odd : r .number % 2 ≡ 1 = omega (arith, a) in
       let l : resultLengthCall (r .state) ≡ length m = b ∙ omega arith in
-      rw (a, l, c) (ap settled (take-spliced out m))
+      rw (odd, l, c) (ap settled (take-spliced out m))
 
   seen-view : (c : Call) → made sha256 x c .cause ≡ 0 → actSeen c (called sha256 s c) ≡ view (event sha256 x c)
   seen-view (agreeRoot z) e =
@@ -212,14 +215,15 @@ module _ (s : List ℕ) where
       let d = did5 sha256 x inbox out e .1 in
       let shown : made sha256 x c .result ≡ some R = ap (λ (r : Stepped). r .result) d in
       ap {B = Act} (λ (q : Result). ended inbox (some q))
-      (ended-seen inbox out R (called sha256 s c)
-      (called-number s c ∙ number-value (made sha256 x c) e ∙ told R (made sha256 x c .result) (made sha256 x c .value) shown)
+      (ended-seen inbox out R (faultyOf sha256 x inbox) (called sha256 s c)
+      (called-number s c ∙ number-value (made sha256 x c) e
+      ∙ told R (made sha256 x c .result) (made sha256 x c .faulty) (faultyOf sha256 x inbox) (made sha256 x c .value) shown (ap (λ (r : Stepped). r .faulty) d))
       (length-kept sha256 s inbox out e) (called-out s c ∙ ap (λ (r : Stepped). r .buffer) d))
       ∙ ap {B = Act} (ended inbox) (sym shown)
     where
-      told : (R : Result) (o : Option Result) (v : ℕ) → o ≡ some R → valueShown o v ≡ valueShown (some R) 0
-      told nothing o v q = ap (λ (r : Option Result). valueShown r v) q
-      told (settled m) o v q = ap (λ (r : Option Result). valueShown r v) q
+      told : (R : Result) (o : Option Result) (f g v : ℕ) → o ≡ some R → f ≡ g → valueShown o f v ≡ valueShown (some R) g 0
+      told nothing o f g v q k = ap₂ {C = ℕ} (λ (r : Option Result) (i : ℕ). valueShown r i v) q k
+      told (settled m) o f g v q k = ap₂ {C = ℕ} (λ (r : Option Result) (i : ℕ). valueShown r i v) q k
 
 -- and a list of calls
 pub seen-all : (s : List ℕ) (cs : List Call) → actsSeen s cs ≡ map view (accepted (events sha256 (stateOf s) cs))

@@ -1,11 +1,11 @@
 -- Results are read again: step 5 on a party that holds a result, by the tests of its definition; on bytes, since an accepted step 5 writes a state that is
 -- read back and written over itself; whatever comes later, and for every reader of a session, by the laws of agreement. Assumes nothing.
-use mathlib.Core.Path.{_≡_, refl, sym, ap, _∙_, subst}
+use mathlib.Core.Path.{_≡_, refl, sym, ap, ap₂, _∙_, subst}
 use mathlib.Core.Logic.{_⊎_, inl, inr, _≢_}
 use mathlib.Core.Bool.{Bool, true, false, cond, not}
 use mathlib.Core.List.{List, [], _∷_, _++_, map, map-append}
 use mathlib.Core.Option.{Option, none, some, Option·none-ne-some}
-use Prim.Native.Nat.{ℕ, _-_, _≤_}
+use Prim.Native.Nat.{ℕ, _+_, _-_, _*_, _^_, _≤_, _<_}
 use native.Mathlib.Decide.{ℕ-discrete}
 use native.Mathlib.Omega.{arith}
 use borrow.Author.Tests.{le-ltb, ltb-false, eq-eqb, ne-eqb}
@@ -17,7 +17,7 @@ use Rattle.buffer.specs.Entries.{fills}
 use Rattle.buffer.specs.Given.{written}
 use Rattle.sha256.specs.Sha256.{sha256}
 use Rattle.party.specs.State.{Result, nothing, settled, resultBytes, resultIn, messageIn, atBit, atFirst, atSecond, atEnd, broken}
-use Rattle.party.specs.Steps.{turnOf, stateCause, openOf, resultFound, resultOf, Stepped, refused}
+use Rattle.party.specs.Steps.{turnOf, stateCause, openOf, resultFound, resultOf, faultyOf, Stepped, refused}
 use Rattle.party.specs.declared.Stage.the-variants.{Second}
 use Rattle.commitment.specs.declared.Seat.{Seat}
 use Rattle.party.specs.declared.Party.{Party}
@@ -48,10 +48,16 @@ unfolding resultOf
 result-held x R inbox h = rw h
 
 -- the fields of the ended form
-form : (s : Seat) (R : Result) → (atEnd s R .seat ≡ s) × (atEnd s R .message ≡ resultBytes R ++ replicate (maxMessage - length (resultBytes R)) 0)
-    × (atEnd s R .len ≡ 0) × (atEnd s R .root ≡ replicate 32 0) × (atEnd s R .share ≡ replicate maxShare 0) × (atEnd s R .held ≡ 0)
+form : (s : Seat) (R : Result) (f : ℕ) → let x = atEnd s R f in (x .seat ≡ s)
+    × (x .message ≡ resultBytes R ++ replicate (maxMessage - length (resultBytes R)) 0)
+    × (x .len ≡ 0) × (x .root ≡ replicate 32 0) × (x .share ≡ replicate maxShare 0) × (x .held ≡ 0) × (x .faulty ≡ f)
 unfolding atEnd
-form s R = (refl, refl, refl, refl, refl, refl)
+form s R f = (refl, refl, refl, refl, refl, refl, refl)
+
+-- a party that has ended keeps its map
+map-held : (x : Party) (R : Result) (inbox : List ℕ) → resultIn x ≡ some R → faultyOf sha256 x inbox ≡ x .faulty
+unfolding faultyOf
+map-held x R inbox h = rw (holds-ended x R h .0)
 
 module _ (x : Party) (R : Result) (h : resultIn x ≡ some R) where
   gives-again : (inbox out : List ℕ) → GivesAgain x R out (made sha256 x (takeRelays inbox out))
@@ -68,16 +74,18 @@ module _ (x : Party) (R : Result) (h : resultIn x ≡ some R) where
           g .1 ∙ ap (λ (r : Result). spliced out 0 (resultBytes r)) same,
           g .2 ∙ ap (λ (r : Result). length (resultBytes r)) same,
           g .3 ∙ ap {B = Option Result} some same,
+          g .4 ∙ map-held x R inbox h,
         );
-        clean = λ a. let is = T .accepted a .0 ∙ ap (atEnd (x .seat)) same in
-            let f = form (x .seat) R in (
-              ap resultIn is ∙ result-end (x .seat) R,
+        clean = λ a. let is = T .accepted a .0 ∙ ap₂ (atEnd (x .seat)) same (map-held x R inbox h) in
+            let f = form (x .seat) R (x .faulty) in (
+              ap resultIn is ∙ result-end (x .seat) R (x .faulty),
               ap (λ (y : Party). y .seat) is ∙ f .0,
               ap (λ (y : Party). y .message) is ∙ f .1,
               ap (λ (y : Party). y .len) is ∙ f .2,
               ap (λ (y : Party). y .root) is ∙ f .3,
               ap (λ (y : Party). y .share) is ∙ f .4,
               ap (λ (y : Party). y .held) is ∙ f .5,
+              ap (λ (y : Party). y .faulty) is ∙ f .6,
             );
       }
 
@@ -102,80 +110,91 @@ unfolding foremost resultOf
 first-reading x inbox out h = step-tells x (takeRelays inbox out) .cause ∙ rw h
 
 -- a state with the ended form is read again
-module _ (s : Seat) (R : Result) (sound : broken (atEnd s R) ≡ false) (inbox room : List ℕ) (fits : length (resultBytes R) ≤ length room) where
-  read-end : made sha256 (atEnd s R) (takeRelays inbox room) ≡ endedWith s R room
+module _ (s : Seat) (R : Result) (f : ℕ) (sound : broken (atEnd s R f) ≡ false) (inbox room : List ℕ) (fits : length (resultBytes R) ≤ length room) where
+  read-end : made sha256 (atEnd s R f) (takeRelays inbox room) ≡ endedWith s R f room
   unfolding foremost atEnd
   read-end =
-      let y = atEnd s R in
-      let held = result-end s R in
+      let y = atEnd s R f in
+      let held = result-end s R f in
       let e : made sha256 y (takeRelays inbox room) .cause ≡ 0 = gives-again y R held inbox room .cause
       ∙ rw (sound, le-ltb (length room) (length (resultBytes R)) fits) in
-      did5 sha256 y inbox room e .1 ∙ ap (λ (r : Result). endedWith s r room) (result-held y R inbox held)
+      did5 sha256 y inbox room e .1
+      ∙ ap₂ {C = Stepped} (λ (r : Result) (m : ℕ). endedWith s r m room) (result-held y R inbox held) (map-held y R inbox held)
 
 -- an accepted call leaves an ended form, or a party that waits
 module _ (s : Seat) (R : Result) (y : Party) (held : resultIn y ≡ some R) where
-  ended-form : (r : Result) → y ≡ atEnd s r → y ≡ atEnd s R
-  ended-form r q = q ∙ ap (atEnd s) (same-some (sym (result-end s r) ∙ sym (ap resultIn q) ∙ held))
+  ended-form : (r : Result) (f : ℕ) → y ≡ atEnd s r f → y ≡ atEnd s R (y .faulty)
+  ended-form r f q =
+      q ∙ ap₂ (atEnd s) (same-some (sym (result-end s r f) ∙ sym (ap resultIn q) ∙ held)) (sym (ap (λ (p : Party). p .faulty) q ∙ form s r f .6))
 
-  waiting-form : (z : Party) → y ≡ z → resultIn z ≡ none → y ≡ atEnd s R
+  waiting-form : (z : Party) → y ≡ z → resultIn z ≡ none → y ≡ atEnd s R (y .faulty)
   waiting-form z q n = absurd (Option·none-ne-some R (sym n ∙ sym (ap resultIn q) ∙ held))
 
-bit-form : (s : Seat) (R : Result) (b : Bool) (m z : List ℕ) (y : Party) → resultIn y ≡ some R → y ≡ cond b (atEnd s nothing) (atFirst s m z) → y ≡ atEnd s R
+bit-form : (s : Seat) (R : Result) (b : Bool) (m z : List ℕ) (y : Party) → resultIn y ≡ some R → y ≡ cond b (atEnd s nothing 0) (atFirst s m z)
+    → y ≡ atEnd s R (y .faulty)
 unfolding atFirst
-bit-form s R true m z y h q = ended-form s R y h nothing q
+bit-form s R true m z y h q = ended-form s R y h nothing 0 q
 bit-form s R false m z y h q = waiting-form s R y h _ q refl
 
-next-form : (x : Party) (c : Call) (R : Result) (y : Party) → resultIn y ≡ some R → y ≡ next x c → y ≡ atEnd (x .seat) R
+next-form : (x : Party) (c : Call) (R : Result) (y : Party) → resultIn y ≡ some R → y ≡ next x c → y ≡ atEnd (x .seat) R (y .faulty)
 unfolding atBit atSecond
 next-form x (agreeRoot z) R y h q = waiting-form (x .seat) R y h _ q refl
 next-form x (agreeBit bit out) R y h q = bit-form (x .seat) R (eqb bit 0) (messageIn x) (x .root) y h q
 next-form x (takeShares inbox out) R y h q = waiting-form (x .seat) R y h _ q refl
-next-form x (takeRelays inbox out) R y h q = ended-form (x .seat) R y h (resultOf sha256 x inbox) q
+next-form x (takeRelays inbox out) R y h q = ended-form (x .seat) R y h (resultOf sha256 x inbox) (faultyOf sha256 x inbox) q
 
 -- on bytes: the state that such a call leaves, and the reader after it
-short-end : (s : Seat) (R : Result) → broken (atEnd s R) ≡ false → length (resultBytes R) ≤ maxMessage
+short-end : (s : Seat) (R : Result) (f : ℕ) → broken (atEnd s R f) ≡ false → length (resultBytes R) ≤ maxMessage
 unfolding atEnd
-short-end s nothing e = omega arith
-short-end s (settled m) e = ltb-false maxMessage (length m) (whole-stage (atEnd s (settled m)) e)
+short-end s nothing f e = omega arith
+short-end s (settled m) f e = ltb-false maxMessage (length m) (whole-stage (atEnd s (settled m) f) e)
+
+named-end : (s : Seat) (R : Result) (f : ℕ) → broken (atEnd s R f) ≡ false → f < 2 ^ s .n
+unfolding atEnd
+named-end s R f e = fit-of (atEnd s R f) e .named
 
 module _ (s : List ℕ) (c : Call) (R : Result) (inbox room : List ℕ) (e : made sha256 (stateOf s) c .cause ≡ 0)
     (h : resultIn (stateOf (called sha256 s c .state)) ≡ some R) (fits : length (resultBytes R) ≤ length room) where
   abbrev x : Party
   x = stateOf s
 
+  abbrev M : ℕ
+  M = made sha256 x c .state .faulty
+
   abbrev y : Party
-  y = atEnd (x .seat) R
+  y = atEnd (x .seat) R M
 
   left : made sha256 x c .state ≡ y
   left = next-form x c R (made sha256 x c .state) (ap resultIn (sym (call-kept sha256 s c)) ∙ h) (step-tells x c .accepted e .0)
 
   sound : broken y ≡ false
-  sound = sym (ap broken left) ∙ step-tells x c .accepted e .4
+  sound = sym (ap broken left) ∙ step-tells x c .accepted e .5
 
   bytes : called sha256 s c .state ≡ written (stateBytes y) s .buffer
   unfolding called
   bytes = ap (λ (q : Replies). q .state) (over-written s (made sha256 x c) e) ∙ ap (λ (p : Party). written (stateBytes p) s .buffer) left
 
   screen : called sha256 (called sha256 s c .state) (takeRelays inbox room)
-      ≡ replies (packed 0 (valueShown (some R) 0)) (called sha256 s c .state) (spliced room 0 (resultBytes R))
+      ≡ replies (packed 0 (valueShown (some R) (stateOf (called sha256 s c .state) .faulty) 0)) (called sha256 s c .state) (spliced room 0 (resultBytes R))
   unfolding called
   screen =
       let S = called sha256 s c .state in
       let k = takeRelays inbox room in
       let f = fit-of x (whole sha256 x c e) in
-      let is = read-end (x .seat) R sound inbox room fits in
+      let is = read-end (x .seat) R M sound inbox room fits in
       ap (λ (p : Party). over S (made sha256 p k)) (call-kept sha256 s c ∙ left)
       ∙ over-written S (made sha256 y k) (ap (λ (r : Stepped). r .cause) is)
       ∙ ap (λ (r : Stepped). replies (numberOf r) (written (stateBytes (r .state)) S .buffer) (r .buffer)) is
-      ∙ replies-are _ _ _ _ _ _ (ap (packed 0) (shown R))
+      ∙ replies-are _ _ _ _ _ _ (ap (packed 0) (shown R M (stateOf S .faulty) (sym (ap (λ (p : Party). p .faulty) (call-kept sha256 s c)))))
       (ap (λ (b : List ℕ). written (stateBytes y) b .buffer) bytes
-      ∙ written-again y (end-storable (x .seat) (session-small s) (f .high) (omega (arith, f .faults)) (f .last) R (short-end (x .seat) R sound)) s (accepted-long sha256 s c e)
+      ∙ written-again y (end-storable (x .seat) (session-small s) (f .high) (omega (arith, f .faults)) (f .last) R M (short-end (x .seat) R M sound)
+      (named-end (x .seat) R M sound)) s (accepted-long sha256 s c e)
       ∙ sym bytes)
-      (ends x R room)
+      (ends x R M room)
     where
-      shown : (r : Result) → valueShown (some r) (length (resultBytes r)) ≡ valueShown (some r) 0
-      shown nothing = refl
-      shown (settled m) = refl
+      shown : (r : Result) (f g : ℕ) → f ≡ g → valueShown (some r) f (length (resultBytes r)) ≡ valueShown (some r) g 0
+      shown nothing f g q = ap (λ (i : ℕ). 2 * i) q
+      shown (settled m) f g q = ap (λ (i : ℕ). 2 * i + 1) q
 
 -- a party that has ended, called further: it stays sound, so that a reader with room is accepted
 pub final-whole : (x : Party) (cs : List Call) → broken x ≡ false → broken (final sha256 x cs) ≡ false
@@ -184,7 +203,7 @@ final-whole x [] h = h
 final-whole x (c ∷ cs) h = final-whole (made sha256 x c .state) cs (go (ℕ-discrete (made sha256 x c .cause) 0))
   where
     go : Dec (made sha256 x c .cause ≡ 0) → broken (made sha256 x c .state) ≡ false
-    go (yes e) = step-tells x c .accepted e .4
+    go (yes e) = step-tells x c .accepted e .5
     go (no d) = ap broken (step-tells x c .refused d .0) ∙ h
 
 one-accepted : (x : Party) (c : Call) → made sha256 x c .cause ≡ 0 → accepted (events sha256 x (c ∷ [])) ≡ event sha256 x c ∷ []

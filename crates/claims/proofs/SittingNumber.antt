@@ -50,7 +50,7 @@ unfolding atBit atFirst atSecond atEnd
 next-seat x (agreeRoot z) = refl
 next-seat x (agreeBit bit out) = go (eqb bit 0)
   where
-    go : (b : Bool) → cond b (atEnd (x .seat) nothing) (atFirst (x .seat) (messageIn x) (x .root)) .seat .session ≡ x .seat .session
+    go : (b : Bool) → cond b (atEnd (x .seat) nothing 0) (atFirst (x .seat) (messageIn x) (x .root)) .seat .session ≡ x .seat .session
     go true = refl
     go false = refl
 next-seat x (takeShares inbox out) = refl

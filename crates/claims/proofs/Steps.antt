@@ -20,20 +20,21 @@ use Rattle.commitment.specs.Commitment.{messageRoot, openCause}
 use Rattle.commitment.proofs.Opening.{open-bounds, spared}
 use Rattle.merkle.specs.Shares.{blank}
 use Rattle.party.specs.State.{seatOf, Result, nothing, settled, resultBytes, hasEnded, messageIn, atRoot, atFirst, atEnd, blankState, broken}
-use Rattle.party.specs.Steps.{turnOf, stateCause, openOf, Stepped, causeOf, valueOf, resultGiven, refused, writes, ending, rootCause, agreeRootOf, bitCause, outboxOf, agreeBitOf}
-use Rattle.party.specs.Steps.{inboxCause, relaysCause, relayOf, heldOf, takeSharesOf, resultOf, takeRelaysOf}
+use Rattle.party.specs.Steps.{turnOf, stateCause, openOf, Stepped, causeOf, valueOf, resultGiven, faultyGiven, refused, writes, ending, rootCause, agreeRootOf, bitCause, outboxOf, agreeBitOf}
+use Rattle.party.specs.Steps.{inboxCause, relaysCause, relayOf, heldOf, faultyShares, takeSharesOf, resultOf, faultyOf, takeRelaysOf}
 use Rattle.party.specs.declared.Party.{Party}
 use Rattle.party.specs.declared.Opened.{Opened}
 use Rattle.party.proofs.Ways.{Way, on, off, way}
 use Rattle.party.proofs.Causes.{fit-of}
 use Rattle.party.proofs.Outcomes.{open-refused, open-given}
+use Rattle.party.proofs.Faulty.{holds-empty, holds-shares, holds-given}
 use Rattle.party.proofs.Progress.{open-accepted, root-accepted, bit-accepted, shares-accepted, relays-accepted}
 use Rattle.party.proofs.Progress.{root-whole, bit-whole, first-whole, second-whole, end-whole, message-short, held-short, result-short}
 use Rattle.agreement.specs.Calls.{Call, agreeRoot, agreeBit, takeShares, takeRelays, stepOf, made}
 use Rattle.agreement.proofs.Run.{endedWith, did2, did3, did4, did5}
 use Rattle.agreement.proofs.Ran.{opened-is}
 use Rattle.capi.proofs.Sound.{whole}
-use Rattle.claims.specs.Terms.{when, foremost, groupThen, lent, wrong, due, next, answered, outcome}
+use Rattle.claims.specs.Terms.{when, foremost, groupThen, lent, wrong, due, next, answered, outcome, cheatsTold}
 use Rattle.claims.specs.Claims.{OpeningTells, StepTells}
 
 -- the opening
@@ -117,7 +118,7 @@ pub record Does (x : Party) (c : Call) (k : ℕ) : Type 0 where
   pub is : made sha256 x c ≡ cond (not (eqb k 0)) (refused x k (lent c)) does
   pub cause : does .cause ≡ when 9 (ltb (length (lent c)) (length (due x c)))
   pub keeps : does .cause ≢ 0 → (does .state ≡ x) × (does .buffer ≡ lent c) × (does .value ≡ cond (eqb (does .cause) 9) (length (due x c)) 0)
-      × (does .result ≡ none)
+      × (does .result ≡ none) × (does .faulty ≡ 0)
 
 writes-cause : (x next : Party) (bs out : List ℕ) → writes x next bs out .cause ≡ when 9 (ltb (length out) (length bs))
 writes-cause x next bs out = go (way (ltb (length out) (length bs)))
@@ -128,28 +129,29 @@ writes-cause x next bs out = go (way (ltb (length out) (length bs)))
 
 abbrev Kept : Party → List ℕ → List ℕ → Stepped → Type 0
 Kept x bs out r = r .cause ≢ 0 → (r .state ≡ x) × (r .buffer ≡ out) × (r .value ≡ cond (eqb (r .cause) 9) (length bs) 0) × (r .result ≡ none)
+    × (r .faulty ≡ 0)
 
 writes-keeps : (x next : Party) (bs out : List ℕ) → Kept x bs out (writes x next bs out)
 writes-keeps x next bs out = go (way (ltb (length out) (length bs)))
   where
     go : Way (ltb (length out) (length bs)) → Kept x bs out (writes x next bs out)
-    go (on e) = rw e (λ d. (refl, refl, refl, refl))
+    go (on e) = rw e (λ d. (refl, refl, refl, refl, refl))
     go (off e) = rw e (λ d. absurd (d refl))
 
-ending-cause : (x : Party) (r : Result) (out : List ℕ) → ending x r out .cause ≡ when 9 (ltb (length out) (length (resultBytes r)))
-ending-cause x nothing out = rw (le-ltb (length out) 0 (omega arith))
-ending-cause x (settled m) out = go (way (ltb (length out) (length m)))
+ending-cause : (x : Party) (r : Result) (f : ℕ) (out : List ℕ) → ending x r f out .cause ≡ when 9 (ltb (length out) (length (resultBytes r)))
+ending-cause x nothing f out = rw (le-ltb (length out) 0 (omega arith))
+ending-cause x (settled m) f out = go (way (ltb (length out) (length m)))
   where
-    go : Way (ltb (length out) (length m)) → ending x (settled m) out .cause ≡ when 9 (ltb (length out) (length m))
+    go : Way (ltb (length out) (length m)) → ending x (settled m) f out .cause ≡ when 9 (ltb (length out) (length m))
     go (on e) = rw e
     go (off e) = rw e
 
-ending-keeps : (x : Party) (r : Result) (out : List ℕ) → Kept x (resultBytes r) out (ending x r out)
-ending-keeps x nothing out = λ d. absurd (d refl)
-ending-keeps x (settled m) out = go (way (ltb (length out) (length m)))
+ending-keeps : (x : Party) (r : Result) (f : ℕ) (out : List ℕ) → Kept x (resultBytes r) out (ending x r f out)
+ending-keeps x nothing f out = λ d. absurd (d refl)
+ending-keeps x (settled m) f out = go (way (ltb (length out) (length m)))
   where
-    go : Way (ltb (length out) (length m)) → Kept x m out (ending x (settled m) out)
-    go (on e) = rw e (λ d. (refl, refl, refl, refl))
+    go : Way (ltb (length out) (length m)) → Kept x m out (ending x (settled m) f out)
+    go (on e) = rw e (λ d. (refl, refl, refl, refl, refl))
     go (off e) = rw e (λ d. absurd (d refl))
 
 -- step 5 judges no inbox once the party has ended
@@ -165,16 +167,16 @@ pub done : (x : Party) (c : Call) → Does x c (judged (stepOf c) x c)
 unfolding made agreeRootOf agreeBitOf takeSharesOf takeRelaysOf rootCause bitCause inboxCause
 done x (agreeRoot z) = record { does = _; is = refl; cause = refl; keeps = λ d. absurd (d refl) }
 done x (agreeBit bit out) =
-    let next = cond (eqb bit 0) (atEnd (x .seat) nothing) (atFirst (x .seat) (messageIn x) (x .root)) in
+    let next = cond (eqb bit 0) (atEnd (x .seat) nothing 0) (atFirst (x .seat) (messageIn x) (x .root)) in
     record { does = _; is = refl; cause = writes-cause x next (outboxOf sha256 x bit) out; keeps = writes-keeps x next (outboxOf sha256 x bit) out }
 done x (takeShares inbox out) =
     record { does = _; is = refl; cause = writes-cause x _ (relayOf sha256 x inbox) out; keeps = writes-keeps x _ (relayOf sha256 x inbox) out }
 done x (takeRelays inbox out) =
     record {
       does = _;
-      is = ap (λ (k : ℕ). cond (not (eqb k 0)) (refused x k out) (ending x (resultOf sha256 x inbox) out)) (relays-judged x inbox out);
-      cause = ending-cause x (resultOf sha256 x inbox) out;
-      keeps = ending-keeps x (resultOf sha256 x inbox) out;
+      is = ap (λ (k : ℕ). cond (not (eqb k 0)) (refused x k out) (ending x (resultOf sha256 x inbox) (faultyOf sha256 x inbox) out)) (relays-judged x inbox out);
+      cause = ending-cause x (resultOf sha256 x inbox) (faultyOf sha256 x inbox) out;
+      keeps = ending-keeps x (resultOf sha256 x inbox) (faultyOf sha256 x inbox) out;
     }
 
 either-step : (b : Bool) (p q : Stepped) → cond b p q .cause ≡ cond b (p .cause) (q .cause)
@@ -222,20 +224,21 @@ refusal-keeps x c = go (way (eqb k 0))
     D = done x c
 
     refusal : Kept x (due x c) (lent c) (refused x (judged (stepOf c) x c) (lent c))
-    refusal d = (refl, refl, rw (not-nine x c), refl)
+    refusal d = (refl, refl, rw (not-nine x c), refl, refl)
 
     go : Way (eqb (judged (stepOf c) x c) 0) → Kept x (due x c) (lent c) (made sha256 x c)
     go (on e) = rw (D .is, e) (D .keeps)
     go (off e) = rw (D .is, e) refusal
 
 -- an accepted step
-pub ends : (x : Party) (r : Result) (out : List ℕ) → endedWith (x .seat) r out .buffer ≡ spliced out 0 (resultBytes r)
-ends x nothing out = sym (spliced-none out 0)
-ends x (settled m) out = refl
+pub ends : (x : Party) (r : Result) (f : ℕ) (out : List ℕ) → endedWith (x .seat) r f out .buffer ≡ spliced out 0 (resultBytes r)
+ends x nothing f out = sym (spliced-none out 0)
+ends x (settled m) f out = refl
 
 abbrev Gives : Party → Call → Stepped → Type 0
 Gives x c r =
-    (r .state ≡ next x c) × (r .buffer ≡ spliced (lent c) 0 (due x c)) × (r .value ≡ answered x c) × (r .result ≡ outcome x c) × (broken (r .state) ≡ false)
+    (r .state ≡ next x c) × (r .buffer ≡ spliced (lent c) 0 (due x c)) × (r .value ≡ answered x c) × (r .result ≡ outcome x c)
+    × (r .faulty ≡ cheatsTold x c) × (broken (r .state) ≡ false)
 
 step-accepted : (x : Party) (c : Call) → made sha256 x c .cause ≡ 0 → Gives x c (made sha256 x c)
 step-accepted x c e = go c e (whole sha256 x c e)
@@ -252,6 +255,7 @@ step-accepted x c e = go c e (whole sha256 x c e)
           sym (spliced-none [] 0),
           refl,
           refl,
+          refl,
           bit-whole (x .seat) (f .low) (f .high) (omega (arith, f .faults)) (f .first) (f .last) (messageIn x) (message-short sha256 x w) z,
         )
     go (agreeBit bit out) e w =
@@ -261,8 +265,9 @@ step-accepted x c e = go c e (whole sha256 x c e)
           refl,
           refl,
           refl,
-          sound (eqb bit 0) (atEnd (x .seat) nothing) (atFirst (x .seat) (messageIn x) (x .root))
-              (end-whole (x .seat) (f .low) (f .high) (omega (arith, f .faults)) (f .first) (f .last) nothing (omega arith))
+          refl,
+          sound (eqb bit 0) (atEnd (x .seat) nothing 0) (atFirst (x .seat) (messageIn x) (x .root))
+              (end-whole (x .seat) (f .low) (f .high) (omega (arith, f .faults)) (f .first) (f .last) nothing 0 (omega arith) (holds-empty (x .seat .n) (x .seat .own)))
               (first-whole (x .seat) (f .low) (f .high) (omega (arith, f .faults)) (f .first) (f .last) (messageIn x) (message-short sha256 x w) (x .root)),
         )
     go (takeShares inbox out) e w =
@@ -272,17 +277,20 @@ step-accepted x c e = go c e (whole sha256 x c e)
           refl,
           refl,
           refl,
+          refl,
           second-whole (x .seat) (f .low) (f .high) (omega (arith, f .faults)) (f .first) (f .last) (messageIn x) (message-short sha256 x w) (x .root)
-              (heldOf sha256 x inbox) (held-short sha256 x w inbox),
+              (heldOf sha256 x inbox) (faultyShares sha256 x inbox) (held-short sha256 x w inbox) (holds-shares sha256 x inbox f),
         )
     go (takeRelays inbox out) e w =
         let f = fit-of x w in
         rw (did5 sha256 x inbox out e .1) (
           refl,
-          ends x (resultOf sha256 x inbox) out,
+          ends x (resultOf sha256 x inbox) (faultyOf sha256 x inbox) out,
           refl,
           refl,
-          end-whole (x .seat) (f .low) (f .high) (omega (arith, f .faults)) (f .first) (f .last) (resultOf sha256 x inbox) (result-short sha256 x w inbox),
+          refl,
+          end-whole (x .seat) (f .low) (f .high) (omega (arith, f .faults)) (f .first) (f .last) (resultOf sha256 x inbox) (faultyOf sha256 x inbox)
+              (result-short sha256 x w inbox) (holds-given sha256 x inbox f),
         )
 
 -- a lawful step
@@ -299,29 +307,30 @@ lawful x (takeRelays inbox out) w turn fine room =
     let looked : Bool = hasEnded (x .stage) || fills (x .seat .n) inbox in
     relays-accepted sha256 x w inbox out turn (λ h. rw h at (not-false looked (spared (not looked) 7 0 fine .0))) room
 
--- cause, value and result are those of the answer
+-- cause, value, result and map are those of the answer
 abbrev Answers : Stepped → Type 0
 Answers r = (r .cause ≡ causeOf (r .answer)) × (r .value ≡ valueOf (r .answer)) × (r .result ≡ resultGiven (r .answer) (r .buffer))
+    × (r .faulty ≡ faultyGiven (r .answer))
 
 either-answers : (b : Bool) (p q : Stepped) → Answers p → Answers q → Answers (cond b p q)
 either-answers true p q f g = f
 either-answers false p q f g = g
 
 writes-answers : (x next : Party) (bs out : List ℕ) → Answers (writes x next bs out)
-writes-answers x next bs out = either-answers (ltb (length out) (length bs)) _ _ (refl, refl, refl) (refl, refl, refl)
+writes-answers x next bs out = either-answers (ltb (length out) (length bs)) _ _ (refl, refl, refl, refl) (refl, refl, refl, refl)
 
-ending-answers : (x : Party) (r : Result) (out : List ℕ) → Answers (ending x r out)
-ending-answers x nothing out = (refl, refl, refl)
-ending-answers x (settled m) out = either-answers (ltb (length out) (length m)) _ _ (refl, refl, refl) (refl, refl, refl)
+ending-answers : (x : Party) (r : Result) (f : ℕ) (out : List ℕ) → Answers (ending x r f out)
+ending-answers x nothing f out = (refl, refl, refl, refl)
+ending-answers x (settled m) f out = either-answers (ltb (length out) (length m)) _ _ (refl, refl, refl, refl) (refl, refl, refl, refl)
 
 step-answers : (x : Party) (c : Call) → Answers (made sha256 x c)
 unfolding made agreeRootOf agreeBitOf takeSharesOf takeRelaysOf
-step-answers x (agreeRoot z) = either-answers (not (eqb (rootCause x z) 0)) _ _ (refl, refl, refl) (refl, refl, refl)
-step-answers x (agreeBit bit out) = either-answers (not (eqb (bitCause x bit) 0)) _ _ (refl, refl, refl) (writes-answers x _ (outboxOf sha256 x bit) out)
+step-answers x (agreeRoot z) = either-answers (not (eqb (rootCause x z) 0)) _ _ (refl, refl, refl, refl) (refl, refl, refl, refl)
+step-answers x (agreeBit bit out) = either-answers (not (eqb (bitCause x bit) 0)) _ _ (refl, refl, refl, refl) (writes-answers x _ (outboxOf sha256 x bit) out)
 step-answers x (takeShares inbox out) =
-    either-answers (not (eqb (inboxCause 4 x inbox) 0)) _ _ (refl, refl, refl) (writes-answers x _ (relayOf sha256 x inbox) out)
+    either-answers (not (eqb (inboxCause 4 x inbox) 0)) _ _ (refl, refl, refl, refl) (writes-answers x _ (relayOf sha256 x inbox) out)
 step-answers x (takeRelays inbox out) =
-    either-answers (not (eqb (relaysCause x inbox) 0)) _ _ (refl, refl, refl) (ending-answers x (resultOf sha256 x inbox) out)
+    either-answers (not (eqb (relaysCause x inbox) 0)) _ _ (refl, refl, refl, refl) (ending-answers x (resultOf sha256 x inbox) (faultyOf sha256 x inbox) out)
 
 pub step-tells : (x : Party) (c : Call) → StepTells x c (made sha256 x c)
 step-tells x c =

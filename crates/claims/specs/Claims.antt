@@ -28,14 +28,14 @@ use Rattle.packet.specs.Answer.{causeIn, readAt}
 use Rattle.packet.specs.Class.{valid, classOf, classStrings}
 use Rattle.commitment.specs.Commitment.{messageRoot, packetWith}
 use Rattle.party.specs.State.{Result, nothing, settled, seatOf, atRoot, blankState, broken}
-use Rattle.party.specs.Steps.{turnOf, openOf, Stepped, causeOf, valueOf, resultGiven}
+use Rattle.party.specs.Steps.{turnOf, openOf, Stepped, causeOf, valueOf, resultGiven, faultyGiven}
 use Rattle.party.specs.declared.Party.{Party}
 use Rattle.party.specs.declared.Opened.{Opened}
 use Rattle.agreement.specs.Calls.{Call, stepOf, made, entry}
 use Rattle.agreement.specs.Agreement.{different, absent, sumOver}
 use Rattle.state_bytes.specs.Layout.{stateLength, stateBytes, stateOf}
 use Rattle.capi.specs.Calls.{packed, valueShown, Replies, openCall, called}
-use Rattle.claims.specs.Terms.{when, foremost, groupThen, lent, wrong, due, next, answered, outcome, unless, causeJoined, bookJoined, unread}
+use Rattle.claims.specs.Terms.{when, foremost, groupThen, lent, wrong, due, next, answered, outcome, cheatsTold, unless, causeJoined, bookJoined, unread}
 use Rattle.claims.specs.Terms.{FourBytes, leaf, Leads, leaves, exampleMessages, exampleDigests, rooted, sent, relayed, ended, first, bytesIn, Box, Clean, partyBox, boxOf}
 
 -- DEMAND 1. The opening, a step on any state, and both on bytes: the cause, what a refusal keeps, what an accepted call gives, and that a lawful one is
@@ -50,10 +50,12 @@ pub record StepTells (x : Party) (c : Call) (r : Stepped) : Type 0 where
   pub cause : r .cause ≡ foremost (when 5 (broken x) ∷ when 6 (not (eqb (turnOf (x .stage)) (stepOf c))) ∷ wrong x c
       ∷ when 9 (ltb (length (lent c)) (length (due x c))) ∷ [])
   pub refused : r .cause ≢ 0 → (r .state ≡ x) × (r .buffer ≡ lent c) × (r .value ≡ cond (eqb (r .cause) 9) (length (due x c)) 0) × (r .result ≡ none)
+      × (r .faulty ≡ 0)
   pub accepted : r .cause ≡ 0 → (r .state ≡ next x c) × (r .buffer ≡ spliced (lent c) 0 (due x c)) × (r .value ≡ answered x c)
-      × (r .result ≡ outcome x c) × (broken (r .state) ≡ false)
+      × (r .result ≡ outcome x c) × (r .faulty ≡ cheatsTold x c) × (broken (r .state) ≡ false)
   pub lawful : broken x ≡ false → turnOf (x .stage) ≡ stepOf c → wrong x c ≡ 0 → length (due x c) ≤ length (lent c) → r .cause ≡ 0
   pub answer : (r .cause ≡ causeOf (r .answer)) × (r .value ≡ valueOf (r .answer)) × (r .result ≡ resultGiven (r .answer) (r .buffer))
+      × (r .faulty ≡ faultyGiven (r .answer))
 
 pub record HostOpeningTells (session : ℕ) (s z : List ℕ) (r : Opened) (q : Replies) : Type 0 where
   pub number : q .number ≡ cond (eqb (r .cause) 0)
@@ -62,9 +64,9 @@ pub record HostOpeningTells (session : ℕ) (s z : List ℕ) (r : Opened) (q : R
   pub accepted : q .number ≡ packed 0 32 → (q .state ≡ written (stateBytes (r .state)) s .buffer) × (q .out ≡ written (r .root) z .buffer)
       × (FourBytes session → stateOf (q .state) ≡ r .state)
 
--- the value fits below the cause; step 5's is 1 for a book and 0 for nothing
+-- the value fits below the cause; step 5's is twice the map of boxes seen to cheat, and 1 more for a book
 pub record HostStepTells (s : List ℕ) (c : Call) (r : Stepped) (q : Replies) : Type 0 where
-  pub number : (q .number ≡ packed (r .cause) (valueShown (r .result) (r .value))) × (valueShown (r .result) (r .value) < 2 ^ 32)
+  pub number : (q .number ≡ packed (r .cause) (valueShown (r .result) (r .faulty) (r .value))) × (valueShown (r .result) (r .faulty) (r .value) < 2 ^ 32)
   pub refused : r .cause ≢ 0 → (q .state ≡ s) × (q .out ≡ lent c)
   pub accepted : r .cause ≡ 0 → (q .state ≡ written (stateBytes (r .state)) s .buffer) × (q .out ≡ r .buffer) × (stateOf (q .state) ≡ r .state)
 
@@ -74,7 +76,7 @@ pub record EveryCallTellsItsOutcome : Type 0 where
   pub host-opening : (session n t own : ℕ) (m s z : List ℕ) → HostOpeningTells session s z (openOf sha256 session n t own m) (openCall sha256 session n t own m s z)
   pub host-step : (s : List ℕ) (c : Call) → HostStepTells s c (made sha256 (stateOf s) c) (called sha256 s c)
   -- the tools: shares, rebuilding from the n - t lowest-numbered shares present, hash, path and its check, packet. On bytes, and of a state that is asked for its
-  -- stage, own number, sitting's number or result's length, their contracts are the definitions of `capi`
+  -- stage, own number, sitting's number, map of boxes seen to cheat or result's length, their contracts are the definitions of `capi`
   pub shares : (n t : ℕ) (m out : List ℕ) → encodeOf n t m out ≡ unless (groupThen n t (when 4 (ltb maxMessage (length m)) ∷ [])) (shares n (n - t) m) out
   pub rebuild : (n t : ℕ) (es out : List ℕ) → let ps = present 1 (bodies n es) in let r = joined (n - t) (length (point ps 0 .share)) (take (n - t) ps) in
       rebuildOf n t es out ≡ unless (groupThen n t (when 8 (not (fills n es)) ∷ when 11 (ltb (length ps) (n - t)) ∷ causeJoined r ∷ [])) (bookJoined r) out

@@ -24,14 +24,16 @@ use Rattle.claims.specs.Terms.{when, foremost, lent, ended, FourBytes, B
 use Rattle.claims.specs.Claims.{All, Sitting, OneResult}
 
 -- step 5 on any state that holds the result R, with any inbox: causes 5 and 9 alone, which change nothing, and cause 9 tells the book's length; else R, the
--- book at the start of the buffer, and a state with the same seat, R, and zeros wherever else
+-- book at the start of the buffer, the map of boxes seen to cheat, and a state with the same seat, R and map, and zeros wherever else
 pub record GivesAgain (x : Party) (R : Result) (out : List ℕ) (r : Stepped) : Type 0 where
   pub cause : r .cause ≡ foremost (when 5 (broken x) ∷ when 9 (ltb (length out) (length (resultBytes R))) ∷ [])
   pub kept : r .cause ≢ 0 → (r .state ≡ x) × (r .buffer ≡ out) × (r .value ≡ cond (eqb (r .cause) 9) (length (resultBytes R)) 0) × (r .result ≡ none)
   pub given : r .cause ≡ 0 → (r .buffer ≡ spliced out 0 (resultBytes R)) × (r .value ≡ length (resultBytes R)) × (r .result ≡ some R)
+      × (r .faulty ≡ x .faulty)
   pub clean : r .cause ≡ 0 → (resultIn (r .state) ≡ some R) × (r .state .seat ≡ x .seat)
       × (r .state .message ≡ resultBytes R ++ replicate (maxMessage - length (resultBytes R)) 0) × (r .state .len ≡ 0)
       × (r .state .root ≡ replicate 32 0) × (r .state .share ≡ replicate maxShare 0) × (r .state .held ≡ 0)
+      × (r .state .faulty ≡ x .faulty)
 
 -- demand 3 for every reader: one result, which each accepted step 5 gave; on bit 0 that result is nothing
 abbrev pub EveryReaderGetsIt : ℕ → ℕ → List Box → List ℕ → ℕ → Type 0
@@ -45,10 +47,10 @@ pub record ResultsAreReadAgain : Type 0 where
   pub first : (x : Party) (inbox out : List ℕ) → x .stage ≡ Second → made sha256 x (takeRelays inbox out) .cause
       ≡ foremost (when 5 (broken x) ∷ when 8 (not (fills (x .seat .n) inbox)) ∷ when 9 (ltb (length out) (length (resultBytes (resultFound sha256 x inbox)))) ∷ [])
   -- on bytes, where an accepted call, step 3 or step 5, left the party ended: with any inbox and room for the book a reader is told the result, 1 for a
-  -- book and 0 for nothing, and leaves every byte of the state
+  -- book and 0 for nothing, and above that bit the map that the state has, and leaves every byte of the state
   pub screen : (s : List ℕ) (c : Call) (R : Result) (inbox room : List ℕ) → let q = called sha256 s c in made sha256 (stateOf s) c .cause ≡ 0
       → resultIn (stateOf (q .state)) ≡ some R → length (resultBytes R) ≤ length room
-      → called sha256 (q .state) (takeRelays inbox room) ≡ replies (packed 0 (valueShown (some R) 0)) (q .state) (spliced room 0 (resultBytes R))
+      → called sha256 (q .state) (takeRelays inbox room) ≡ replies (packed 0 (valueShown (some R) (stateOf (q .state) .faulty) 0)) (q .state) (spliced room 0 (resultBytes R))
   -- a good box that has ended: a further reader with room for the book is accepted and given it; whatever the box is called with, nothing changes
   pub next : (session n t : ℕ) (g : Good ⊎ Host) (R : Result) (inbox out : List ℕ) → FourBytes session → boxOf session n t g .cause ≡ 0 → boxOf session n t g .result ≡ some R
       → length (resultBytes R) ≤ length out → boxOf session n t (further (takeRelays inbox out ∷ []) g) .acts ≡ boxOf session n t g .acts ++ (ended inbox (some R) ∷ [])

@@ -20,7 +20,7 @@ use Rattle.merkle.specs.Tree.{shape, sides, folded}
 use Rattle.packet.specs.Format.{Reading, silence, unreadable, shared}
 use Rattle.commitment.specs.Rooms.{maxPacket, maxOutbox}
 use Rattle.party.specs.State.{Result, nothing, settled, resultBytes, resultIn, hasEnded, messageIn, atBit, atFirst, atSecond, atEnd, happy}
-use Rattle.party.specs.Steps.{openOf, Stepped, outboxOf, relayOf, heldOf, resultOf}
+use Rattle.party.specs.Steps.{openOf, Stepped, outboxOf, relayOf, heldOf, faultyShares, resultOf, faultyOf}
 use Rattle.party.specs.Sender.{messageBy, openBySenderOf}
 use Rattle.party.specs.declared.Outcome.the-variants.{Nothing, Message}
 use Rattle.party.specs.declared.Stage.{Stage}
@@ -58,7 +58,7 @@ wrong x (agreeBit bit out) = when 7 (ltb 1 bit)
 wrong x (takeShares inbox out) = when 8 (not (fills (x .seat .n) inbox))
 wrong x (takeRelays inbox out) = when 8 (not (hasEnded (x .stage) || fills (x .seat .n) inbox))
 
--- what an accepted one writes, the next state, the value that it answers, and the result, which step 5 alone has
+-- what an accepted one writes, the next state, the value that it answers, and the result and the map of boxes seen to cheat, which step 5 alone has
 abbrev pub due : Party → Call → List ℕ
 due x (agreeRoot z) = []
 due x (agreeBit bit out) = outboxOf sha256 x bit
@@ -67,9 +67,9 @@ due x (takeRelays inbox out) = resultBytes (resultOf sha256 x inbox)
 
 abbrev pub next : Party → Call → Party
 next x (agreeRoot z) = atBit (x .seat) (messageIn x) z
-next x (agreeBit bit out) = cond (eqb bit 0) (atEnd (x .seat) nothing) (atFirst (x .seat) (messageIn x) (x .root))
-next x (takeShares inbox out) = atSecond (x .seat) (messageIn x) (x .root) (heldOf sha256 x inbox)
-next x (takeRelays inbox out) = atEnd (x .seat) (resultOf sha256 x inbox)
+next x (agreeBit bit out) = cond (eqb bit 0) (atEnd (x .seat) nothing 0) (atFirst (x .seat) (messageIn x) (x .root))
+next x (takeShares inbox out) = atSecond (x .seat) (messageIn x) (x .root) (heldOf sha256 x inbox) (faultyShares sha256 x inbox)
+next x (takeRelays inbox out) = atEnd (x .seat) (resultOf sha256 x inbox) (faultyOf sha256 x inbox)
 
 abbrev pub answered : Party → Call → ℕ
 answered x (agreeRoot z) = cond (happy sha256 (atBit (x .seat) (messageIn x) z)) 1 0
@@ -82,6 +82,12 @@ outcome x (agreeRoot z) = none
 outcome x (agreeBit bit out) = none
 outcome x (takeShares inbox out) = none
 outcome x (takeRelays inbox out) = some (resultOf sha256 x inbox)
+
+abbrev pub cheatsTold : Party → Call → ℕ
+cheatsTold x (agreeRoot z) = 0
+cheatsTold x (agreeBit bit out) = 0
+cheatsTold x (takeShares inbox out) = 0
+cheatsTold x (takeRelays inbox out) = faultyOf sha256 x inbox
 
 -- the room for what a step writes: nothing, an outbox, a relay, a message
 abbrev pub roomFor : Call → ℕ
@@ -230,13 +236,13 @@ pub record Host : Type 0 where
   pub rootRoom : List ℕ
   pub calls : List Call
 
--- a call is accepted where its number is below 2^32, and then that number is its value; step 5's says whether there is a book, and the state is asked
--- for its length
+-- a call is accepted where its number is below 2^32, and then that number is its value; step 5's says by its lowest bit whether there is a book, and the
+-- state is asked for its length
 abbrev pub actSeen : Call → Replies → Act
 actSeen (agreeRoot z) r = rooted z (r .number)
 actSeen (agreeBit bit out) r = sent bit (take (r .number) (r .out))
 actSeen (takeShares inbox out) r = relayed inbox (take (r .number) (r .out))
-actSeen (takeRelays inbox out) r = ended inbox (some (cond (eqb (r .number) 0) nothing (settled (take (resultLengthCall (r .state)) (r .out)))))
+actSeen (takeRelays inbox out) r = ended inbox (some (cond (eqb (r .number % 2) 0) nothing (settled (take (resultLengthCall (r .state)) (r .out)))))
 
 unfoldable pub actsSeen : List ℕ → List Call → List Act
 actsSeen s [] = []
