@@ -14,6 +14,7 @@ use Rattle.limits.specs.Limits.{maxMessage, maxShare, parties, numbered, groupC
 use Rattle.limits.proofs.Group.{group-of}
 use Rattle.limits.proofs.Ranges.{parties-some, numbered-range}
 use Rattle.buffer.specs.Entries.{size, body, rest}
+use Rattle.bitmap.specs.Bitmap.{names}
 use Rattle.sha256.specs.Sha256.{sha256}
 use Rattle.sha256.proofs.Laws.{sha256-length}
 use Rattle.erasure.specs.Coding.{shareLength, shares}
@@ -124,7 +125,8 @@ share-read n j w x p e =
     (omega (arith, same, s .some), omega (arith, same, s .short))
 
 state-judged : (x : Party) → groupCause (x .seat .n) (x .seat .t) ≡ 0 → numbered (x .seat .n) (x .seat .own) ≡ true
-    → broken x ≡ (ltb maxMessage (x .len) || ltb maxShare (x .held) || ltb maxMessage (resultLength (x .stage)))
+    → broken x ≡ (ltb maxMessage (x .len) || ltb maxShare (x .held) || (not (ltb (x .faulty) (2 ^ x .seat .n)) || names (x .faulty) (x .seat .own))
+    || ltb maxMessage (resultLength (x .stage)))
 unfolding broken
 state-judged x e o = rw (e, o, over (x .stage))
   where

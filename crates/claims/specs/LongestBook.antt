@@ -4,13 +4,14 @@
 -- Output.lineOf judge by the same limit. Assumes nothing.
 use mathlib.Core.Path.{_≡_}
 use mathlib.Core.Logic.{_≢_}
-use mathlib.Core.Bool.{true, cond, _&&_, _||_}
+use mathlib.Core.Bool.{true, cond, not, _&&_, _||_}
 use mathlib.Core.List.{List, _∷_, _++_}
 use Prim.Native.Nat.{ℕ, _+_, _-_, _*_, _/_, _%_, _^_, _≤_, _<_}
 use lib.Dec.{ltb, leb}
 use lib.ListN.{length}
 use Rattle.limits.specs.Limits.{maxMessage, maxShare, numbered, groupCause}
 use Rattle.buffer.specs.Entries.{size}
+use Rattle.bitmap.specs.Bitmap.{names}
 use Rattle.sha256.specs.Sha256.{sha256}
 use Rattle.erasure.specs.Coding.{shareLength, frame, shares, encodeOf}
 use Rattle.erasure.specs.Rebuild.{Point, framed, cause, message, unframed, joined}
@@ -41,9 +42,11 @@ pub record BooksHaveOneGreatestLength : Type 0 where
       → readOf n (7 ∷ j ∷ length share / 256 ∷ length share % 256 ∷ (share ++ r))
       ≡ cond (leb 1 (length share) && leb (length share) maxShare) (shared j share (hashes k r)) unreadable
   pub read : (n j : ℕ) (packet share : List ℕ) (p : List (List ℕ)) → readOf n packet ≡ shared j share p → (1 ≤ length share) × (length share ≤ maxShare)
-  -- cause 5: a state whose n, t and own number are in their ranges is broken exactly if its message, share or result is over its limit
+  -- cause 5: a state whose n, t and own number are in their ranges is broken exactly if its message, share or result is over its limit, or its map of boxes seen
+  -- to cheat names one beyond n or itself (No. 7)
   pub state : (x : Party) → groupCause (x .seat .n) (x .seat .t) ≡ 0 → numbered (x .seat .n) (x .seat .own) ≡ true
-      → broken x ≡ (ltb maxMessage (x .len) || ltb maxShare (x .held) || ltb maxMessage (resultLength (x .stage)))
+      → broken x ≡ (ltb maxMessage (x .len) || ltb maxShare (x .held) || (not (ltb (x .faulty) (2 ^ x .seat .n)) || names (x .faulty) (x .seat .own))
+      || ltb maxMessage (resultLength (x .stage)))
   -- cause 9: no opening and no step that is lent its room is refused for it, on a state or on bytes; and all shares of a message have room
   pub room : (x : Party) (c : Call) → roomFor c ≤ length (lent c) → made sha256 x c .cause ≢ 9
   pub host-room : (s : List ℕ) (c : Call) → roomFor c ≤ length (lent c) → called sha256 s c .number / 2 ^ 32 ≢ 9

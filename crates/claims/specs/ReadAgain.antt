@@ -28,6 +28,7 @@ use Rattle.claims.specs.Claims.{All, Sitting, OneResult}
 pub record GivesAgain (x : Party) (R : Result) (out : List ℕ) (r : Stepped) : Type 0 where
   pub cause : r .cause ≡ foremost (when 5 (broken x) ∷ when 9 (ltb (length out) (length (resultBytes R))) ∷ [])
   pub kept : r .cause ≢ 0 → (r .state ≡ x) × (r .buffer ≡ out) × (r .value ≡ cond (eqb (r .cause) 9) (length (resultBytes R)) 0) × (r .result ≡ none)
+      × (r .faulty ≡ 0)
   pub given : r .cause ≡ 0 → (r .buffer ≡ spliced out 0 (resultBytes R)) × (r .value ≡ length (resultBytes R)) × (r .result ≡ some R)
       × (r .faulty ≡ x .faulty)
   pub clean : r .cause ≡ 0 → (resultIn (r .state) ≡ some R) × (r .state .seat ≡ x .seat)
