@@ -261,6 +261,11 @@ module _ (H : List ℕ → List ℕ) (session n t i : ℕ) (m : List ℕ) where
               (g .map-given ∙ sym (ap (λ (x : Party). x .faulty) last-is), g .map-held ∙ sym (ap (λ (x : Party). x .faulty) last-is));
         }
 
+pub awaited : (H : List ℕ → List ℕ) (session n t i : ℕ) (m : List ℕ) (calls : List Call) → opening H session n t i m .cause ≡ 0 → (e : Event)
+    → firstOf H session n t i m calls 5 ≡ some e → e .before .stage ≡ Second → (d : Event) × (firstOf H session n t i m calls 4 ≡ some d)
+awaited H session n t i m calls o =
+    fifth H session n t i m _ (did H session n t i m calls) (course H session n t i m _ (did H session n t i m calls) (did-chain H session n t i m calls o))
+
 pub named-if-faulty : (H : List ℕ → List ℕ) → NamedIfFaulty H
 named-if-faulty H session n t i m calls z o root p a b = named H session n t i m calls z o root p a b
 
@@ -317,7 +322,7 @@ module _ (H : List ℕ → List ℕ) (wide : (s : List ℕ) → length (H s) ≡
         go (off u) = took u (it H session n t i m z u in4) refl
 
 -- an opening's state has the empty map
-begun-empty : (H : List ℕ → List ℕ) (session n t i : ℕ) (m : List ℕ) → opening H session n t i m .state .faulty ≡ 0
+pub begun-empty : (H : List ℕ → List ℕ) (session n t i : ℕ) (m : List ℕ) → opening H session n t i m .state .faulty ≡ 0
 unfolding openOf atRoot blankState
 begun-empty H session n t i m = go (way (eqb (openCause n t i (length m)) 0))
   where

@@ -45,7 +45,7 @@ use Rattle.claims.proofs.Tools.{shares-told, rebuild-told, hash-told, l
 use Rattle.claims.proofs.Parties.{view, every-reader-gets-it}
 
 -- a call: its number, and the buffer
-called-number : (s : List ℕ) (c : Call) → called sha256 s c .number ≡ numberOf (made sha256 (stateOf s) c)
+pub called-number : (s : List ℕ) (c : Call) → called sha256 s c .number ≡ numberOf (made sha256 (stateOf s) c)
 unfolding called
 called-number s c = refl
 
@@ -127,7 +127,7 @@ module _ (session n t own : ℕ) (m s z : List ℕ) where
       go (short-root c a b) = rw (open-root sha256 session n t own m s z c a b) (refl, refl)
       go (taken c a b) = absurd (d (ap (λ (y : Replies). y .number) (open-done sha256 session n t own m s z c a b)))
 
-  opening-written : q .number / 2 ^ 32 ≡ 0
+  pub opening-written : q .number / 2 ^ 32 ≡ 0
       → (q .state ≡ written (stateBytes (r .state)) s .buffer) × (q .out ≡ written (r .root) z .buffer)
       × (FourBytes session → stateOf (q .state) ≡ r .state)
   opening-written e =
@@ -182,7 +182,7 @@ module _ (s : List ℕ) where
   x = stateOf s
 
   -- its number is its value
-  number-value : (r : Stepped) → r .cause ≡ 0 → numberOf r ≡ valueShown (r .result) (r .faulty) (r .value)
+  pub number-value : (r : Stepped) → r .cause ≡ 0 → numberOf r ≡ valueShown (r .result) (r .faulty) (r .value)
   unfolding packed
   number-value r e = rw e (omega arith)
 

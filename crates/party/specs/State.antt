@@ -51,7 +51,7 @@ waiting s stage m z x f =
       faulty = f;
     }
 
--- the five forms: waiting for the root, for the bit, for the first inbox, for the second, and ended; the map is held from the first inbox on
+-- the five forms: waiting for the root, for the bit, for the first inbox, for the second, and ended; the last two have a map
 unfoldable pub atRoot : Seat → List ℕ → Party
 atRoot s m = waiting s Root m blank [] 0
 
