@@ -310,7 +310,7 @@ module _ (H : List ℕ → List ℕ) (session n t : ℕ) (good : List Good) (z :
   pub voted : Each H session n t good (λ A. bitGiven (step H session n t good 2 A) ≡ some (cond (isGlad H session n t z A) 1 0))
   voted A h =
       let r = told A h in
-      bit-given H session n t (A .own) (A .message) (A .calls) z (opened A h) (r .0) (r .1) (r .2)
+      bit-given H session n t (A .own) (A .message) (A .calls) (opened A h) z (r .0) (r .1) (r .2)
       ∙ ap {B = Option ℕ} (λ (g : Bool). some (cond g 1 0)) (happy-bit H session n t (A .own) (A .message) z)
 
   pub someone : (bit : ℕ) → Rule H session n t good (λ A. bitGiven (step H session n t good 2 A)) bit → bit ≡ 1
@@ -329,9 +329,8 @@ module _ (H : List ℕ → List ℕ) (session n t : ℕ) (good : List Good) (z :
     (called : CalledAll H session n t good z bit) (A : Good) (h : List·Memᴰ A good) where
   pub bit-low : bit ≤ 1
   bit-low =
-      let r = called .step2 A h in
       let b = called .step3 A h in
-      bit-small H session n t (A .own) (A .message) (A .calls) z (opened .accepted A h) (r .0) (b .0) bit (b .1) (r .1) (r .2) (b .2) (b .3)
+      bit-small H session n t (A .own) (A .message) (A .calls) (opened .accepted A h) (b .0) bit (b .1) (b .2) (b .3)
 
   -- on bit 0
   pub ended : bit ≡ 0
@@ -339,7 +338,7 @@ module _ (H : List ℕ → List ℕ) (session n t : ℕ) (good : List Good) (z :
   ended b0 =
       let r = called .step2 A h in
       let b = called .step3 A h in
-      let e = ran-none H session n t (A .own) (A .message) (A .calls) z (opened .accepted A h) (r .0) (b .0) (b .1) (r .1) (r .2) (b .2)
+      let e = ran-none H session n t (A .own) (A .message) (A .calls) (opened .accepted A h) z (r .0) (r .1) (r .2) (b .0) (b .1) (b .2)
       (b .3 ∙ ap (λ (k : ℕ). agreeBit k (b .1)) b0) in
       (e .0, e .1 ∙ ap lengths (out-zero H session n t (A .own) (A .message) z) ∙ lengths-none n)
 
@@ -351,7 +350,7 @@ module _ (H : List ℕ → List ℕ) (session n t : ℕ) (good : List Good) (z :
       let f = called .step4 b1 A h in
       let g = called .step5 b1 A h in
       conduct H session n t (A .own) (A .message) z (A .calls)
-      (ran-through H session n t (A .own) (A .message) (A .calls) z (opened .accepted A h) (r .0) (b .0) (f .0) (g .0) (b .1) (r .1) (r .2) (b .2)
+      (ran-through H session n t (A .own) (A .message) (A .calls) (opened .accepted A h) z (r .0) (r .1) (r .2) (b .0) (f .0) (g .0) (b .1) (b .2)
       (b .3 ∙ ap (λ (k : ℕ). agreeBit k (b .1)) b1) (f .1) (g .1))
 
 -- what is needed was hashed

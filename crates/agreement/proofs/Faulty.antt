@@ -3,9 +3,9 @@
 -- and relays the packet that it took, which passed under the same root. So it is never faulty where it is delivered, and no map names it. By cases of how far a
 -- party's accepted calls went. Assumes nothing.
 use mathlib.Core.Path.{_≡_, refl, sym, ap, ap₂, _∙_, subst}
-use mathlib.Core.Logic.{_⊎_, inl, inr, _≢_}
+use mathlib.Core.Logic.{_≢_}
 use mathlib.Core.Bool.{Bool, true, false, cond, _||_}
-use mathlib.Core.List.{List, [], _∷_, map, List·Memᴰ, List·Memᴰ·not-nil, List·Memᴰ·cases-cons}
+use mathlib.Core.List.{List, [], map, List·Memᴰ, List·Memᴰ·not-nil}
 use mathlib.Core.Option.{Option, none, some, Option·none-ne-some}
 use Prim.Native.Nat.{ℕ, zero, suc, _+_, _-_, _≤_}
 use native.Mathlib.Decide.{decLt}
@@ -38,11 +38,12 @@ use Rattle.agreement.specs.Faulty.{faultyFirst, faultySecond, last, Name
 use Rattle.agreement.specs.Faulty.{Member, Every, begun, step, Premises, Unnamed, NoGoodNamed, memberOf, NoGoodNamedInAgreement}
 use Rattle.agreement.specs.Agreement.{Good}
 use Rattle.agreement.specs.Agreement as agreement
-use Rattle.agreement.proofs.Lists.{same-some, same-root, one-bit, first-in}
+use Rattle.agreement.proofs.Lists.{same-some, same-root, one-bit, on-cons, first-in}
 use Rattle.agreement.proofs.Mapped.{in-map, all-map}
 use Rattle.agreement.proofs.Run.{Chain, still, gave-held}
-use Rattle.agreement.proofs.Ran.{opened-is, X1, X2, X3, ev2, ev3, ev4, ev5, x0-is, fin, did-chain}
-use Rattle.agreement.proofs.Course.{Course, at-root, at-bit, ended-void, at-first, at-second, ended, course, every-map, final-map}
+use Rattle.agreement.proofs.Ran.{opened-is, X1, X2, X3, ev2, ev3, ev4, ev5, Course, at-root, at-bit, ended-void, at-first, at-second, ended}
+use Rattle.agreement.proofs.Ran.{x0-is, fin, did-chain, goes, third}
+use Rattle.agreement.proofs.Mapping.{every-map, final-map}
 use Rattle.agreement.proofs.Ended.{later-holds, opened-did}
 use Rattle.agreement.proofs.Needed.{glad}
 use Rattle.agreement.proofs.Conduct.{none-silent, out-happy, out-unhappy, out-zero, it, relay-happy, relay-is, relay-found}
@@ -65,13 +66,6 @@ at-none : (n k : ℕ) → getD {A = List ℕ} (replicate n []) k [] ≡ []
 at-none zero k = refl
 at-none (suc n) zero = refl
 at-none (suc n) (suc k) = at-none n k
-
-on-cons : (P : Event → Type 0) (d : Event) (es : List Event) → P d → ((e : Event) → List·Memᴰ e es → P e) → (e : Event) → List·Memᴰ e (d ∷ es) → P e
-on-cons P d es p f e h = go (List·Memᴰ·cases-cons h)
-  where
-    go : (e ≡ d) ⊎ List·Memᴰ e es → P e
-    go (inl q) = subst P (sym q) p
-    go (inr k) = f e k
 
 -- one party, told by how far its accepted calls went
 module _ (H : List ℕ → List ℕ) (session n t i : ℕ) (m : List ℕ) where
@@ -99,15 +93,7 @@ module _ (H : List ℕ → List ℕ) (session n t i : ℕ) (m : List ℕ) where
         let s = still H 0 x fin rest r a h .5 in
         (g .map-held ∙ s, g .map-given ∙ s)
 
-  -- its accepted steps 3 and 4
-  record Third (es : List Event) (e : Event) : Type 0 where
-    z : List ℕ
-    bit : ℕ
-    out : List ℕ
-    low : bit ≤ 1
-    told : first 2 es ≡ some (E2 z)
-    is : e ≡ ev3 H session n t i m z bit out
-
+  -- its accepted step 4
   record Fourth (es : List Event) (e : Event) : Type 0 where
     z : List ℕ
     out : List ℕ
@@ -116,19 +102,6 @@ module _ (H : List ℕ → List ℕ) (session n t i : ℕ) (m : List ℕ) where
     told : first 2 es ≡ some (E2 z)
     bit-one : first 3 es ≡ some (ev3 H session n t i m z 1 out)
     is : e ≡ E4 z in4 out4
-
-  third : (fin : Party) (es : List Event) → Course H session n t i m fin es → (e : Event) → first 3 es ≡ some e → Third es e
-  unfolding first
-  third fin es (at-root q h) e f = absurd (Option·none-ne-some e (rw q at f))
-  third fin es (at-bit z q h) e f = absurd (Option·none-ne-some e (rw q at f))
-  third fin es (ended-void z out rest q h) e f =
-      record { z = z; bit = 0; out = out; low = omega arith; told = rw q; is = sym (same-some (rw q at f)) }
-  third fin es (at-first z out q h) e f =
-      record { z = z; bit = 1; out = out; low = omega arith; told = rw q; is = sym (same-some (rw q at f)) }
-  third fin es (at-second z out in4 out4 q h) e f =
-      record { z = z; bit = 1; out = out; low = omega arith; told = rw q; is = sym (same-some (rw q at f)) }
-  third fin es (ended z out in4 out4 in5 out5 rest q h) e f =
-      record { z = z; bit = 1; out = out; low = omega arith; told = rw q; is = sym (same-some (rw q at f)) }
 
   fourth : (fin : Party) (es : List Event) → Course H session n t i m fin es → (e : Event) → first 4 es ≡ some e → Fourth es e
   unfolding first
@@ -214,8 +187,8 @@ module _ (H : List ℕ → List ℕ) (session n t i : ℕ) (m : List ℕ) where
     abbrev saw : List Event → Bool
     saw l = faultyFirst H session n i z p (first 4 l) || faultySecond H session n i z p (first 5 l)
 
-    goes : Course H session n t i m end its
-    goes = course H session n t i m end its (did-chain H session n t i m calls o)
+    course : Course H session n t i m end its
+    course = goes H session n t i m calls o
 
     under : (y : List ℕ) → first 2 its ≡ some (E2 y) → y ≡ z
     under y f = same-root (root (E2 y) f)
@@ -253,10 +226,10 @@ module _ (H : List ℕ → List ℕ) (session n t i : ℕ) (m : List ℕ) where
     unfolding atSecond
     named =
         record {
-          first = λ e f. let k = fourth end its goes e f in
+          first = λ e f. let k = fourth end its course e f in
               subst (λ (v : Event). names (v .reply .state .faulty) p ≡ sentFaulty H session n i z (inboxIn (v .call)) i p) (sym (k .is))
               (first-names z p a b (k .z) (under (k .z) (k .told)) (k .in4));
-          after = ap (λ (x : Party). names (x .faulty) p) last-is ∙ names-end goes;
+          after = ap (λ (x : Party). names (x .faulty) p) last-is ∙ names-end course;
           given = λ e k five. let g = gave-held H _ end its (did-chain H session n t i m calls o) e k five in
               (g .map-given ∙ sym (ap (λ (x : Party). x .faulty) last-is), g .map-held ∙ sym (ap (λ (x : Party). x .faulty) last-is));
         }
@@ -347,7 +320,7 @@ module _ (H : List ℕ → List ℕ) (wide : (s : List ℕ) → length (H s) ≡
     codes = open-coded n (A .t) (A .own) (A .message) cause
 
     went : Course H session n (A .t) (A .own) (A .message) (fin H session n (A .t) (A .own) (A .message) (A .calls) opened) (its-calls A)
-    went = course H session n (A .t) (A .own) (A .message) _ (its-calls A) (did-chain H session n (A .t) (A .own) (A .message) (A .calls) opened)
+    went = goes H session n (A .t) (A .own) (A .message) (A .calls) opened
 
   told : (A : Member) → List·Memᴰ A good → (y : List ℕ) → first 2 (its-calls A) ≡ some (ev2 H session n (A .t) (A .own) (A .message) y) → y ≡ z
   told A h y f = same-root (P .root A h (ev2 H session n (A .t) (A .own) (A .message) y) f)
@@ -463,8 +436,7 @@ module _ (H : List ℕ → List ℕ) (session n t : ℕ) (good : List Good) (z :
 
   went-on : (A : Good) (h : List·Memᴰ A good) → Course H session n t (A .own) (A .message)
       (fin H session n t (A .own) (A .message) (A .calls) (P .opened .accepted A h)) (did H session n t (A .own) (A .message) (A .calls))
-  went-on A h =
-      course H session n t (A .own) (A .message) _ _ (did-chain H session n t (A .own) (A .message) (A .calls) (P .opened .accepted A h))
+  went-on A h = goes H session n t (A .own) (A .message) (A .calls) (P .opened .accepted A h)
 
   bit-is-one : (A : Good) → List·Memᴰ A good → (e : Event) → call 4 A ≡ some e → bit ≡ 1
   bit-is-one A h e f =

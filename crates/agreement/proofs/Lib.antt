@@ -2,12 +2,12 @@ pub mod Lists
 pub mod Mapped
 pub mod Run
 pub mod Ran
-pub mod Course
 pub mod Ended
 pub mod Later
 pub mod Needed
 pub mod Conduct
 pub mod Strings
+pub mod Mapping
 pub mod Faulty
 pub mod Depends
 pub mod Agreement

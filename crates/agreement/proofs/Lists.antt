@@ -74,6 +74,11 @@ unfolding joinOver
 in-join f {x = x} (List·Memᴰ·head {x = b} {xs = l} e) k = Memᴰ·append-left (joinOver f l) (subst (λ c. List·Memᴰ x (f c)) e k)
 in-join f (List·Memᴰ·tail {x = b} {xs = l} h) k = Memᴰ·append-right (f b) (in-join f h k)
 
+-- what holds of the first and of the rest holds of all
+pub on-cons : {A : Type 0} (P : A → Type 0) (d : A) (l : List A) → P d → ((a : A) → List·Memᴰ a l → P a) → (a : A) → List·Memᴰ a (d ∷ l) → P a
+on-cons P d l p f a (List·Memᴰ·head e) = subst P (sym e) p
+on-cons P d l p f a (List·Memᴰ·tail h) = f a h
+
 -- a search
 pub find : {A : Type 0} (f : A → Bool) (l : List A)
     → ((a : A) × List·Memᴰ a l × (f a ≡ true)) ⊎ ((a : A) → List·Memᴰ a l → f a ≡ false)

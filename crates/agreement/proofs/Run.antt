@@ -3,12 +3,12 @@
 -- steps, and by inductions over the list of calls. Assumes nothing.
 use mathlib.Core.Path.{_≡_, refl, sym, ap, _∙_, subst}
 use mathlib.Core.Logic.{_⊎_, inl, inr, _≢_}
-use mathlib.Core.Bool.{true, false, cond, not}
+use mathlib.Core.Bool.{false, cond, not}
 use mathlib.Core.List.{List, [], _∷_, List·Memᴰ, List·Memᴰ·not-nil, List·Memᴰ·cases-cons}
-use mathlib.Core.Option.{Option, some, Option·none-ne-some}
+use mathlib.Core.Option.{Option, some}
 use Prim.Native.Nat.{ℕ, _≤_}
 use native.Mathlib.Omega.{arith}
-use borrow.Author.Tests.{ltb-false, eqb-true, eqb-false, eq-eqb}
+use borrow.Author.Tests.{ltb-false, eqb-true, eqb-false}
 use lib.Dec.{eqb, ltb}
 use lib.ListN.{length}
 use Rattle.buffer.specs.Splice.{spliced}
@@ -25,9 +25,8 @@ use Rattle.commitment.proofs.Opening.{cleared, spared}
 use Rattle.party.proofs.Causes.{state-sound, inbox-sound, relays-sound}
 use Rattle.party.proofs.Outcomes.{root-refused, root-given, holds-ended}
 use Rattle.party.proofs.Kept.{result-end}
-use Rattle.agreement.specs.Calls.{Call, agreeRoot, agreeBit, takeShares, takeRelays, stepOf, Event, accepted, first, writtenBy}
+use Rattle.agreement.specs.Calls.{Call, agreeRoot, agreeBit, takeShares, takeRelays, stepOf, Event, accepted, writtenBy}
 use Rattle.agreement.specs.Calls.{sentIn, sentOver, made, events, final, stringsOver, checkedIn, checkedOver, judgedIn, judgedOver, recodedIn, recodedOver}
-use Rattle.agreement.proofs.Lists.{same-some}
 
 -- a call is taken, or turned away with the state kept and no map given
 abbrev Turned : Party → Stepped → Type 0
@@ -236,21 +235,6 @@ module _ (H : List ℕ → List ℕ) where
   -- the next accepted call is the one that the stage awaits
   pub leads : (x fin : Party) (d : Event) (es : List Event) → Chain x (d ∷ es) fin → turnOf (x .stage) ≡ stepOf (d .call)
   leads x fin d es h = in-turn x (d .call) (subst (λ (v : Event). v .reply .cause ≡ 0) (h .0) (h .1))
-
-  pub next : (k : ℕ) (x fin : Party) (es : List Event) (e : Event) → turnOf (x .stage) ≡ k → Chain x es fin → first k es ≡ some e
-      → (rest : List Event) × (es ≡ e ∷ rest) × (e ≡ event x (e .call)) × (e .reply .cause ≡ 0) × Chain (e .reply .state) rest fin
-  unfolding first
-  next k x fin [] e a h q = absurd (Option·none-ne-some e q)
-  next k x fin (d ∷ es) e a h q =
-      let s : eqb (stepOf (d .call)) k ≡ true =
-      eq-eqb (stepOf (d .call)) k (sym (leads x fin d es h) ∙ a) in
-      let w : d ≡ e = same-some (rw s at q) in (
-        es,
-        ap (λ (v : Event). v ∷ es) w,
-        subst (λ (v : Event). v ≡ event x (v .call)) w (h .0),
-        subst (λ (v : Event). v .reply .cause ≡ 0) w (h .1),
-        subst (λ (v : Event). Chain (v .reply .state) es fin) w (h .2),
-      )
 
   -- an accepted step 5 gives a result and a map, and the state holds them
   ends : (x : Party) (inbox out : List ℕ) → made H x (takeRelays inbox out) .cause ≡ 0 → let r = made H x (takeRelays inbox out) in
