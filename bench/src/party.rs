@@ -81,7 +81,7 @@ impl Party for Proved {
     }
 
     fn take_relays(&mut self, inbox: &[u8], out: &mut [u8]) -> Option<usize> {
-        let settled = lawful(calls::take_relays(&mut self.0, inbox, out)) == 1;
+        let settled = lawful(calls::take_relays(&mut self.0, inbox, out)) % 2 == 1;
         settled.then(|| lawful(calls::result_length(&self.0)))
     }
 }
@@ -125,6 +125,6 @@ impl Party for Foreign {
     }
 
     fn take_relays(&mut self, inbox: &[u8], out: &mut [u8]) -> Option<usize> {
-        self.step(|state| state.take_relays(inbox, out))
+        self.step(|state| state.take_relays(inbox, out)).length
     }
 }

@@ -1,6 +1,11 @@
 //! One party: its state, its opening, with a message of its own or by a sender, and steps 2 to 5. A
 //! step takes the state apart into lawful values, works on those, and builds the next state anew.
 
+#[cfg(test)]
+mod cheats;
+
+use std::collections::BTreeSet;
+
 use crate::coder::{find_message, frame_of, shares_of};
 use crate::commitment;
 use crate::inbox::{entries, lay_out};
@@ -52,6 +57,8 @@ pub struct State {
     pub root: Hash,
     pub share: [u8; LONGEST_SHARE],
     pub held: u64,
+    /// The map of the parties seen to cheat: party p has value two to the p - 1.
+    pub faulty: u32,
 }
 
 /// Why a call was turned away: the cause and, for cause 9, the length needed.
@@ -67,6 +74,14 @@ pub struct Refusal {
 pub struct Begun {
     pub root: Hash,
     pub written: usize,
+}
+
+/// What step 5 answers: the length of the message, or none for nothing, and the map of the parties
+/// seen to cheat.
+#[derive(Clone, Copy, Debug, PartialEq, Eq)]
+pub struct Ending {
+    pub length: Option<usize>,
+    pub faulty: u32,
 }
 
 /// What a step gives back: the next state, and its answer or a refusal.
@@ -87,6 +102,7 @@ struct Party {
     message: Vec<u8>,
     root: Hash,
     held: Vec<u8>,
+    cheats: BTreeSet<usize>,
 }
 
 /// The three numbers in range, or the lowest of causes 1 to 3.
@@ -106,6 +122,34 @@ fn group(n: u64, t: u64, own: u64) -> Result<(usize, usize, usize), u32> {
 /// The first `length` bytes, if there are as many.
 fn first(bytes: &[u8], length: u64) -> Option<&[u8]> {
     bytes.get(..usize::try_from(length).ok()?)
+}
+
+/// The parties in a map, if each is another one than `own` and up to n.
+fn others_in(map: u32, n: usize, own: usize) -> Option<BTreeSet<usize>> {
+    let in_map = |party: &usize| map >> (party - 1) & 1 == 1;
+    let parties: BTreeSet<usize> = (1..=u32::BITS as usize).filter(in_map).collect();
+    let lawful = parties.iter().all(|&party| party <= n && party != own);
+    lawful.then_some(parties)
+}
+
+/// The map of these parties.
+fn map_of(parties: &BTreeSet<usize>) -> u32 {
+    parties.iter().map(|party| 1 << (party - 1)).sum()
+}
+
+/// The senders whose packets are faulty.
+fn cheats(standings: &[Standing]) -> impl Iterator<Item = usize> + '_ {
+    let numbered = (1..).zip(standings);
+    numbered.filter_map(|(sender, it)| (*it == Standing::Faulty).then_some(sender))
+}
+
+/// The lowest sender whose packet is valid, and its share.
+fn lowest(standings: &[Standing]) -> Option<(usize, &[u8])> {
+    let mut numbered = (1..).zip(standings);
+    numbered.find_map(|(sender, it)| match it {
+        Standing::Valid(share) => Some((sender, &share[..])),
+        _ => None,
+    })
 }
 
 /// The bytes with zeros behind them.
@@ -137,6 +181,7 @@ impl State {
             root: [0; 32],
             share: [0; LONGEST_SHARE],
             held: 0,
+            faulty: 0,
         }
     }
 
@@ -153,6 +198,7 @@ impl State {
                 message,
                 root: [0; 32],
                 held: Vec::new(),
+                cheats: BTreeSet::new(),
             })
         });
         match opened {
@@ -225,17 +271,19 @@ impl State {
         })
     }
 
-    /// Step 4; the answer is the length of the relay, 0 if there is none.
+    /// Step 4; the answer is the length of the relay, 0 if there is none. The map starts anew.
     pub fn take_shares(self, inbox: &[u8], out: &mut [u8]) -> Given<usize> {
         self.step(Stage::First, |mut party| {
             let senders = entries(party.n, inbox)?;
+            let standings = party.judged_first(&senders);
+            party.cheats = cheats(&standings).collect();
             party.held = Vec::new();
             let relay = if party.n == 1 {
                 Vec::new()
             } else if party.happy() {
                 party.packet(party.own)
-            } else if let Some((sender, share)) = party.lowest(&senders) {
-                party.held = share;
+            } else if let Some((sender, share)) = lowest(&standings) {
+                party.held = share.to_vec();
                 senders[sender - 1].to_vec()
             } else {
                 Vec::new()
@@ -245,17 +293,18 @@ impl State {
         })
     }
 
-    /// Step 5; the answer is the length of the message, or none for nothing. A party that has
-    /// ended gives its result again, whatever the inbox.
-    pub fn take_relays(self, inbox: &[u8], out: &mut [u8]) -> Given<Option<usize>> {
+    /// Step 5; who cheated in either inbox is in the map. A party that has ended gives its result
+    /// and its map again, whatever the inbox.
+    pub fn take_relays(self, inbox: &[u8], out: &mut [u8]) -> Given<Ending> {
         if let Stage::Ended(outcome) = self.stage {
             return self.read_again(outcome, out);
         }
-        self.step(Stage::Second, |party| {
-            let senders = entries(party.n, inbox)?;
+        self.step(Stage::Second, |mut party| {
+            let standings = party.judged_second(&entries(party.n, inbox)?);
+            party.cheats.extend(cheats(&standings));
             let found = if party.happy() {
                 Some(party.message.clone())
-            } else if let Rebuilt::Message(message) = party.rebuilt(&senders) {
+            } else if let Rebuilt::Message(message) = party.rebuilt(standings) {
                 Some(message)
             } else {
                 None
@@ -264,8 +313,8 @@ impl State {
         })
     }
 
-    /// The result in the stage and the message's room; nothing else of the state is kept.
-    fn read_again(self, outcome: Outcome, out: &mut [u8]) -> Given<Option<usize>> {
+    /// The result in the stage and the message's room, and the map; nothing else of the state is kept.
+    fn read_again(self, outcome: Outcome, out: &mut [u8]) -> Given<Ending> {
         let room = self.message;
         self.step(Stage::Ended(outcome), |party| {
             let stored = match outcome {
@@ -279,20 +328,20 @@ impl State {
     /// The sender whose share step 4 takes from this inbox; none for a happy party.
     pub fn source(&self, inbox: &[u8]) -> Option<usize> {
         let (party, senders) = self.unhappy(inbox)?;
-        Some(party.lowest(&senders)?.0)
+        Some(lowest(&party.judged_first(&senders))?.0)
     }
 
     /// The shares that step 5 rebuilds from with this inbox, by number, no bytes standing for a
     /// missing one; none for a happy party.
     pub fn gathered(&self, inbox: &[u8]) -> Option<Vec<Vec<u8>>> {
         let (party, senders) = self.unhappy(inbox)?;
-        Some(party.gathered(&senders))
+        Some(party.gathered(party.judged_second(&senders)))
     }
 
     /// What step 5 rebuilds from them; none for a happy party, which codes nothing again.
     pub fn rebuilt(&self, inbox: &[u8]) -> Option<Rebuilt> {
         let (party, senders) = self.unhappy(inbox)?;
-        Some(party.rebuilt(&senders))
+        Some(party.rebuilt(party.judged_second(&senders)))
     }
 
     /// The values of a lawful, unhappy state, with the packets in its inbox.
@@ -324,7 +373,7 @@ impl State {
         self.lawful().is_some()
     }
 
-    /// The state's values, if none breaks a limit; lengths are judged at every stage.
+    /// The state's values, if none breaks a limit; lengths and the map are judged at every stage.
     fn lawful(&self) -> Option<Party> {
         let (n, t, own) = group(self.n, self.t, self.own).ok()?;
         if let Stage::Ended(Outcome::Message(length)) = self.stage {
@@ -338,6 +387,7 @@ impl State {
             message: first(&self.message, self.len)?.to_vec(),
             root: self.root,
             held: first(&self.share, self.held)?.to_vec(),
+            cheats: others_in(self.faulty, n, own)?,
         })
     }
 }
@@ -367,36 +417,43 @@ impl Party {
         packet::write(j, &shares[j - 1], &tree::path(self.session, &shares, j))
     }
 
-    /// The share in a packet that bears number j and passes the check.
-    fn valid(&self, j: usize, packet: &[u8]) -> Option<Vec<u8>> {
-        match classify(self.session, self.n, j, self.root, packet) {
-            Ok(Standing::Valid(share)) => Some(share),
-            _ => None,
-        }
+    /// What the packets of a first inbox are worth: of every sender this party's own number is
+    /// demanded.
+    fn judged_first(&self, senders: &[&[u8]]) -> Vec<Standing> {
+        self.judged(senders, |_| self.own)
     }
 
-    /// The lowest other sender whose packet holds a valid share for this party, and that share.
-    fn lowest(&self, senders: &[&[u8]]) -> Option<(usize, Vec<u8>)> {
-        (1..)
-            .zip(senders)
-            .filter(|&(sender, _)| sender != self.own)
-            .find_map(|(sender, packet)| Some((sender, self.valid(self.own, packet)?)))
+    /// What the packets of a second inbox are worth: of every sender its own number is demanded.
+    fn judged_second(&self, senders: &[&[u8]]) -> Vec<Standing> {
+        self.judged(senders, |sender| sender)
+    }
+
+    /// The party's own entry counts as silence.
+    fn judged(&self, senders: &[&[u8]], demanded: impl Fn(usize) -> usize) -> Vec<Standing> {
+        let judge = |(sender, packet): (usize, &&[u8])| {
+            if sender == self.own {
+                return Standing::Silent;
+            }
+            let j = demanded(sender);
+            classify(self.session, self.n, j, self.root, packet).expect("numbers in range")
+        };
+        (1..).zip(senders).map(judge).collect()
     }
 
     /// The valid relays and the party's own relayed share.
-    fn gathered(&self, senders: &[&[u8]]) -> Vec<Vec<u8>> {
-        (1..)
-            .zip(senders)
-            .map(|(sender, packet)| match sender == self.own {
-                true => self.held.clone(),
-                false => self.valid(sender, packet).unwrap_or_default(),
-            })
-            .collect()
+    fn gathered(&self, relays: Vec<Standing>) -> Vec<Vec<u8>> {
+        let share = |it| match it {
+            Standing::Valid(share) => share,
+            _ => Vec::new(),
+        };
+        let mut shares: Vec<Vec<u8>> = relays.into_iter().map(share).collect();
+        shares[self.own - 1] = self.held.clone();
+        shares
     }
 
     /// The message in what was gathered, held to the agreed root.
-    fn rebuilt(&self, senders: &[&[u8]]) -> Rebuilt {
-        let entries = lay_out(&self.gathered(senders));
+    fn rebuilt(&self, relays: Vec<Standing>) -> Rebuilt {
+        let entries = lay_out(&self.gathered(relays));
         match find_message(self.n, self.t, &entries) {
             Ok(message) if self.root_of(&message) == self.root => Rebuilt::Message(message),
             Ok(message) => Rebuilt::OtherRoot(message),
@@ -405,7 +462,7 @@ impl Party {
         }
     }
 
-    /// The state at a stage before the end. Root and share are zero where they are not had.
+    /// The state at a stage before the end. Root, share and map are zero where they are not had.
     fn awaiting(&self, stage: Stage) -> State {
         State {
             session: self.session,
@@ -427,23 +484,28 @@ impl Party {
                 Stage::Second => self.held.len() as u64,
                 _ => 0,
             },
+            faulty: match stage {
+                Stage::Second => map_of(&self.cheats),
+                _ => 0,
+            },
         }
     }
 
     /// Writes the message, if there is one, and ends with it or with nothing.
-    fn end(
-        &self,
-        found: Option<Vec<u8>>,
-        out: &mut [u8],
-    ) -> Result<(State, Option<usize>), Refusal> {
-        let written = match &found {
+    fn end(&self, found: Option<Vec<u8>>, out: &mut [u8]) -> Result<(State, Ending), Refusal> {
+        let length = match &found {
             Some(message) => Some(place(message, out)?),
             None => None,
         };
-        Ok((self.ended(found), written))
+        let state = State {
+            faulty: map_of(&self.cheats),
+            ..self.ended(found)
+        };
+        let faulty = state.faulty;
+        Ok((state, Ending { length, faulty }))
     }
 
-    /// The state at the end, with nothing or with the message found.
+    /// The state at the end, with nothing or with the message found, and the empty map.
     fn ended(&self, found: Option<Vec<u8>>) -> State {
         let outcome = match &found {
             Some(message) => Outcome::Message(message.len() as u64),
@@ -470,25 +532,29 @@ mod tests {
     use crate::sessions::EDGES;
     use std::collections::BTreeSet;
 
-    const LENT: u8 = 0xA5;
+    pub(super) const LENT: u8 = 0xA5;
 
-    fn cause<T: std::fmt::Debug>(given: Given<T>) -> u32 {
+    pub(super) fn cause<T: std::fmt::Debug>(given: Given<T>) -> u32 {
         given.1.expect_err("a refusal").cause
     }
 
-    fn short<T: std::fmt::Debug>(given: Given<T>) -> (u32, usize) {
+    pub(super) fn short<T: std::fmt::Debug>(given: Given<T>) -> (u32, usize) {
         let Refusal { cause, needed } = given.1.expect_err("a refusal");
         (cause, needed)
     }
 
     /// An accepted step's state and what it wrote.
-    fn wrote(given: impl FnOnce(&mut [u8]) -> Given<usize>) -> (State, Vec<u8>) {
+    pub(super) fn wrote(given: impl FnOnce(&mut [u8]) -> Given<usize>) -> (State, Vec<u8>) {
         let mut out = vec![LENT; LONGEST_OUTBOX];
         let (state, answer) = given(&mut out);
         let length = answer.expect("accepted");
         assert!(out[length..].iter().all(|&x| x == LENT));
         out.truncate(length);
         (state, out)
+    }
+
+    fn ending(length: Option<usize>, faulty: u32) -> Ending {
+        Ending { length, faulty }
     }
 
     /// The states of the good parties before the first inbox, and the packets that each sends.
@@ -512,7 +578,9 @@ mod tests {
         let (state, answer) = state.take_relays(inbox, &mut out);
         let second = state.clone().take_relays(&[], &mut again);
         assert_eq!((second, &again), ((state.clone(), answer), &out));
-        let found = answer.expect("accepted").map(|length| &out[..length]);
+        let Ending { length, faulty } = answer.expect("accepted");
+        assert_eq!(state.faulty, faulty);
+        let found = length.map(|length| &out[..length]);
         let held = match state.stage {
             Stage::Ended(Outcome::Message(length)) => first(&state.message, length),
             Stage::Ended(Outcome::Nothing) => None,
@@ -570,7 +638,7 @@ mod tests {
             let (state, _) = state.take_relays(&[0; 6], &mut [0; 2]);
             assert_eq!(state.session, session);
             let (state, again) = state.take_relays(&[], &mut [0; 2]);
-            assert_eq!((state.session, again), (session, Ok(Some(2))));
+            assert_eq!((state.session, again), (session, Ok(ending(Some(2), 0))));
         }
         let refused = State::open(7, 3, 1, 4, b"AB");
         assert_eq!((refused.0, refused.1.is_ok()), (State::blank(), false));
@@ -611,7 +679,8 @@ mod tests {
                 ..State::blank()
             };
             assert_eq!(state, nothing);
-            assert_eq!(state.take_relays(&[], &mut []), (nothing, Ok(None)));
+            let given = state.take_relays(&[], &mut []);
+            assert_eq!(given, (nothing, Ok(ending(None, 0))));
         }
     }
 
@@ -752,6 +821,8 @@ mod tests {
             |s: &mut State| s.own = 3,
             |s: &mut State| s.len = LONGEST_MESSAGE as u64 + 1,
             |s: &mut State| s.held = LONGEST_SHARE as u64 + 1,
+            |s: &mut State| s.faulty = 1,
+            |s: &mut State| s.faulty = 4,
             |s: &mut State| s.stage = Stage::Ended(Outcome::Message(LONGEST_MESSAGE as u64 + 1)),
         ] {
             let mut broken = state.clone();
@@ -775,6 +846,7 @@ mod tests {
                 None => Outcome::Nothing,
             }),
             message: padded(bytes),
+            faulty: 5,
             ..State::blank()
         };
         let mut dirty = State {
@@ -801,7 +873,7 @@ mod tests {
         ] {
             let [clean, dirty] = ended(result);
             let bytes = result.unwrap_or_default();
-            let accepted = (clean.clone(), Ok(result.map(<[u8]>::len)));
+            let accepted = (clean.clone(), Ok(ending(result.map(<[u8]>::len), 5)));
             for inbox in INBOXES {
                 for (state, more) in [(&clean, 0), (&dirty, 0), (&dirty, 9)] {
                     let mut out = vec![LENT; bytes.len() + more];
@@ -935,7 +1007,7 @@ mod tests {
                 for room in [0, message.len() - 1, message.len()] {
                     let mut out = vec![LENT; room];
                     let (ended, answer) = state.clone().take_relays(&inbox, &mut out);
-                    assert_eq!(answer, Ok(None));
+                    assert_eq!(answer, Ok(ending(None, 0)));
                     assert_eq!(ended.stage, Stage::Ended(Outcome::Nothing));
                     assert_eq!(out, vec![LENT; room]);
                 }

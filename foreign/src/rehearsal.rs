@@ -7,6 +7,8 @@
 //! open.
 
 #[cfg(test)]
+mod cheats;
+#[cfg(test)]
 mod senders;
 #[cfg(test)]
 mod sessions;
@@ -158,6 +160,10 @@ pub struct Takings {
     pub gathered: Vec<Option<Vec<Vec<u8>>>>,
     /// What these gave.
     pub rebuilt: Vec<Option<Rebuilt>>,
+    /// The maps of the parties seen to cheat: in the first inbox, and in all, as it is given with the
+    /// result.
+    pub faulty_first: Vec<u32>,
+    pub faulty: Vec<u32>,
 }
 
 /// What the rehearsal prints for a plan.
@@ -520,18 +526,21 @@ fn exchanged(states: Vec<State>, plan: &mut Plan) -> Option<(Vec<State>, Takings
     for (&own, relay) in plan.good.iter().zip(relays) {
         plan.second[own - 1] = to_all_others(plan.n, own, &relay);
     }
+    let faulty_first = states.iter().map(|state| state.faulty).collect();
     let places = with_inboxes(states, &plan.good, &plan.second);
     let gathered = places.iter().map(|(state, inbox)| state.gathered(inbox));
     let gathered = gathered.collect();
     let rebuilt = places.iter().map(|(state, inbox)| state.rebuilt(inbox));
     let rebuilt = rebuilt.collect();
-    let (states, _) = each(places, |(state, inbox)| {
+    let (states, endings) = each(places, |(state, inbox)| {
         state.take_relays(&inbox, &mut [0; LONGEST_MESSAGE])
     })?;
     let takings = Takings {
         sources,
         gathered,
         rebuilt,
+        faulty_first,
+        faulty: endings.iter().map(|ending| ending.faulty).collect(),
     };
     Some((states, takings))
 }

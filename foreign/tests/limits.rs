@@ -88,7 +88,7 @@ fn program() -> String {
 fn due(name: &str) -> String {
     match name {
         "ROOT" => "CIPANGOHU_ROOT".to_string(),
-        "STATE" => "(13 + CIPANGOHU_ROOT + MAX_MESSAGE + MAX_SHARE)".to_string(),
+        "STATE" => "(17 + CIPANGOHU_ROOT + MAX_MESSAGE + MAX_SHARE)".to_string(),
         "INBOX" => "(MAX_PARTIES * (2 + MAX_ENTRY))".to_string(),
         _ => format!("MAX_{name}"),
     }

@@ -5,9 +5,9 @@ use foreign::rehearsal::{Fault, Round, Sender, Takings};
 
 use crate::books::Hints;
 use crate::causes::{detail, words};
-use crate::phrases::{bytes, name, numbers, short, EXCHANGES};
+use crate::phrases::{bytes, name, named, numbers, short, EXCHANGES};
 use crate::text::written;
-use crate::view::View;
+use crate::view::{Parcel, View};
 
 pub fn explain(plan: &[u8], hints: &Hints) -> String {
     match View::new(plan, hints) {
@@ -43,7 +43,7 @@ impl View {
         );
         let rest = match &self.session.takings {
             Some(takings) => self.exchanges(takings),
-            None => "\nOn bit 0 every good box ends with nothing; \
+            None => "\nOn bit 0 every good box ends with nothing and sees no box cheat; \
                 what the plan says of the first and the second exchange is not used.\n"
                 .to_string(),
         };
@@ -63,7 +63,7 @@ impl View {
 
     fn sender(&self, sender: &Sender) -> String {
         let mut text = format!("\nThe sender's exchange: {}\n", self.sender_title(sender));
-        text += &self.packets(Round::Sender);
+        text += &packets(&self.parcels(Round::Sender));
         for (place, number) in self.session.plan.good.iter().enumerate() {
             text += &format!("  box {number} {}\n", self.opening(sender, place));
         }
@@ -101,11 +101,13 @@ impl View {
     fn exchanges(&self, takings: &Takings) -> String {
         let mut text = String::new();
         for round in EXCHANGES {
-            text += &format!("\nThe {} exchange\n{}", name(round), self.packets(round));
+            let parcels = self.parcels(round);
+            text += &format!("\nThe {} exchange\n{}", name(round), packets(&parcels));
             for (place, number) in self.session.plan.good.iter().enumerate() {
                 let step = self.step(round, takings, place);
                 text += &format!("  box {number} {step}\n");
             }
+            text += &cheats(&parcels);
         }
         text + &self.results()
     }
@@ -120,6 +122,9 @@ impl View {
             text += "  the empty book is a book and not nothing: below, '=' stands for it and '-' \
                 for nothing\n";
         }
+        for (place, number) in self.session.plan.good.iter().enumerate() {
+            text += &format!("  box {number} saw {} cheat\n", named(&self.seen(place)));
+        }
         let [sender, first, second] = self.session.bytes_sent();
         text + &match self.session.plan.sender {
             Some(_) => format!(
@@ -131,15 +136,29 @@ impl View {
             ),
         }
     }
+}
 
-    /// A line for each packet.
-    fn packets(&self, round: Round) -> String {
-        let mut text = String::new();
-        for it in self.parcels(round) {
-            let (length, worth) = (bytes(it.length), it.worth.words());
-            let way = format!("{} to {}", it.sender, it.receiver);
-            text += &format!("  {way:<8} {length:>11}   {worth:<18} {}\n", it.what);
-        }
-        text
+/// A line for each packet.
+fn packets(parcels: &[Parcel]) -> String {
+    let mut text = String::new();
+    for it in parcels {
+        let (length, worth) = (bytes(it.length), it.worth.words());
+        let way = format!("{} to {}", it.sender, it.receiver);
+        text += &format!("  {way:<8} {length:>11}   {worth:<18} {}\n", it.what);
     }
+    text
+}
+
+/// A line for each packet that shows that its sender cheats, by receiver and sender.
+fn cheats(parcels: &[Parcel]) -> String {
+    let mut seen: Vec<&Parcel> = parcels.iter().filter(|it| it.fault.is_some()).collect();
+    seen.sort_by_key(|it| (it.receiver, it.sender));
+    let line = |it: &Parcel| {
+        let fault = it.fault.as_ref()?;
+        Some(format!(
+            "  box {} sees box {} cheat: its packet {fault}\n",
+            it.receiver, it.sender
+        ))
+    };
+    seen.into_iter().filter_map(line).collect()
 }

@@ -60,6 +60,15 @@ fn counted(count: usize, one: &str, more: &str) -> String {
     }
 }
 
+/// Some boxes by their numbers.
+pub fn named(boxes: &[usize]) -> String {
+    match boxes {
+        [] => "no box".to_string(),
+        [one] => format!("box {one}"),
+        _ => format!("boxes {}", numbers(boxes)),
+    }
+}
+
 /// Numbers one after the other.
 pub fn numbers(numbers: &[usize]) -> String {
     let numbers: Vec<String> = numbers.iter().map(usize::to_string).collect();

@@ -4,7 +4,7 @@ use foreign::rehearsal::{Fault, Round, Sender, Takings};
 
 use crate::books::Hints;
 use crate::explain::{preface, refused};
-use crate::phrases::{bytes, cut, name, short, EXCHANGES};
+use crate::phrases::{bytes, cut, name, named, short, EXCHANGES};
 use crate::svg::{wrapped, Svg};
 use crate::text::written;
 use crate::view::{Parcel, View, Worth};
@@ -21,13 +21,15 @@ const PACKET_SHOWN: usize = 40;
 /// The narrowest picture, so that headings have room.
 const LEAST_WIDTH: i32 = 640;
 
+/// What the mark on an arrow means.
+const CHEAT: &str = "the receiver sees the sender cheat";
+
 /// What an arrow of a kind, with further classes, means.
 type Entry = (&'static str, &'static str, &'static str);
 const OF_BOOKS: [Entry; 1] = [("book", "", "a book that is read")];
-const OF_SHARES: [Entry; 4] = [
+const OF_SHARES: [Entry; 3] = [
     ("passes", "", "passes the check"),
     ("passes", "taken", "passes, is taken and relayed"),
-    ("passes", "pale", "to a happy box, which does not look"),
     ("fails", "", "fails the check, or bears another number"),
 ];
 const OF_BOTH: [Entry; 3] = [
@@ -147,8 +149,8 @@ impl Picture<'_> {
         self.cards(cards.collect());
         let title = self.view.sender_title(sender);
         self.bar(&format!("The sender's exchange: {title}"));
-        self.exchange(Round::Sender);
-        self.steps(|view, place| view.opening(sender, place));
+        let parcels = self.exchange(Round::Sender);
+        self.steps(&parcels, |view, place| view.opening(sender, place));
     }
 
     /// What a box is before it opens.
@@ -182,26 +184,16 @@ impl Picture<'_> {
     /// Cards beside each other, all as high as the highest.
     fn cards(&mut self, cards: Vec<Card>) {
         let letters = self.letters();
-        let lines = |card: &Card| -> Vec<String> {
-            card.text
-                .iter()
-                .flat_map(|it| wrapped(it, letters))
-                .collect()
-        };
-        let most = cards.iter().map(|card| lines(card).len()).max();
+        let most = cards.iter().map(|card| card.lines(letters).len()).max();
         let height = most.unwrap_or(0) as i32 * LINE + 10;
         for card in cards {
             let x = self.x(card.number);
             let corner = (x - self.column / 2 + 4, self.y);
             let class = format!("card {}", card.class);
             self.svg.rect(corner, (self.column - 8, height), &class);
-            for (place, line) in (1..).zip(lines(&card)) {
+            for (place, (line, class)) in (1..).zip(card.lines(letters)) {
                 let at = (x, self.y + place * LINE + 2);
-                let class = match place == 1 && card.titled {
-                    true => "middle strong",
-                    false => "middle",
-                };
-                self.svg.text(at, class, &line);
+                self.svg.text(at, &format!("middle {class}"), &line);
             }
         }
         self.y += height + 12;
@@ -219,8 +211,8 @@ impl Picture<'_> {
         for (round, sent) in EXCHANGES.into_iter().zip(sent) {
             let (name, sent) = (name(round), bytes(sent));
             self.bar(&format!("The {name} exchange: the good boxes send {sent}"));
-            self.exchange(round);
-            self.steps(|view, place| view.step(round, takings, place));
+            let parcels = self.exchange(round);
+            self.steps(&parcels, |view, place| view.step(round, takings, place));
         }
         self.results()
     }
@@ -234,36 +226,52 @@ impl Picture<'_> {
     fn results(&mut self) -> i32 {
         self.bar("Results");
         let end = self.y;
-        let cards = self.view.session.plan.good.iter().enumerate();
-        let cards = cards.map(|(place, &number)| {
-            let class = match self.view.session.results[place] {
-                Some(_) => "happy",
-                None => "step",
-            };
-            let title = format!("box {number}");
-            Card::new(number, class, &[title, self.view.ending(place)])
-        });
+        let cards = (1..=self.view.n()).map(|number| self.result(number));
         self.cards(cards.collect());
         end
     }
 
-    /// What each good box does.
-    fn steps(&mut self, step: impl Fn(&View, usize) -> String) {
+    /// How a good box ends and whom it saw cheat, or who saw a bad one.
+    fn result(&self, number: usize) -> Card {
+        let title = format!("box {number}");
+        let Some(place) = self.view.place(number) else {
+            let by = named(&self.view.seen_by(number));
+            return Card::new(number, "bad", &[title, format!("seen to cheat by {by}")]);
+        };
+        let class = match self.view.session.results[place] {
+            Some(_) => "happy",
+            None => "step",
+        };
+        let seen = self.view.seen(place);
+        let saw = format!("saw {} cheat", named(&seen));
+        let mut card = Card::new(number, class, &[title, self.view.ending(place)]);
+        match seen.is_empty() {
+            true => card.text.push(saw),
+            false => card.seen = Some(saw),
+        }
+        card
+    }
+
+    /// What each good box does with these packets, and whom it sees cheat.
+    fn steps(&mut self, parcels: &[Parcel], step: impl Fn(&View, usize) -> String) {
         let good = self.view.session.plan.good.iter().enumerate();
         let cards = good.map(|(place, &number)| Card {
             number,
             class: "step",
             text: vec![step(self.view, place)],
             titled: false,
+            seen: sees(parcels, number),
         });
         self.cards(cards.collect());
     }
 
-    fn exchange(&mut self, round: Round) {
+    /// The packets of an exchange.
+    fn exchange(&mut self, round: Round) -> Vec<Parcel> {
         let parcels = self.view.parcels(round);
         for row in parcels.chunk_by(|one, next| one.sender == next.sender) {
             self.row(row);
         }
+        parcels
     }
 
     /// One sender's packets.
@@ -282,12 +290,15 @@ impl Picture<'_> {
     fn parcel(&mut self, from: (i32, i32), parcel: &Parcel) -> i32 {
         let (x, y) = (self.x(parcel.receiver), from.1 + FALL);
         let kind = kind(parcel.worth);
-        let class = match (parcel.taken, parcel.looked_at) {
+        let class = match (parcel.taken, parcel.worth) {
             (true, _) => "taken",
-            (_, true) => "",
-            _ => "pale",
+            (_, Worth::ToBadBox) => "pale",
+            _ => "",
         };
         self.svg.arrow(from, (x, y), kind, class);
+        if parcel.fault.is_some() {
+            self.svg.mark(behind_head(from, (x, y)));
+        }
         let what = wrapped(&cut(&parcel.what, PACKET_SHOWN), self.letters());
         let worth = match parcel.worth {
             Worth::Book | Worth::Passes | Worth::ToBadBox => Vec::new(),
@@ -315,23 +326,32 @@ impl Picture<'_> {
         }
         let width = 310;
         let in_row = ((self.width() - 2 * MARGIN) / width).max(1);
-        let rows = (entries.len() as i32 + in_row - 1) / in_row;
-        for (place, (kind, class, words)) in (0..).zip(entries) {
-            let x = MARGIN + place % in_row * width;
-            let y = self.y + 8 + place / in_row * 18;
+        let top = self.y + 8;
+        let at = |place: i32| (MARGIN + place % in_row * width, top + place / in_row * 18);
+        let mut cells = 0;
+        for (kind, class, words) in entries {
+            let (x, y) = at(cells);
             self.svg.arrow((x, y), (x + 40, y), kind, class);
             self.svg.text((x + 48, y + 4), "", words);
+            cells += 1;
         }
-        self.y += rows * 18;
+        if session.takings.is_some() {
+            let (x, y) = at(cells);
+            self.svg.mark((x + 20, y));
+            self.svg.text((x + 48, y + 4), "", CHEAT);
+            cells += 1;
+        }
+        self.y += (cells + in_row - 1) / in_row * 18;
     }
 }
 
-/// A box in a column, with lines of text; the first may be its title.
+/// A box in a column, with lines of text, of which the first may be its title, and whom it saw cheat.
 struct Card {
     number: usize,
     class: &'static str,
     text: Vec<String>,
     titled: bool,
+    seen: Option<String>,
 }
 
 impl Card {
@@ -341,8 +361,39 @@ impl Card {
             class,
             text: text.to_vec(),
             titled: true,
+            seen: None,
         }
     }
+
+    /// The lines of so many letters, each with its class.
+    fn lines(&self, letters: usize) -> Vec<(String, &'static str)> {
+        let text = self.text.iter().flat_map(|it| wrapped(it, letters));
+        let seen = self.seen.iter().flat_map(|it| wrapped(it, letters));
+        let class = |place| match place == 0 && self.titled {
+            true => "strong",
+            false => "ink",
+        };
+        let text = text.enumerate().map(|(place, it)| (it, class(place)));
+        text.chain(seen.map(|it| (it, "strong cheat"))).collect()
+    }
+}
+
+/// Whom a box sees cheat by these packets, if anybody.
+fn sees(parcels: &[Parcel], number: usize) -> Option<String> {
+    let own = parcels.iter().filter(|it| it.receiver == number);
+    let cheats: Vec<usize> = own
+        .filter(|it| it.fault.is_some())
+        .map(|it| it.sender)
+        .collect();
+    (!cheats.is_empty()).then(|| format!("sees {} cheat", named(&cheats)))
+}
+
+/// A place on an arrow where its head does not cover it.
+fn behind_head(from: (i32, i32), to: (i32, i32)) -> (i32, i32) {
+    let [x, y] = [to.0 - from.0, to.1 - from.1].map(f64::from);
+    let part = 18.0 / x.hypot(y);
+    let back = |way: f64| (way * part).round() as i32;
+    (to.0 - back(x), to.1 - back(y))
 }
 
 /// The kind of arrow for a packet of this worth.

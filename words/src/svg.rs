@@ -29,6 +29,8 @@ text { font-family: sans-serif; font-size: 11px; fill: #222222; }
 .step { fill: #f6f8fa; stroke: #b8c0c8; }
 .arrow { fill: none; stroke-width: 1.8; }
 .taken { stroke-width: 3.5; }
+.mark { fill: none; stroke: #c0392b; stroke-width: 3; stroke-linecap: round; }
+text.cheat { fill: #c0392b; }
 .pale { opacity: 0.4; }
 ";
 
@@ -65,6 +67,12 @@ impl Svg {
             "<path d=\"M{x} {y} L{to_x} {to_y}\" class=\"arrow {kind} {class}\" \
              marker-end=\"url(#{kind})\"/>\n"
         );
+    }
+
+    /// A cross.
+    pub fn mark(&mut self, (x, y): (i32, i32)) {
+        let (left, top) = (x - 5, y - 5);
+        self.body += &format!("<path d=\"M{left} {top} l10 10 m0 -10 l-10 10\" class=\"mark\"/>\n");
     }
 
     pub fn dot(&mut self, (x, y): (i32, i32)) {

@@ -29,10 +29,10 @@ pub struct Parcel {
     pub length: usize,
     pub what: String,
     pub worth: Worth,
-    /// The receiver is good and looks at it: a happy one does so only in the sender's exchange.
-    pub looked_at: bool,
     /// Its share is the one that the receiver relays.
     pub taken: bool,
+    /// The fault by which the receiver sees the sender cheat, if it does.
+    pub fault: Option<String>,
 }
 
 /// What a packet is to its receiver.
@@ -58,6 +58,16 @@ impl Worth {
             Worth::Unreadable => "cannot be read".to_string(),
             Worth::Silence => "is silence".to_string(),
             Worth::ToBadBox => "goes to a bad box".to_string(),
+        }
+    }
+
+    /// What is wrong with a packet in which this number is due, if it shows that its sender cheats.
+    fn fault(self, due: usize) -> Option<String> {
+        match self {
+            Worth::FailsCheck => Some("does not lead to the agreed root".to_string()),
+            Worth::OtherNumber(number) => Some(format!("bears number {number}, and {due} is due")),
+            Worth::Unreadable => Some("cannot be read".to_string()),
+            Worth::Book | Worth::Passes | Worth::Silence | Worth::ToBadBox => None,
         }
     }
 }
@@ -162,6 +172,16 @@ impl View {
 
     fn parcel(&self, round: Round, (sender, receiver): (usize, usize), packet: &[u8]) -> Parcel {
         let place = self.place(receiver);
+        let due = match round {
+            Round::Sender => None,
+            Round::First => Some(receiver),
+            Round::Second => Some(sender),
+        };
+        let worth = match (place, due) {
+            (None, _) => Worth::ToBadBox,
+            (_, None) => book_worth(packet),
+            (_, Some(due)) => self.share_worth(due, packet),
+        };
         let taken = match (&self.session.takings, place, round) {
             (Some(takings), Some(place), Round::First) => takings.sources[place] == Some(sender),
             _ => false,
@@ -171,15 +191,27 @@ impl View {
             receiver,
             length: packet.len(),
             what: self.what(packet),
-            worth: match (place, round) {
-                (None, _) => Worth::ToBadBox,
-                (_, Round::Sender) => book_worth(packet),
-                (_, Round::First) => self.share_worth(receiver, packet),
-                (_, Round::Second) => self.share_worth(sender, packet),
-            },
-            looked_at: place.is_some_and(|place| round == Round::Sender || !self.happy(place)),
+            worth,
             taken,
+            fault: due.and_then(|due| worth.fault(due)),
         }
+    }
+
+    /// The boxes that a good box saw cheat in the whole sitting.
+    pub fn seen(&self, place: usize) -> Vec<usize> {
+        let takings = self.session.takings.as_ref();
+        let map = takings.map_or(0, |takings| takings.faulty[place]);
+        (1..=self.n())
+            .filter(|it| map >> (it - 1) & 1 == 1)
+            .collect()
+    }
+
+    /// The good boxes that saw a box cheat.
+    pub fn seen_by(&self, number: usize) -> Vec<usize> {
+        let good = self.session.plan.good.iter().enumerate();
+        good.filter(|it| self.seen(it.0).contains(&number))
+            .map(|it| *it.1)
+            .collect()
     }
 
     /// The worth to a box that demands this share.
@@ -242,7 +274,7 @@ impl View {
         match takings.sources[place] {
             _ if self.n() == 1 => "is alone and relays nothing".to_string(),
             _ if self.happy(place) => {
-                format!("is happy, looks at no packet and relays its own share {own}")
+                format!("is happy and relays its own share {own}")
             }
             Some(sender) => format!("takes share {own} from box {sender} and relays it"),
             None => "finds no share that passes and relays nothing".to_string(),
@@ -251,7 +283,7 @@ impl View {
 
     fn second_step(&self, takings: &Takings, place: usize) -> String {
         let Some(gathered) = &takings.gathered[place] else {
-            return "is happy, looks at no packet and keeps its book".to_string();
+            return "is happy and keeps its book".to_string();
         };
         let present = (1..).zip(gathered).filter(|(_, share)| !share.is_empty());
         let present: Vec<usize> = present.map(|(number, _)| number).collect();

@@ -50,8 +50,9 @@ The first exchange
   1 to 3      70 bytes   bears number 2     share 2 of A
   2 to 1      70 bytes   goes to a bad box  share 1 of A
   2 to 3      38 bytes   passes             share 3 of A
-  box 2 is happy, looks at no packet and relays its own share 2
+  box 2 is happy and relays its own share 2
   box 3 takes share 3 from box 2 and relays it
+  box 3 sees box 1 cheat: its packet bears number 2, and 3 is due
 
 The second exchange
   1 to 3      70 bytes   cannot be read     share 1 of A, number 9
@@ -59,12 +60,15 @@ The second exchange
   2 to 3      70 bytes   passes             share 2 of A
   3 to 1      38 bytes   goes to a bad box  share 3 of A
   3 to 2      38 bytes   passes             share 3 of A
-  box 2 is happy, looks at no packet and keeps its book
+  box 2 is happy and keeps its book
   box 3 gathers shares 2 3 and rebuilds the book from 2 3
+  box 3 sees box 1 cheat: its packet cannot be read
 
 Results
   box 2 ends with A
   box 3 ends with A
+  box 2 saw no box cheat
+  box 3 saw box 1 cheat
   bytes sent by good boxes: 108 in the first exchange, 216 in the second
 
 2 = 41
@@ -127,6 +131,86 @@ fn a_sitting_number_word_by_word() {
     }
 }
 
+/// Boxes 1 and 2 are bad. To box 3 the one lies in both exchanges and the other in the second; box 4 is
+/// happy, and sees what box 1 sends it all the same.
+const LIARS: &str = "boxes 5
+limit 2
+book A \"A\"
+book B \"B\"
+root of A
+bit 1
+box 1 is bad
+box 2 is bad
+box 3 has B
+box 4 has A
+box 5 has A
+first exchange
+1 to 3: share 1 of A
+1 to 4: hex 08 00 00
+2 to 5: hex 00
+second exchange
+1 to 3: share 1 of A, share byte 0 damaged
+2 to 3: share 3 of A
+2 to 4: share 2 of A
+";
+
+/// Who saw whom stands below what the boxes did, by receiver, and in all at the end.
+#[test]
+fn liars_word_by_word() {
+    let (plan, hints) = given(LIARS.as_bytes()).expect("good words");
+    let told = explain(&plan, &hints);
+    for part in [
+        "  box 5 is happy and relays its own share 5
+  box 3 sees box 1 cheat: its packet bears number 1, and 3 is due
+  box 4 sees box 1 cheat: its packet cannot be read
+
+",
+        "  box 5 is happy and keeps its book
+  box 3 sees box 1 cheat: its packet does not lead to the agreed root
+  box 3 sees box 2 cheat: its packet bears number 3, and 2 is due
+
+",
+        "  box 5 ends with A
+  box 3 saw boxes 1 2 cheat
+  box 4 saw box 1 cheat
+  box 5 saw no box cheat
+",
+    ] {
+        assert!(told.contains(part), "{told}");
+    }
+    let svg = picture(&plan, &hints);
+    assert_eq!(svg.matches("class=\"mark\"").count(), 4 + 1);
+    for (line, count) in [
+        ("sees box 1 cheat", 2),
+        ("sees boxes 1 2 cheat", 1),
+        ("saw box 1 cheat", 1),
+        ("saw boxes 1 2 cheat", 1),
+        ("saw no box cheat", 1),
+        ("seen to cheat by", 2),
+    ] {
+        assert_eq!(told_in(&svg, line), count, "{line}");
+    }
+}
+
+/// How often a card of a picture says so, in whatever lines.
+fn told_in(svg: &str, words: &str) -> usize {
+    let texts = svg.split("</text>").filter_map(|it| it.rsplit('>').next());
+    let whole: Vec<&str> = texts.collect();
+    whole.join(" ").matches(words).count()
+}
+
+/// On bit 0 no inbox is taken.
+#[test]
+fn on_bit_zero_nobody_is_seen() {
+    let (plan, hints) = given(LIARS.replace("bit 1", "bit 0").as_bytes()).expect("good words");
+    let told = explain(&plan, &hints);
+    let expected = "\nOn bit 0 every good box ends with nothing and sees no box cheat; ";
+    assert!(told.contains(expected), "{told}");
+    let svg = picture(&plan, &hints);
+    assert_eq!(svg.matches("class=\"mark\"").count(), 0);
+    assert_eq!(told_in(&svg, "saw no box cheat"), 3);
+}
+
 /// A root is told by the sitting that it is of.
 #[test]
 fn a_root_of_another_sitting() {
@@ -183,6 +267,9 @@ Results
   box 1 ends with A
   box 3 ends with A
   box 4 ends with A
+  box 1 saw no box cheat
+  box 3 saw box 2 cheat
+  box 4 saw no box cheat
   bytes sent by good boxes: 0 in the sender's exchange, 207 in the first, 621 in the second; \
 'sent' has all of them
 
@@ -452,6 +539,41 @@ fn what_passes_is_what_was_taken() {
     assert!(unhappy > 500, "{unhappy}");
 }
 
+/// The senders whose packets show a receiver that they cheat, as a map.
+fn cheating(parcels: &[Parcel], receiver: usize) -> u32 {
+    let own = parcels.iter().filter(|it| it.receiver == receiver);
+    let cheats = own.filter(|it| it.fault.is_some());
+    cheats.map(|it| 1 << (it.sender - 1)).sum()
+}
+
+/// Whoever is said to be seen is in the box's map, and nobody else; nobody good is.
+#[test]
+fn who_is_said_to_cheat_is_in_the_map() {
+    let mut liars = 0;
+    for bytes in (1..=COUNT).map(|k| plan(k).bytes) {
+        let Ok(view) = View::new(&bytes, &Hints::default()) else {
+            continue;
+        };
+        let sender = view.parcels(Round::Sender);
+        assert!(sender.iter().all(|it| it.fault.is_none()));
+        let Some(takings) = &view.session.takings else {
+            assert!((1..=view.n()).all(|number| view.seen_by(number).is_empty()));
+            continue;
+        };
+        let [first, second] = [Round::First, Round::Second].map(|round| view.parcels(round));
+        for (place, &own) in view.session.plan.good.iter().enumerate() {
+            let map = cheating(&first, own);
+            assert_eq!(map, takings.faulty_first[place]);
+            assert_eq!(map | cheating(&second, own), takings.faulty[place]);
+            assert!(view.seen_by(own).is_empty());
+            let seen = view.seen(place);
+            assert!(seen.iter().all(|it| view.seen_by(*it).contains(&own)));
+            liars += seen.len();
+        }
+    }
+    assert!(liars > 500, "{liars}");
+}
+
 /// A good box other than the sender opens with the book that is said to be read, or with the empty
 /// one.
 #[test]
@@ -537,7 +659,7 @@ fn expected_arrows(view: &View) -> usize {
 
 /// The arrows of the legend: for a sender's exchange, for the other two, and for all of them.
 const OF_BOOKS: usize = 1;
-const OF_SHARES: usize = 4;
+const OF_SHARES: usize = 3;
 const OF_BOTH: usize = 3;
 
 /// The sender's exchange stands above what the boxes open with.

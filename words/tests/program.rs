@@ -121,6 +121,8 @@ fn explained_on_the_page(name: &str) -> String {
 #[test]
 fn the_liars_plan() {
     on_the_page("liar");
+    let told = explained_on_the_page("liar");
+    assert!(told.ends_with(&format!("\n\n{}", text("plans/liar.out"))));
 }
 
 /// The rehearsal refuses it, and the explanation tells it to its end.

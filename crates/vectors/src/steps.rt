@@ -8,14 +8,15 @@
 // 3, agreed roots, step 2: the root. The verdict.
 // 4, agreed bits, step 3: the bit (2), the length of the buffer lent (2). The verdict.
 // 5, first inboxes, step 4, and 6, second inboxes, step 5: how many bytes of the inbox are handed in (2), the length of the buffer lent
-// (2). The verdict.
-// 7, numbers changed: where (1: 0 n, 1 t, 2 own, 3 len, 4 held, 5 the session's), the number (8). Nothing.
+// (2). The verdict; for step 5 also the map given with the result (4, zero where none is given).
+// 7, numbers changed: where (1: 0 n, 1 t, 2 own, 3 len, 4 held, 5 the session's, 6 the map of the parties seen to cheat), the number (8; of the
+// last two the low four bytes count). Nothing.
 // 8, stages changed: which (1: 0 root, 1 bit, 2 first, 3 second, 4 ended with nothing, 5 with a message), that message's length (8).
 // Nothing.
 // 9, bytes changed: where (1: 0 message, 1 root, 2 share, 3 the inbox), from which place (2), the bytes. Nothing.
 // The verdict: the answer, and SHA-256 (32) of the state given back with SHA-256 of the buffer behind it, which is empty where none is
-// lent. The state for it: the session's number (4), n, t, own (8 each), the stage as in 8 (1) with its message's length or 0 (8), len, held (8
-// each), the root, the message's MAX_MESSAGE bytes and the share's MAX_SHARE.
+// lent. The state for it: the session's number (4), the map (4), n, t, own (8 each), the stage as in 8 (1) with its message's length or 0
+// (8), len, held (8 each), the root, the message's MAX_MESSAGE bytes and the share's MAX_SHARE.
 use crate::KINDS;
 use crate::answer;
 use crate::answer::ANSWER;
@@ -40,8 +41,10 @@ const MAX_INBOX: usize = 2 * MAX_OUTBOX;
 // The greatest length of a buffer lent: more than any outbox needs.
 const MAX_ROOM: usize = 2 * MAX_OUTBOX;
 
-// The length of a verdict, and of what is told of an opening by a sender.
+// The length of a verdict, and of what is told of step 5 and of an opening by a sender.
 const VERDICT: usize = ANSWER + 32;
+
+const ENDED: usize = VERDICT + 4;
 
 const BEGUN: usize = VERDICT + 40;
 
@@ -49,7 +52,7 @@ const BEGUN: usize = VERDICT + 40;
 const AT_BYTES: usize = 38;
 
 // The length of the numbers at the start of what a digest is taken of, the places of what follows the root, and the whole length.
-const NUMBERS: usize = 53;
+const NUMBERS: usize = 57;
 
 const AT_MESSAGE: usize = NUMBERS + 32;
 
@@ -93,6 +96,7 @@ pub(crate) fn blank() -> World {
             root: [0; 32],
             share: [0; MAX_SHARE],
             held: 0,
+            faulty: 0,
         },
         inbox: [0; MAX_INBOX],
     }
@@ -233,12 +237,21 @@ fn answered(answer: party::Answer) -> Answer {
         party::Answer::Short(needed) => answer::short(needed),
         party::Answer::Happy(happy) => answer::done(if happy { 1 } else { 0 }),
         party::Answer::Sent(len) => answer::done(len),
-        party::Answer::Nothing => Answer { code: 1, value: 0 },
-        party::Answer::Message(len) => answer::done(len),
+        party::Answer::Nothing(_) => Answer { code: 1, value: 0 },
+        party::Answer::Message(len, _) => answer::done(len),
     }
 }
 
-// A step that a buffer is lent to, which lies behind the verdict.
+// The map given with a result, 0 with any other answer.
+fn map_given(answer: party::Answer) -> u32 {
+    match answer {
+        party::Answer::Nothing(faulty) => faulty,
+        party::Answer::Message(_, faulty) => faulty,
+        _ => 0,
+    }
+}
+
+// A step that a buffer is lent to, which lies behind the verdict and a map; the map is told of step 5 alone.
 fn lent(kind: usize, before: Party, inbox: &[u8], input: &[u8], out: &mut [u8]) -> Called {
     let given = number_at(input, 0, 2);
     if inbox.len() < given {
@@ -248,22 +261,17 @@ fn lent(kind: usize, before: Party, inbox: &[u8], input: &[u8], out: &mut [u8]) 
     if MAX_ROOM < room {
         return malformed(before);
     }
-    let end = VERDICT + room;
+    let end = ENDED + room;
     if out.len() < end {
         return malformed(before);
     }
-    let Reply { state, answer } = step(
-        kind,
-        before,
-        given,
-        &inbox[0..given],
-        &mut out[VERDICT..end],
-    );
-    let bytes = verdict(state, answered(answer), &out[VERDICT..end]);
+    let Reply { state, answer } = step(kind, before, given, &inbox[0..given], &mut out[ENDED..end]);
+    let bytes = verdict(state, answered(answer), &out[ENDED..end]);
     buffer::put(out, 0, &bytes);
+    buffer::put(out, VERDICT, &buffer::four_bytes(map_given(answer)));
     Called {
         state,
-        len: VERDICT,
+        len: if kind == 6 { ENDED } else { VERDICT },
     }
 }
 
@@ -311,12 +319,13 @@ fn numbers(state: Party) -> [u8; NUMBERS] {
     let mut bytes = [0u8; NUMBERS];
     let stage = state.stage;
     buffer::put(&mut bytes, 0, &buffer::four_bytes(state.seat.session));
-    buffer::put(&mut bytes, 4, &spelled(state.seat.n));
-    buffer::put(&mut bytes, 12, &spelled(state.seat.t));
-    buffer::put(&mut bytes, 20, &spelled(state.seat.own));
-    buffer::put(&mut bytes, 28, &stage_bytes(stage));
-    buffer::put(&mut bytes, 37, &spelled(state.len));
-    buffer::put(&mut bytes, 45, &spelled(state.held));
+    buffer::put(&mut bytes, 4, &buffer::four_bytes(state.faulty));
+    buffer::put(&mut bytes, 8, &spelled(state.seat.n));
+    buffer::put(&mut bytes, 16, &spelled(state.seat.t));
+    buffer::put(&mut bytes, 24, &spelled(state.seat.own));
+    buffer::put(&mut bytes, 32, &stage_bytes(stage));
+    buffer::put(&mut bytes, 41, &spelled(state.len));
+    buffer::put(&mut bytes, 49, &spelled(state.held));
     bytes
 }
 
@@ -362,16 +371,17 @@ fn changed(state: Party, good: bool) -> Called {
 fn new_number(old: Party, place: usize, input: &[u8]) -> Called {
     let mut state = old;
     let number = number_at(input, 1, 8);
-    let session = buffer::number_at(input, 5);
+    let low = buffer::number_at(input, 5);
     match place {
         0 => state.seat.n = number,
         1 => state.seat.t = number,
         2 => state.seat.own = number,
         3 => state.len = number,
         4 => state.held = number,
-        _ => state.seat.session = session,
+        5 => state.seat.session = low,
+        _ => state.faulty = low,
     }
-    changed(state, place <= 5)
+    changed(state, place <= 6)
 }
 
 fn new_stage(old: Party, number: usize, len: usize) -> Called {
@@ -387,6 +397,7 @@ fn new_stage(old: Party, number: usize, len: usize) -> Called {
         root,
         share,
         held: old.held,
+        faulty: old.faulty,
     };
     changed(state, number <= 5)
 }

@@ -13,21 +13,23 @@
 //! - Agreed roots, step 2: the root. The verdict.
 //! - Agreed bits, step 3: the bit (2), the length of the buffer lent (2). The verdict.
 //! - First and second inboxes, steps 4 and 5: how many bytes of the inbox are handed in (2), the
-//!   length of the buffer lent (2). The verdict.
-//! - Numbers changed: where (1: 0 n, 1 t, 2 own, 3 len, 4 held, 5 the session's), the number (8).
-//!   Nothing.
+//!   length of the buffer lent (2). The verdict; for step 5 also the map given with the result (4, zero
+//!   where none is given).
+//! - Numbers changed: where (1: 0 n, 1 t, 2 own, 3 len, 4 held, 5 the session's, 6 the map of the parties
+//!   seen to cheat), the number (8; of the last two the low four bytes count). Nothing.
 //! - Stages changed: which (1: 0 root, 1 bit, 2 first, 3 second, 4 ended with nothing, 5 with a
 //!   message), that message's length (8). Nothing.
 //! - Bytes changed: where (1: 0 message, 1 root, 2 share, 3 the inbox), from which offset (2), the
 //!   bytes. Nothing.
 //!
 //! The verdict: the answer, and SHA-256 (32) of the state with SHA-256 of the out buffer behind it,
-//! which is empty where none is lent. The state's bytes: the session's number (4), n, t, own (8 each),
-//! stage as above (9), len, held (8 each), root, message, share.
+//! which is empty where none is lent. The state's bytes: the session's number (4), the map (4), n, t,
+//! own (8 each), stage as above (9), len, held (8 each), root, message, share.
 //!
 //! Messages handed in have at most two bytes more than may be, inboxes and the buffer twice as many
 //! as an outbox.
 
+mod cheats;
 mod senders;
 
 use std::collections::BTreeMap;
@@ -70,6 +72,7 @@ enum Number {
     Len,
     Held,
     Session,
+    Faulty,
 }
 
 /// Where bytes are put.
@@ -105,7 +108,7 @@ fn turn(stage: Stage) -> u8 {
 
 fn digest(state: &State, out: &[u8]) -> Hash {
     let (stage, length) = stage_number(state.stage);
-    let mut text = state.session.to_be_bytes().to_vec();
+    let mut text = [state.session, state.faulty].map(u32::to_be_bytes).concat();
     text.extend([state.n, state.t, state.own].map(u64::to_be_bytes).concat());
     text.push(stage);
     text.extend(
@@ -138,6 +141,12 @@ fn valueless(answer: Answer) -> Answer {
         Short(_) => Short(0),
         other => other,
     }
+}
+
+/// Puts a number of four bytes into its place, and gives the one that stood there.
+fn replaced(place: &mut u32, value: u64) -> u64 {
+    let value = value.try_into().expect("a number in four bytes");
+    std::mem::replace(place, value).into()
 }
 
 /// How often the calls of each kind had each answer.
@@ -204,24 +213,29 @@ impl File {
         self.called(Kind::Openings, given, answer, &[], &root);
     }
 
-    /// What the call would give; the state stays.
-    fn tried(&self, call: &Call, out: &mut [u8]) -> (State, Answer) {
+    /// What the call would give, and what follows its verdict; the state stays.
+    fn tried(&self, call: &Call, out: &mut [u8]) -> ((State, Answer), Vec<u8>) {
         let state = self.state.clone();
-        match call {
+        let given = match call {
             Call::Root(root) => told(state.agree_root(root), |happy| Done(happy.into())),
             Call::Bit(bit) => told(state.agree_bit(*bit, out), Done),
             Call::Shares(inbox) => told(state.take_shares(inbox, out), Done),
-            Call::Relays(inbox) => told(state.take_relays(inbox, out), |found| {
-                found.map_or(Nothing, Done)
-            }),
-        }
+            Call::Relays(inbox) => {
+                let given = state.take_relays(inbox, out);
+                let faulty = given.1.map_or(0, |ending| ending.faulty);
+                let given = told(given, |ending| ending.length.map_or(Nothing, Done));
+                return (given, faulty.to_be_bytes().to_vec());
+            }
+        };
+        (given, Vec::new())
     }
 
     /// The bytes that the call would write.
     fn needed(&self, call: &Call) -> usize {
-        match (call, self.tried(call, &mut [UNTOUCHED; MOST_ROOM])) {
+        let ((_, answer), _) = self.tried(call, &mut [UNTOUCHED; MOST_ROOM]);
+        match (call, answer) {
             (Call::Root(_), _) => 0,
-            (_, (_, Done(length))) => length,
+            (_, Done(length)) => length,
             _ => 0,
         }
     }
@@ -233,7 +247,7 @@ impl File {
             _ => room,
         };
         let mut out = vec![UNTOUCHED; room];
-        let (state, answer) = self.tried(call, &mut out);
+        let ((state, answer), more) = self.tried(call, &mut out);
         let before = std::mem::replace(&mut self.state, state);
         if let Call::Shares(inbox) | Call::Relays(inbox) = call {
             self.put_inbox(inbox);
@@ -248,7 +262,7 @@ impl File {
             let count = self.at_the_end.entry((kind, valueless(answer)));
             *count.or_default() += 1;
         }
-        self.called(kind, given, answer, &out, &[]);
+        self.called(kind, given, answer, &out, &more);
     }
 
     /// Has the reader's inbox start with these bytes; only what differs is written.
@@ -283,10 +297,8 @@ impl File {
             Number::Own => &mut self.state.own,
             Number::Len => &mut self.state.len,
             Number::Held => &mut self.state.held,
-            Number::Session => {
-                let session = value.try_into().expect("a number in four bytes");
-                return std::mem::replace(&mut self.state.session, session).into();
-            }
+            Number::Session => return replaced(&mut self.state.session, value),
+            Number::Faulty => return replaced(&mut self.state.faulty, value),
         };
         std::mem::replace(place, value)
     }
@@ -365,11 +377,12 @@ impl File {
     fn broken(&mut self) {
         let State { n, t, own, len, .. } = self.state;
         let high = self.pick(&[u64::MAX, 1 << 63, 1 << 32, 1 << 16]);
-        let (number, values) = match self.random.below(5) {
+        let (number, values) = match self.random.below(6) {
             0 => (Number::N, [0, ABOVE, own - 1, 2 * t, high | n]),
             1 => (Number::T, [n.div_ceil(2), n, 1 << 63 | t, high, high | t]),
             2 => (Number::Own, [0, n + 1, ABOVE, 256 | own, high | own]),
             3 => (Number::Len, [LONG, LONG, LONG + 1, high, high | len]),
+            4 => (Number::Faulty, cheats::unlawful(n, own)),
             _ => (Number::Held, [WIDE, WIDE, WIDE + 1, high, high | 1]),
         };
         let value = self.pick(&values);
@@ -399,7 +412,7 @@ impl File {
     }
 
     /// Bytes that no stage has: past the lengths, and root, share or message where they are not
-    /// held.
+    /// held. The map becomes another lawful one, whether the stage has it or not.
     fn dirt(&mut self) {
         let ended = matches!(self.state.stage, Stage::Ended(_));
         let len = match ended {
@@ -428,6 +441,9 @@ impl File {
         if !holds && self.once_in(2) {
             let length = self.pick(&[1, 5, LONGEST_SHARE as u64]);
             self.set(Number::Held, length);
+        }
+        if self.once_in(2) {
+            self.other_map();
         }
     }
 
@@ -855,6 +871,9 @@ fn broken_end(file: &mut File, inbox: &[u8]) {
         (Number::Own, 4),
         (Number::Len, LONG),
         (Number::Held, WIDE),
+        (Number::Faulty, 0b0010),
+        (Number::Faulty, 0b1000),
+        (Number::Faulty, 1 << 31),
     ] {
         let old = file.set(number, value);
         let room = file.pick(&[0, needed.saturating_sub(1), needed]);
@@ -1406,6 +1425,8 @@ pub fn cases() -> Vec<Case> {
     other_session(&mut file);
     swapped(&mut file);
     forged(&mut file);
+    cheats::lies(&mut file);
+    cheats::maps(&mut file);
     ended(&mut file);
     wander(&mut file);
     file.well_mixed();

@@ -143,7 +143,7 @@ fn every_cause_has_an_example() {
 }
 
 /// Parts of the text, and wrong ones in their place: one for each kind and more.
-const SPOILT: [(&str, &str); 57] = [
+const SPOILT: [(&str, &str); 65] = [
     ("product 57 83: c1", "product 57 83: c2"),
     ("share 3: c3 c4", "share 3: c3 c5"),
     ("share 3: c3 c4\n", ""),
@@ -175,15 +175,15 @@ const SPOILT: [(&str, &str); 57] = [
         "room 1\nresult: book 41\ntake_relays",
     ),
     (
-        "result: book 41\nstate: byte 0 03 01 00 01 05 00 01 00 00",
-        "result: book 41\nstate: byte 0 03 01 00 01 05 00 01 00 02",
+        "result: book 41\nstate: byte 0 04 01 00 01 05 00 01 00 00",
+        "result: book 41\nstate: byte 0 04 01 00 01 05 00 01 00 02",
     ),
     ("written over: byte 7 00 02", "written over: byte 7 00 03"),
     (
-        "state: byte 0 03 02 00 02 03",
-        "state: byte 0 03 02 00 02 02",
+        "state: byte 0 04 02 00 02 03",
+        "state: byte 0 04 02 00 02 02",
     ),
-    ("byte (MESSAGE + 45) 82", "byte (MESSAGE + 46) 82"),
+    ("byte (MESSAGE + 49) 82", "byte (MESSAGE + 50) 82"),
     ("byte 4 06: cause 5", "byte 4 06: taken"),
     ("byte 5 (MESSAGE + 1)", "byte 5 (MESSAGE)"),
     ("byte 7 (SHARE + 1)", "byte 7 (SHARE)"),
@@ -227,6 +227,14 @@ const SPOILT: [(&str, &str); 57] = [
     ("open: sitting 7, n 3", "open: sitting 8, n 3"),
     ("session: state\nvalue: 7", "session: state\nvalue: 0"),
     ("00 01 00 00 01 02 03 04", "00 01 00 00 04 03 02 01"),
+    ("saw 2 and 3", "saw 2"),
+    ("book 41 42, saw 3\n", "book 41 42\n"),
+    ("nothing, saw 1 and 3", "nothing"),
+    ("faulty: state\nvalue: 2", "faulty: state\nvalue: 6"),
+    ("00 00 00 00 00 00 00 05\n", "00 00 00 00 00 00 00 04\n"),
+    ("byte 16 05: taken", "byte 16 05: cause 5"),
+    ("byte 16 02: cause 5", "byte 16 02: taken"),
+    ("byte 13 80: cause 5", "byte 13 80: taken"),
     (
         "sender: 01\nsitting: 00 00 00 07",
         "sender: 01\nsitting: 00 00 00 00",

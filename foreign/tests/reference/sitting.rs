@@ -2,12 +2,12 @@
 
 use foreign::examples::{number, written_over, Example, Field};
 use foreign::limits::{LONGEST_MESSAGE_PACKET, LONGEST_OUTBOX};
-use foreign::party::{Begun, Given, Outcome, Refusal, Stage, State};
+use foreign::party::{Begun, Ending, Given, Outcome, Refusal, Stage, State};
 
 use crate::{digits, length, Told};
 
 /// The version of the layout of a state's bytes.
-const VERSION: u8 = 3;
+const VERSION: u8 = 4;
 
 /// Where the stage stands in them.
 const AT_STAGE: usize = 4;
@@ -123,9 +123,27 @@ fn asked(state: &State, call: &str) -> Result<u64, Refusal> {
         ("stage", _) => Ok(encoded(state)[AT_STAGE].into()),
         ("own", _) => Ok(state.own),
         ("session", _) => Ok(state.session.into()),
+        ("faulty", _) => Ok(state.faulty.into()),
         ("result_length", Stage::Ended(Outcome::Message(length))) => Ok(length),
         ("result_length", _) => Err(6.into()),
         (other, _) => panic!("{other}: no call of a box"),
+    }
+}
+
+/// The result of step 5, with the boxes in its map, if there are any.
+fn ended(ending: Ending, out: &[u8]) -> String {
+    let result = match ending.length {
+        Some(length) => format!("book {}", digits(&out[..length])),
+        None => "nothing".to_string(),
+    };
+    let in_map = |number: &u32| ending.faulty >> (number - 1) & 1 == 1;
+    let seen: Vec<String> = (1..=u32::BITS)
+        .filter(in_map)
+        .map(|it| it.to_string())
+        .collect();
+    match seen.is_empty() {
+        true => result,
+        false => format!("{result}, saw {}", seen.join(" and ")),
     }
 }
 
@@ -151,11 +169,7 @@ fn step(state: State, call: &Field) -> (State, Result<String, Refusal>, &'static
         }
         "take_relays" => {
             let inbox = bytes("inbox");
-            let result = |found: Option<usize>, out: &[u8]| match found {
-                Some(length) => format!("book {}", digits(&out[..length])),
-                None => "nothing".to_string(),
-            };
-            let (state, answer) = lent(call, |out| state.take_relays(&inbox, out), result);
+            let (state, answer) = lent(call, |out| state.take_relays(&inbox, out), ended);
             (state, answer, "result")
         }
         _ => {
@@ -184,6 +198,7 @@ fn encoded(state: &State) -> Vec<u8> {
         &length,
         &held,
         &state.session.to_be_bytes(),
+        &state.faulty.to_be_bytes(),
         &state.root,
         &state.message,
         &state.share,
@@ -245,6 +260,7 @@ fn decoded(bytes: &[u8]) -> Option<State> {
     let (&[version, n, t, own, stage], rest) = whole.split_first_chunk::<5>()?;
     let (length, held) = (two(rest), two(&rest[2..]));
     let (session, rest) = rest[4..].split_first_chunk()?;
+    let (faulty, rest) = rest.split_first_chunk()?;
     let (root, rooms) = rest.split_first_chunk()?;
     let (message, share) = rooms.split_first_chunk()?;
     let stages = [Stage::Root, Stage::Bit, Stage::First, Stage::Second];
@@ -261,6 +277,7 @@ fn decoded(bytes: &[u8]) -> Option<State> {
         root: *root,
         message: *message,
         share: share.try_into().ok()?,
+        faulty: u32::from_be_bytes(*faulty),
     })
 }
 
