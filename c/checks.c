@@ -1,5 +1,5 @@
-/* Checks of what the header itself defines, of second readers, of rebuilding under a root, of session numbers, and of openings by a named sender, for the tests: a
- * failed one ends the program with its line. Prints the causes in words. */
+/* Checks of what the header itself defines, of second readers, of rebuilding under a root, of session numbers, of openings by a named sender, and of parties seen to
+ * cheat, for the tests: a failed one ends the program with its line. Prints the causes in words. */
 #include <stdio.h>
 #include <stdlib.h>
 #include <string.h>
@@ -72,9 +72,9 @@ static void check_second_reader(void) {
     memcpy(ended, state, sizeof ended);
     CHECK(answer.cause == CIPANGOHU_CAUSE_ROOM && answer.value == 2 && memcmp(screen, "\7\7\7", 3) == 0);
     answer = cipangohu_take_relays(state, sizeof state, NULL, 0, screen, sizeof screen);
-    CHECK(answer.cause == CIPANGOHU_ACCEPTED && answer.value == CIPANGOHU_SETTLED && memcmp(screen, "AB\7", 3) == 0);
+    CHECK(answer.cause == CIPANGOHU_ACCEPTED && answer.value == 1 && memcmp(screen, "AB\7", 3) == 0);
     answer = cipangohu_take_relays(state, sizeof state, junk, sizeof junk, screen, cipangohu_result_length(state, sizeof state).value);
-    CHECK(answer.cause == CIPANGOHU_ACCEPTED && answer.value == CIPANGOHU_SETTLED && memcmp(state, ended, sizeof ended) == 0);
+    CHECK(answer.cause == CIPANGOHU_ACCEPTED && answer.value == 1 && memcmp(state, ended, sizeof ended) == 0);
     CHECK(cipangohu_take_shares(state, sizeof state, junk, sizeof junk, NULL, 0).cause == CIPANGOHU_CAUSE_STEP);
     CHECK(cipangohu_agree_bit(state, sizeof state, 2, NULL, 0).cause == CIPANGOHU_CAUSE_STEP);
     CHECK(cipangohu_agree_root(state, sizeof state, NULL, 0).cause == CIPANGOHU_CAUSE_STEP);
@@ -86,10 +86,10 @@ static void check_second_reader(void) {
 static void check_stale_state(void) {
     uint8_t ended[CIPANGOHU_STATE], stale[CIPANGOHU_STATE];
     memcpy(ended, state, sizeof ended);
-    state[8] = state[13] = state[13 + CIPANGOHU_ROOT + 2] = state[CIPANGOHU_STATE - 1] = 1;
+    state[8] = state[17] = state[17 + CIPANGOHU_ROOT + 2] = state[CIPANGOHU_STATE - 1] = 1;
     memcpy(stale, state, sizeof stale);
     CHECK(cipangohu_take_relays(state, sizeof state, NULL, 0, out, 1).cause == CIPANGOHU_CAUSE_ROOM && memcmp(state, stale, sizeof stale) == 0);
-    CHECK(cipangohu_take_relays(state, sizeof state, NULL, 0, out, 2).value == CIPANGOHU_SETTLED && memcmp(state, ended, sizeof ended) == 0);
+    CHECK(cipangohu_take_relays(state, sizeof state, NULL, 0, out, 2).value == 1 && memcmp(state, ended, sizeof ended) == 0);
     state[7] = 255;
     CHECK(cipangohu_take_relays(state, sizeof state, NULL, 0, NULL, 0).cause == CIPANGOHU_CAUSE_STATE && state[7] == 255);
     memcpy(state, ended, sizeof ended);
@@ -101,7 +101,7 @@ static void check_nothing(void) {
     CHECK(answer.cause == CIPANGOHU_ACCEPTED && cipangohu_agree_root(state, sizeof state, root, sizeof root).value == 1);
     CHECK(cipangohu_agree_bit(state, sizeof state, 0, out, sizeof out).value == 2);
     answer = cipangohu_take_relays(state, sizeof state, NULL, 0, NULL, 0);
-    CHECK(answer.cause == CIPANGOHU_ACCEPTED && answer.value == CIPANGOHU_NOTHING);
+    CHECK(answer.cause == CIPANGOHU_ACCEPTED && answer.value == 0);
     CHECK(cipangohu_stage(state, sizeof state).value == CIPANGOHU_ENDED_WITH_NOTHING && cipangohu_result(state, sizeof state).at == NULL);
 }
 
@@ -127,7 +127,7 @@ static void check_party(uint32_t session) {
     CHECK(is_at(session, CIPANGOHU_AWAITS_RELAYS));
     CHECK(cipangohu_result_length(state, sizeof state).cause == CIPANGOHU_CAUSE_STEP);
     CHECK(cipangohu_result(state, sizeof state).at == NULL);
-    CHECK(cipangohu_take_relays(state, sizeof state, silence, sizeof silence, out, sizeof out).value == CIPANGOHU_SETTLED);
+    CHECK(cipangohu_take_relays(state, sizeof state, silence, sizeof silence, out, sizeof out).value == 1);
     CHECK(is_at(session, CIPANGOHU_ENDED_WITH_MESSAGE));
     CHECK(cipangohu_result(state, sizeof state).len == 2 && memcmp(cipangohu_result(state, sizeof state).at, "AB", 2) == 0);
     check_second_reader();
@@ -138,6 +138,7 @@ static void check_party(uint32_t session) {
         CHECK((cipangohu_result(state, sizeof state).at != NULL) == (version == CIPANGOHU_LAYOUT));
         CHECK(cipangohu_own(state, sizeof state).cause == (version == CIPANGOHU_LAYOUT ? CIPANGOHU_ACCEPTED : CIPANGOHU_CAUSE_STATE));
         CHECK(cipangohu_session(state, sizeof state).cause == cipangohu_own(state, sizeof state).cause);
+        CHECK(cipangohu_faulty(state, sizeof state).cause == cipangohu_own(state, sizeof state).cause);
     }
 }
 
@@ -220,7 +221,7 @@ static void check_no_other_root(void) {
     }
     used = cipangohu_append(inbox, sizeof inbox, used, NULL, 0).value;
     answer = cipangohu_take_relays(state, sizeof state, inbox, used, NULL, 0);
-    CHECK(answer.cause == CIPANGOHU_ACCEPTED && answer.value == CIPANGOHU_NOTHING);
+    CHECK(answer.cause == CIPANGOHU_ACCEPTED && answer.value == 0);
     CHECK(cipangohu_stage(state, sizeof state).value == CIPANGOHU_ENDED_WITH_NOTHING);
 }
 
@@ -299,6 +300,126 @@ static void check_message(void) {
     CHECK(cipangohu_read_packet(3, packet, sizeof packet).cause == CIPANGOHU_CAUSE_PACKET);
 }
 
+/* The packets with the shares of "AB" for three parties. */
+static struct { uint8_t bytes[80]; size_t len; } packets[3];
+
+static void write_packets(uint32_t session) {
+    for (size_t own = 1; own <= 2; own++) {
+        cipangohu_answer answer = cipangohu_open(session, 3, 1, own, (const uint8_t *)"AB", 2, state, sizeof state, root, sizeof root);
+        CHECK(answer.cause == CIPANGOHU_ACCEPTED && cipangohu_agree_root(state, sizeof state, root, sizeof root).value == 1);
+        answer = cipangohu_agree_bit(state, sizeof state, 1, out, sizeof out);
+        for (size_t j = 1; j <= 3; j++) {
+            cipangohu_bytes packet = cipangohu_entry(out, answer.value, j);
+            CHECK(packet.at != NULL && packet.len <= sizeof packets[0].bytes);
+            if (j == own) continue;
+            memcpy(packets[j - 1].bytes, packet.at, packet.len);
+            packets[j - 1].len = packet.len;
+        }
+    }
+}
+
+/* Party 2 of 3 with this message, which waits for its first inbox under the root of "AB". */
+static void await_shares(uint32_t session, const char *message) {
+    uint8_t own_root[CIPANGOHU_ROOT];
+    cipangohu_answer answer = cipangohu_open(session, 3, 1, 2, (const uint8_t *)message, strlen(message), state, sizeof state, own_root, sizeof own_root);
+    CHECK(answer.cause == CIPANGOHU_ACCEPTED && cipangohu_agree_root(state, sizeof state, root, sizeof root).cause == CIPANGOHU_ACCEPTED);
+    CHECK(cipangohu_agree_bit(state, sizeof state, 1, out, sizeof out).cause == CIPANGOHU_ACCEPTED);
+    CHECK(cipangohu_faulty(state, sizeof state).cause == CIPANGOHU_ACCEPTED && cipangohu_faulty(state, sizeof state).value == 0);
+}
+
+/* Three entries in a buffer for an inbox, of which one sender's has these bytes. Gives their length. */
+static size_t sent(uint8_t *inbox, size_t room, size_t sender, const void *bytes, size_t len) {
+    size_t used = 0;
+    for (size_t j = 1; j <= 3; j++) used = cipangohu_append(inbox, room, used, (const uint8_t *)bytes, j == sender ? len : 0).value;
+    return used;
+}
+
+/* The map of party 2 after both inboxes, in which these senders have these bytes; the value of step 5 tells it, the state does, and both do so again. */
+static uint32_t seen(uint32_t session, const char *message, size_t first, size_t second, const void *bytes, size_t len) {
+    uint8_t inbox[100];
+    size_t used = sent(inbox, sizeof inbox, first, bytes, len);
+    uint32_t after_first;
+    cipangohu_answer answer, again;
+    await_shares(session, message);
+    CHECK(cipangohu_take_shares(state, sizeof state, inbox, used, out, sizeof out).cause == CIPANGOHU_ACCEPTED);
+    after_first = cipangohu_faulty(state, sizeof state).value;
+    used = sent(inbox, sizeof inbox, second, bytes, len);
+    answer = cipangohu_take_relays(state, sizeof state, inbox, used, out, sizeof out);
+    again = cipangohu_take_relays(state, sizeof state, NULL, 0, out, sizeof out);
+    CHECK(answer.cause == CIPANGOHU_ACCEPTED && again.cause == CIPANGOHU_ACCEPTED && answer.value == again.value);
+    CHECK(cipangohu_result_settled(answer.value) == (cipangohu_result(state, sizeof state).at != NULL));
+    CHECK(cipangohu_result_faulty(answer.value) == cipangohu_faulty(state, sizeof state).value);
+    CHECK(after_first == (first == 0 ? 0 : cipangohu_result_faulty(answer.value) & (uint32_t)1 << (first - 1)));
+    return cipangohu_result_faulty(answer.value);
+}
+
+/* What a liar may send is seen in either inbox by a happy party and by another; silence and what is due are not, and the own entry is not looked at. */
+static void check_seen(uint32_t session, const char *message) {
+    const struct { const char *bytes; size_t len; } faults[] = {{"\7", 1}, {"\0\0", 2}, {"\10\0\2AB", 5}, {"no packet", 9}};
+    uint8_t turned[80];
+    write_packets(session);
+    for (size_t k = 0; k < sizeof faults / sizeof faults[0]; k++) {
+        CHECK(seen(session, message, 1, 0, faults[k].bytes, faults[k].len) == 1 && seen(session, message, 0, 3, faults[k].bytes, faults[k].len) == 4);
+        CHECK(seen(session, message, 1, 3, faults[k].bytes, faults[k].len) == 5 && seen(session, message, 3, 3, faults[k].bytes, faults[k].len) == 4);
+        CHECK(seen(session, message, 2, 2, faults[k].bytes, faults[k].len) == 0);
+    }
+    CHECK(seen(session, message, 1, 3, NULL, 0) == 0 && seen(session, message, 1, 3, "\0", 1) == 0);
+    /* The number of the receiver is due first, and then that of the sender. */
+    CHECK(seen(session, message, 1, 0, packets[1].bytes, packets[1].len) == 0 && seen(session, message, 0, 1, packets[1].bytes, packets[1].len) == 1);
+    CHECK(seen(session, message, 3, 0, packets[2].bytes, packets[2].len) == 4 && seen(session, message, 0, 3, packets[2].bytes, packets[2].len) == 0);
+    memcpy(turned, packets[1].bytes, sizeof turned);
+    turned[4] ^= 1;
+    CHECK(seen(session, message, 1, 0, turned, packets[1].len) == 1 && seen(session ^ 1, message, 1, 0, packets[1].bytes, packets[1].len) == 1);
+}
+
+/* Where the buffer is too short, the map stays as it was. */
+static void check_map_kept(void) {
+    uint8_t inbox[20];
+    size_t used = sent(inbox, sizeof inbox, 1, "\7", 1);
+    cipangohu_answer answer;
+    write_packets(0);
+    await_shares(0, "AB");
+    state[16] = 4;
+    CHECK(cipangohu_take_shares(state, sizeof state, inbox, used, out, 1).cause == CIPANGOHU_CAUSE_ROOM && cipangohu_faulty(state, sizeof state).value == 4);
+    /* Step 4 begins anew, whatever the state says. */
+    CHECK(cipangohu_take_shares(state, sizeof state, inbox, used, out, sizeof out).cause == CIPANGOHU_ACCEPTED);
+    CHECK(cipangohu_faulty(state, sizeof state).value == 1);
+    used = sent(inbox, sizeof inbox, 3, "\7", 1);
+    answer = cipangohu_take_relays(state, sizeof state, inbox, used, out, 1);
+    CHECK(answer.cause == CIPANGOHU_CAUSE_ROOM && answer.value == 2 && cipangohu_faulty(state, sizeof state).value == 1);
+    answer = cipangohu_take_relays(state, sizeof state, inbox, used, out, 2);
+    CHECK(answer.cause == CIPANGOHU_ACCEPTED && answer.value == 2 * 5 + 1);
+    state[0] = 3;
+    CHECK(cipangohu_take_relays(state, sizeof state, NULL, 0, out, 2).cause == CIPANGOHU_CAUSE_STATE);
+}
+
+/* A map is none at any stage if it has the own number in it, or one above n. */
+static void check_map_bits(void) {
+    await_shares(0, "AB");
+    for (unsigned stage = 0; stage <= CIPANGOHU_ENDED_WITH_MESSAGE; stage++) {
+        for (unsigned bit = 0; bit < 32; bit++) {
+            uint32_t map = (uint32_t)1 << bit;
+            cipangohu_answer answer;
+            state[4] = (uint8_t)stage;
+            for (unsigned k = 0; k < 4; k++) state[13 + k] = (uint8_t)(map >> (24 - 8 * k));
+            answer = cipangohu_faulty(state, sizeof state);
+            CHECK(answer.cause == (map == 1 || map == 4 ? CIPANGOHU_ACCEPTED : CIPANGOHU_CAUSE_STATE));
+            CHECK(answer.value == (answer.cause == CIPANGOHU_ACCEPTED ? map : 0) && cipangohu_own(state, sizeof state).cause == answer.cause);
+        }
+    }
+}
+
+/* The value of step 5 and the map in it are taken apart. */
+static void check_map(void) {
+    CHECK(cipangohu_result_settled(0) == 0 && cipangohu_result_settled(1) == 1 && cipangohu_result_settled(10) == 0 && cipangohu_result_settled(11) == 1);
+    CHECK(cipangohu_result_faulty(0) == 0 && cipangohu_result_faulty(1) == 0 && cipangohu_result_faulty(10) == 5 && cipangohu_result_faulty(11) == 5);
+    for (size_t party = 0; party <= 40; party++) {
+        CHECK(cipangohu_map_has(0xFFFFFFFF, party) == (party >= 1 && party <= CIPANGOHU_PARTIES) && cipangohu_map_has(0, party) == 0);
+        CHECK(cipangohu_map_has(5, party) == (party == 1 || party == 3));
+    }
+    CHECK(cipangohu_map_has(0xFFFFFFFF, SIZE_MAX) == 0);
+}
+
 int main(void) {
     CHECK(cipangohu_version() == CIPANGOHU_VERSION && cipangohu_state_size() == CIPANGOHU_STATE);
     check_any_bytes();
@@ -314,6 +435,11 @@ int main(void) {
     check_sender();
     check_sender_causes();
     check_message();
+    check_seen(0, "AB");
+    check_seen(7, "C");
+    check_map_kept();
+    check_map_bits();
+    check_map();
     for (uint32_t cause = 0; cause <= CIPANGOHU_CAUSE_OTHER_ROOT + 1; cause++) printf("%u %s\n", (unsigned)cause, cipangohu_cause_text(cause));
     return 0;
 }

@@ -3,8 +3,8 @@
  * A host opens its party with a message and puts the root that comes of it into a short agreement. It hands in the agreed root, and puts the bit
  * that comes of it into a second short agreement. It hands in the agreed bit, and sends each entry of the outbox that comes of it to the party of
  * that number. It hands in what the others sent, and sends the relay that comes of it to all others. It hands in what they relayed, and has the
- * result: a message, or nothing. Whoever does that last step again gets the same result. (A party is one box of a sitting, and a message is a test
- * book; documents for people say box and book.)
+ * result, a message or nothing, and the parties that were seen to cheat. Whoever does that last step again gets the same. (A party is one box of a sitting, and a
+ * message is a test book; documents for people say box and book.)
  *
  * Where one party alone has the message, all parties open by it, their named sender. Its opening writes a packet with the whole message, which its host sends to
  * all others. Each of these is handed the packet that came, and opens with the message in it, or with the empty one if it cannot read any. All that follows is
@@ -14,15 +14,21 @@
  * each, and packets of the one fail the check in the other. Any number of 32 bits will do, 0 as well, under which roots and packets are those of versions before 3.
  * (Documents for people call it the sitting number.)
  *
+ * A party keeps a map of the parties that it saw cheat, a number in which party p counts 2^(p-1): those others from whom the first or the second inbox brought a
+ * packet that is not silence and cannot be read, bears a number that it should not, or fails the check. A happy party keeps it like any other. Where all good
+ * parties have one n, one agreed root and one session number, and what they send one another arrives as it was sent, no good party is ever in a good party's map,
+ * however many are bad. Who is not in it may be bad all the same: silence is no cheating, and a bad party may lie to one and not to another.
+ *
  * The host keeps the party's state, CIPANGOHU_STATE bytes, and hands it to every step. Its layout, with numbers big-endian here and in all entries:
  * byte 0 the version of the layout, CIPANGOHU_LAYOUT, byte 1 n, byte 2 t, byte 3 own number, byte 4 stage, bytes 5-6 the length of the message (of
  * a party that ended with one, of the result), bytes 7-8 the length of the share that an unhappy party relayed (a party is happy if the agreed root is
- * that of its own message; it then holds no share), bytes 9-12 the session number, at every stage, bytes 13-44 the agreed root, then CIPANGOHU_MESSAGE bytes for the
- * message, then CIPANGOHU_SHARE bytes for that share. An accepted step writes all of it anew, with zeros for what the stage does not have.
+ * that of its own message; it then holds no share), bytes 9-12 the session number, at every stage, bytes 13-16 the map of parties seen to cheat, from the first inbox
+ * on, bytes 17-48 the agreed root, then CIPANGOHU_MESSAGE bytes for the message, then CIPANGOHU_SHARE bytes for that share. An accepted step writes all of it anew,
+ * with zeros for what the stage does not have.
  *
- * Any bytes may stand in a state. Cause 5 is: fewer than CIPANGOHU_STATE bytes, another version, no stage, n, t or own number out of range, or a
- * length over its limit at any stage. All else is taken for the state that it says; this is no seal against forgers. Bytes past a length are
- * ignored. Of a longer buffer the first CIPANGOHU_STATE bytes are the state.
+ * Any bytes may stand in a state. Cause 5 is: fewer than CIPANGOHU_STATE bytes, another version, no stage, n, t or own number out of range, or at any
+ * stage a length over its limit, or a map with the party itself or a number above n in it. All else is taken for the state that it says; this is no seal against
+ * forgers. Bytes past a length are ignored. Of a longer buffer the first CIPANGOHU_STATE bytes are the state.
  *
  * An answer has a cause, 0 if the call was accepted, and a value, which says nothing without the cause: with cause 9 it is the length that the buffer
  * needs, of all other refusals it is 0. A refused call leaves every lent byte as it was, and bytes of a buffer past what is written keep their values. Where several
@@ -30,7 +36,8 @@
  *
  * An entry is a two-byte length and as many bytes, up to CIPANGOHU_ENTRY; n of them, in number order, make an inbox, an outbox, or what is rebuilt
  * from. In an inbox entry k is what party k sent, length 0 if it sent nothing. A packet in it that cannot be read, bears a number that it should not
- * (in the first inbox any but the own, in the second any but the sender's) or fails the check is passed over, and so is the own entry.
+ * (in the first inbox any but the own, in the second any but the sender's) or fails the check gives no share, and tells that its sender cheats. The own entry is
+ * passed over.
  *
  * A packet is silence, which is no bytes or one zero byte; or byte 0 is 7, byte 1 the number of a share, bytes 2-3 the share's length, and behind them stand
  * the share and its path, hash by hash from the leaf upward. None that can be read is longer than CIPANGOHU_PACKET.
@@ -53,12 +60,15 @@ extern "C" {
 #endif
 
 /* The version of this header, and as one number, which cipangohu_version gives of the library.
+ * New in 4.0: the map of parties seen to cheat. The value of step 5 tells it beside the result, and is no longer 0 or 1: cipangohu_result_settled and
+ * cipangohu_result_faulty take it apart, and the names CIPANGOHU_NOTHING and CIPANGOHU_SETTLED are gone. cipangohu_faulty, cipangohu_map_has. A state has four bytes
+ * more, and states of versions before 4 are cause 5: sessions that run are ended with the version that began them.
  * New in 3.0: the session number, which cipangohu_open, cipangohu_open_by_sender, cipangohu_check_path and cipangohu_rebuild_with_root take in front of n; a
  * host that numbers no sessions puts 0 there. cipangohu_session. A state has four bytes more, and states of versions before 3 are cause 5: sessions that run are
  * ended with the version that began them.
  * New in 2.2: cipangohu_open_by_sender, cipangohu_read_message, cipangohu_packet_message, CIPANGOHU_MESSAGE_PACKET.
  * New in 2.1: step 5 takes a message that it rebuilt only under the agreed root; cipangohu_rebuild_with_root; cause 15. */
-#define CIPANGOHU_VERSION_MAJOR 3
+#define CIPANGOHU_VERSION_MAJOR 4
 #define CIPANGOHU_VERSION_MINOR 0
 #define CIPANGOHU_VERSION_PATCH 0
 #define CIPANGOHU_VERSION ((CIPANGOHU_VERSION_MAJOR << 16) | (CIPANGOHU_VERSION_MINOR << 8) | CIPANGOHU_VERSION_PATCH)
@@ -71,14 +81,14 @@ extern "C" {
 #define CIPANGOHU_HASHED 65535
 #define CIPANGOHU_ENTRY 65535
 #define CIPANGOHU_ROOT 32
-#define CIPANGOHU_LAYOUT 3
+#define CIPANGOHU_LAYOUT 4
 
 /* Rooms that follow from them, in bytes: for the longest share, which is the whole frame of one party alone; for a state; for any packet with a share that a
  * party writes: four bytes, the share, the longest path; for any packet of a named sender: three bytes, the message; for all shares of a message together, which are
  * less than twice the longest frame with its zeros; for any outbox: these shares, and beside each its entry's length and the rest of its packet; and for any
  * inbox. */
 #define CIPANGOHU_SHARE (CIPANGOHU_MESSAGE + 2)
-#define CIPANGOHU_STATE (13 + CIPANGOHU_ROOT + CIPANGOHU_MESSAGE + CIPANGOHU_SHARE)
+#define CIPANGOHU_STATE (17 + CIPANGOHU_ROOT + CIPANGOHU_MESSAGE + CIPANGOHU_SHARE)
 #define CIPANGOHU_PACKET (4 + CIPANGOHU_SHARE + CIPANGOHU_PATH * CIPANGOHU_ROOT)
 #define CIPANGOHU_MESSAGE_PACKET (3 + CIPANGOHU_MESSAGE)
 #define CIPANGOHU_SHARES (2 * (CIPANGOHU_SHARE + CIPANGOHU_PARTIES))
@@ -112,9 +122,6 @@ enum cipangohu_stages {
     CIPANGOHU_ENDED_WITH_NOTHING = 4,
     CIPANGOHU_ENDED_WITH_MESSAGE = 5
 };
-
-/* The values of step 5. Nothing is no message, not even an empty one. */
-enum cipangohu_results { CIPANGOHU_NOTHING = 0, CIPANGOHU_SETTLED = 1 };
 
 /* What a call answers. */
 typedef struct cipangohu_answer {
@@ -169,16 +176,18 @@ CIPANGOHU_MUST_USE cipangohu_answer cipangohu_agree_root(uint8_t *state, size_t 
  * On bit 0 they are written too, and the party has ended with nothing. Value: the bytes written. Causes 5, 6, 7, 9. */
 CIPANGOHU_MUST_USE cipangohu_answer cipangohu_agree_bit(uint8_t *state, size_t state_len, size_t bit, uint8_t *out, size_t out_len);
 
-/* Step 4, the first inbox: writes the packet to relay to all others. Value: the bytes written, 0 if there is none. Causes 5, 6, 8, 9. */
+/* Step 4, the first inbox: writes the packet to relay to all others, and begins the map of parties seen to cheat, whatever map the state had. Value: the bytes
+ * written, 0 if there is none. Causes 5, 6, 8, 9. */
 CIPANGOHU_MUST_USE cipangohu_answer cipangohu_take_shares(uint8_t *state, size_t state_len, const uint8_t *inbox, size_t inbox_len,
                                                           uint8_t *out, size_t out_len);
 
-/* Step 5, the second inbox: writes the message, if the result is one. Value: CIPANGOHU_SETTLED for a message of any length, which
- * cipangohu_result_length tells, or CIPANGOHU_NOTHING; it is no length itself. A happy party ends with its own message. Another one rebuilds a
- * message from the shares that were relayed, its own among them, codes it again, and ends with it only if its root is the agreed one; else with
- * nothing. A party that has ended, at this step or on bit 0, gives its result to every further reader in the same way, and writes its state anew. It
- * does not look at the inbox. Readers hand in none (NULL and 0): a party that has not ended yet refuses that, and would take entries for its second
- * inbox. Causes 5, 6, 8, and 9 where there is a message (of a party that has ended: 5, and 9 where its result is a message). */
+/* Step 5, the second inbox: writes the message, if the result is one, and adds to the map of parties seen to cheat. Value: twice that map, and 1 more for a
+ * message of any length, which cipangohu_result_length tells; cipangohu_result_settled and cipangohu_result_faulty take it apart. Nothing is no message, not even an
+ * empty one. A happy party ends with its own message. Another one rebuilds a message from the shares that were relayed, its own among them, codes it again, and
+ * ends with it only if its root is the agreed one; else with nothing. A party that has ended, at this step or on bit 0, gives its result and its map, which on bit
+ * 0 is empty, to every further reader in the same way, and writes its state anew. It does not look at the inbox. Readers hand in none (NULL and 0): a party that
+ * has not ended yet refuses that, and would take entries for its second inbox. Causes 5, 6, 8, and 9 where there is a message (of a party that has ended: 5, and 9
+ * where its result is a message). */
 CIPANGOHU_MUST_USE cipangohu_answer cipangohu_take_relays(uint8_t *state, size_t state_len, const uint8_t *inbox, size_t inbox_len,
                                                           uint8_t *out, size_t out_len);
 
@@ -194,6 +203,9 @@ CIPANGOHU_MUST_USE cipangohu_answer cipangohu_own(const uint8_t *state, size_t s
 
 /* The number of the session that a party was opened in. Cause 5. */
 CIPANGOHU_MUST_USE cipangohu_answer cipangohu_session(const uint8_t *state, size_t state_len);
+
+/* The map of the parties that a party has seen cheat, 0 before its first inbox; cipangohu_map_has tells who is in it. Cause 5. */
+CIPANGOHU_MUST_USE cipangohu_answer cipangohu_faulty(const uint8_t *state, size_t state_len);
 
 /* Reads a packet among n parties. Value: 0 for silence (no bytes, or one zero byte), else what cipangohu_packet_number and the three beside it take
  * apart: count * 2^24 + number * 2^16 + the share's length, where count is that of the path's hashes. Causes 1, 10. */
@@ -292,9 +304,20 @@ static inline cipangohu_bytes cipangohu_result(const uint8_t *state, size_t stat
     cipangohu_bytes result = {NULL, 0};
     cipangohu_answer length = cipangohu_result_length(state, state_len);
     if (length.cause != CIPANGOHU_ACCEPTED) return result;
-    result.at = state + 13 + CIPANGOHU_ROOT;
+    result.at = state + 17 + CIPANGOHU_ROOT;
     result.len = length.value;
     return result;
+}
+
+/* Whether the result is a message, of the value that an accepted step 5 gave: 1 for a message, 0 for nothing. */
+static inline int cipangohu_result_settled(uint32_t value) { return (int)(value & 1); }
+
+/* The map of parties seen to cheat, of the same value. */
+static inline uint32_t cipangohu_result_faulty(uint32_t value) { return value >> 1; }
+
+/* Whether a party is in a map: 1 or 0. No number but 1 to CIPANGOHU_PARTIES is in any. */
+static inline int cipangohu_map_has(uint32_t map, size_t party) {
+    return party >= 1 && party <= CIPANGOHU_PARTIES && (map >> (party - 1) & 1) == 1;
 }
 
 /* The number that a packet bears, of the value that cipangohu_read_packet gave; 0 for silence. */

@@ -30,9 +30,9 @@ int main(void) {
     printf("to relay: %u bytes\n", (unsigned)value(cipangohu_take_shares(state, sizeof state, inbox, len, relay, sizeof relay)));
     /* What they relayed is handed in, and there is the result: a message, or nothing. */
     result = value(cipangohu_take_relays(state, sizeof state, inbox, len, out, sizeof out));
-    if (result == CIPANGOHU_NOTHING)
-        puts("nothing");
-    else
+    if (cipangohu_result_settled(result))
         printf("settled on %.*s\n", (int)value(cipangohu_result_length(state, sizeof state)), (const char *)out);
+    else
+        puts("nothing");
     return 0;
 }

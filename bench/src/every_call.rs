@@ -163,12 +163,13 @@ fn no_state(at: &Moments<Proved>, visit: Visit) {
 
 /// What a state tells.
 fn told(session: u32, at: &Moments<Proved>, visit: Visit) {
-    visit("result_length, stage, own, session", &mut || {
+    visit("result_length, stage, own, session, faulty", &mut || {
         let state = at.relayed[0].state();
         assert_eq!(calls::result_length(state).cause, 6);
         assert_eq!(accepted(calls::stage(state)), 3);
         assert_eq!(accepted(calls::own(state)), 1);
         assert_eq!(accepted(calls::session(state)), session);
+        assert_eq!(accepted(calls::faulty(state)), 0);
     });
 }
 

@@ -74,6 +74,15 @@ impl<'a> Input<'a> {
         }
     }
 
+    /// A map of parties: of none, of one, or any.
+    pub fn map(&mut self) -> u32 {
+        match self.byte() {
+            0 => 0,
+            byte @ 1..=32 => 1 << (byte - 1),
+            _ => u32::from_be_bytes([0; 4].map(|_: u8| self.byte())),
+        }
+    }
+
     /// A bit: 1 for a zero, 0 for a one, and what is none else, also such as would be a bit if it
     /// were cut.
     pub fn bit(&mut self) -> usize {

@@ -6,7 +6,7 @@ use std::sync::atomic::{AtomicU64, Ordering::Relaxed};
 use crate::call::{answered, beside, Answer, Call, Lent};
 
 /// Each function with the causes that the header lists for it, 0 for accepted.
-const LISTED: [(&str, &[u32]); 17] = [
+const LISTED: [(&str, &[u32]); 18] = [
     ("open", &[0, 1, 2, 3, 4, 9]),
     ("open_by_sender", &[0, 1, 2, 3, 4, 9]),
     ("agree_root", &[0, 5, 6, 7]),
@@ -17,6 +17,7 @@ const LISTED: [(&str, &[u32]); 17] = [
     ("stage", &[0, 5]),
     ("own", &[0, 5]),
     ("session", &[0, 5]),
+    ("faulty", &[0, 5]),
     ("read_packet", &[0, 1, 10]),
     ("read_message", &[0, 10]),
     ("check_path", &[0, 1, 3, 4, 7]),

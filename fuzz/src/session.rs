@@ -9,7 +9,9 @@ use foreign::liars::Sharing;
 use crate::call::{Answer, Call, Lent};
 use crate::input::Input;
 use crate::lend::checked;
-use crate::reference::{AT_GROUP, AT_HELD, AT_LENGTH, AT_ROOT, AT_SESSION, AT_SHARE, AT_STAGE};
+use crate::reference::{
+    AT_FAULTY, AT_GROUP, AT_HELD, AT_LENGTH, AT_ROOT, AT_SESSION, AT_SHARE, AT_STAGE,
+};
 
 const PARTIES: usize = 4;
 
@@ -317,7 +319,13 @@ impl Session<'_> {
 
     /// Asks all that a state tells.
     fn ask(&mut self, party: usize) {
-        for call in [Call::ResultLength, Call::Stage, Call::Own, Call::Session] {
+        for call in [
+            Call::ResultLength,
+            Call::Stage,
+            Call::Own,
+            Call::Session,
+            Call::Faulty,
+        ] {
             self.made(party, &call);
         }
     }
@@ -403,11 +411,11 @@ impl Session<'_> {
     }
 
     /// Changes a party's state as no host should: bytes anywhere, the stage, a number, a length near
-    /// its limit, its own length, the root, the share held, the layout's version, the session number, or
-    /// all of it.
+    /// its limit, its own length, the root, the share held, the layout's version, the session number, the
+    /// map of those seen to cheat, or all of it.
     fn spoil(&mut self, party: usize) {
         let mut state = take(&mut self.parties[party].state);
-        match self.input.below(10) {
+        match self.input.below(11) {
             0 => self.input.bend(&mut state),
             1 => put(&mut state, AT_STAGE, &[self.input.byte() % 8]),
             2 => {
@@ -429,6 +437,7 @@ impl Session<'_> {
             }
             7 => put(&mut state, 0, &[LAYOUT.wrapping_add(self.input.byte())]),
             8 => put(&mut state, AT_SESSION, &self.session().to_be_bytes()),
+            9 => put(&mut state, AT_FAULTY, &self.input.map().to_be_bytes()),
             _ => state = dirt(self.input.room(STATE)),
         }
         self.parties[party].state = state;

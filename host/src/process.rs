@@ -6,7 +6,7 @@ use std::io::{stdin, BufRead, Write};
 use std::net::TcpListener;
 use std::sync::Arc;
 
-use cipangohu::{Outcome, Party};
+use cipangohu::{Outcome, Parties, Party};
 
 use crate::agreement::Agreement;
 use crate::good::{self, Failure, Report, Unread};
@@ -56,18 +56,29 @@ fn noted(unread: &Unread) -> String {
     }
 }
 
+/// Whom a party saw cheat, for a person there.
+fn seen(faulty: Parties) -> String {
+    let numbers: Vec<String> = faulty.iter().map(|number| number.to_string()).collect();
+    match &numbers[..] {
+        [] => String::from("saw no box cheat"),
+        [one] => format!("saw box {one} cheat"),
+        _ => format!("saw boxes {} cheat", numbers.join(" ")),
+    }
+}
+
 /// The line that reports how a good party ended, its parts between tabs: the bytes it sent, its
-/// result, and a note, which may be empty.
+/// result, whom it saw cheat, and a note. The last two may be empty.
 fn reported(ended: &Result<Report, Failure>) -> String {
     let report = match ended {
         Ok(report) => report,
-        Err(Failure::Refused(cause)) => return format!("0\terror: {cause}\t"),
-        Err(Failure::Link(error)) => return format!("0\terror: {error}\t"),
+        Err(Failure::Refused(cause)) => return format!("0\terror: {cause}\t\t"),
+        Err(Failure::Link(error)) => return format!("0\terror: {error}\t\t"),
     };
     let result = report.party.result();
     let result = result.map_or(String::from("error: the box has not ended"), shown);
+    let seen = seen(report.party.faulty());
     let note = report.unread.as_ref().map_or(String::new(), noted);
-    format!("{}\t{result}\t{note}", report.sent)
+    format!("{}\t{result}\t{seen}\t{note}", report.sent)
 }
 
 /// Shows the result to whoever asks after the report. The inbox is gone by then; step 5 needs none
@@ -75,7 +86,7 @@ fn reported(ended: &Result<Report, Failure>) -> String {
 fn show(party: &mut Party) -> Result<(), String> {
     while told()? == SHOW {
         let again = party.take_relays(&[]).map_err(|cause| cause.to_string())?;
-        tell(&shown(again))?;
+        tell(&shown(again.outcome))?;
     }
     Ok(())
 }

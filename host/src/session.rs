@@ -68,11 +68,13 @@ impl Process {
     }
 }
 
-/// How a good party ended: the bytes it sent, its result as it is printed, and what else it tells.
+/// How a good party ended: the bytes it sent, its result as it is printed, whom it saw cheat, and what
+/// else it tells.
 struct Ended {
     own: usize,
     sent: usize,
     result: String,
+    seen: String,
     note: String,
 }
 
@@ -80,13 +82,14 @@ struct Ended {
 fn ended(process: &Process, patience: Duration) -> Ended {
     let line = process
         .line(patience)
-        .unwrap_or_else(|message| format!("0\terror: {message}\t"));
-    let mut parts = line.splitn(3, '\t');
+        .unwrap_or_else(|message| format!("0\terror: {message}\t\t"));
+    let mut parts = line.splitn(4, '\t');
     let sent = parts.next().and_then(|sent| sent.parse().ok());
     Ended {
         own: process.own,
         sent: sent.unwrap_or(0),
         result: parts.next().unwrap_or("error: no report").to_string(),
+        seen: parts.next().unwrap_or_default().to_string(),
         note: parts.next().unwrap_or_default().to_string(),
     }
 }
@@ -222,10 +225,10 @@ fn print(options: &Options, ended: &[Ended]) -> bool {
             println!("{own} lies: {}", lie.name());
         }
         for ended in ended.iter().filter(|ended| ended.own == own) {
-            if !ended.note.is_empty() {
-                println!("{own} {}", ended.note);
+            let told = [&ended.note, &ended.result, &ended.seen].into_iter();
+            for line in told.filter(|line| !line.is_empty()) {
+                println!("{own} {line}");
             }
-            println!("{own} {}", ended.result);
         }
     }
     let sent: usize = ended.iter().map(|ended| ended.sent).sum();

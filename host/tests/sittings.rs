@@ -1,6 +1,7 @@
 //! Sittings as real processes: with liars of every kind, with duties broken, and those of
 //! docs/HOSTING.md. None may hang.
 
+use std::collections::{BTreeMap, BTreeSet};
 use std::io::Read;
 use std::path::Path;
 use std::process::{Command, Stdio};
@@ -74,6 +75,20 @@ impl Run {
             .collect()
     }
 
+    /// Whom each good party saw cheat.
+    fn seen(&self) -> BTreeMap<usize, BTreeSet<usize>> {
+        let parts = self
+            .lines
+            .iter()
+            .filter_map(|line| line.split_once(" saw "));
+        parts
+            .map(|(own, boxes)| {
+                let numbers = boxes.split(' ').filter_map(|word| word.parse().ok());
+                (own.parse().expect("a number"), numbers.collect())
+            })
+            .collect()
+    }
+
     /// What was settled, by the verdict.
     fn settled(&self) -> Option<&str> {
         let verdict = "settled: all good boxes have one result, ";
@@ -83,9 +98,22 @@ impl Run {
     }
 }
 
-/// All good parties must end with one of these results.
+/// The parties that the words say lie.
+fn lying(words: &str) -> BTreeSet<usize> {
+    let said = words.split("--lie ").skip(1);
+    said.filter_map(|rest| rest.split('=').next()?.parse().ok())
+        .collect()
+}
+
+/// All good parties must end with one of these results, and see no good one cheat.
 fn settles(words: &str, good: usize, allowed: &[&str]) {
     let run = host(words);
+    let (seen, liars) = (run.seen(), lying(words));
+    assert_eq!(seen.len(), good, "{words}: {:?}", run.lines);
+    assert!(
+        seen.values().all(|boxes| boxes.is_subset(&liars)),
+        "{words}: {seen:?}"
+    );
     let results = run.results();
     assert_eq!(run.status, 0, "{words}: {:?}", run.lines);
     assert_eq!(results.len(), good, "{words}: {:?}", run.lines);
@@ -143,6 +171,41 @@ fn liars_of_every_kind() {
     }
     println!("{} sittings", sittings.len());
     beside(sittings);
+}
+
+/// Who says what is no packet of the agreed book is seen by every good box, happy or not; who says
+/// nothing is not.
+#[test]
+fn liars_are_seen() {
+    let mut sittings: Vec<Box<dyn Fn() + Send + Sync>> = Vec::new();
+    for lie in LIES.into_iter().filter(|lie| *lie != "split") {
+        for more in ["", "--own-book 3=43"] {
+            let words = format!("{} --book 4142 {more}", liars(5, 2, lie, false));
+            let caught = match lie {
+                "silent" | "forge" => BTreeSet::new(),
+                _ => BTreeSet::from([4, 5]),
+            };
+            sittings.push(Box::new(move || {
+                let seen = host(&words).seen();
+                let expected = (1..=3).map(|own| (own, caught.clone())).collect();
+                assert_eq!(seen, expected, "{words}");
+            }));
+        }
+    }
+    beside(sittings);
+}
+
+/// A box that lies to some is seen by these and not by others.
+#[test]
+fn a_liar_is_seen_by_some() {
+    let seen_by = |seed: u64| {
+        let words = format!("{} --book 4142 --seed {seed}", liars(4, 1, "split", false));
+        let seen = host(&words).seen();
+        let by = seen.into_iter().filter(|(_, boxes)| boxes.contains(&4));
+        by.count()
+    };
+    let some: BTreeSet<usize> = (0..4).map(seen_by).collect();
+    assert!(some.contains(&1) || some.contains(&2), "{some:?}");
 }
 
 /// A good sender's book is settled on, whatever others lie, also in the sender's exchange.
@@ -205,24 +268,27 @@ fn a_sender_that_lies() {
 #[test]
 fn boxes_tell_that_they_read_no_book() {
     let few = format!("--parties 3 --faults 1 --sender 2 {LIMIT}");
-    for (lie, told) in [
-        ("silent", "hears nothing from box 2"),
-        ("too-long", "cannot read what box 2 sent"),
+    for (lie, told, seen) in [
+        ("silent", "hears nothing from box 2", "no box"),
+        ("too-long", "cannot read what box 2 sent", "box 2"),
     ] {
         let run = host(&format!("{few} --book 4142 --lie 2={lie}"));
         let told = format!("{told}, and opens with the empty book");
         let expected = [
             &format!("1 {told}"),
             "1 =",
+            &format!("1 saw {seen} cheat"),
             &format!("2 lies: {lie}"),
             &format!("3 {told}"),
             "3 =",
+            &format!("3 saw {seen} cheat"),
         ];
-        assert_eq!(run.lines[..5], expected, "{lie}");
+        assert_eq!(run.lines[..7], expected, "{lie}");
         assert_eq!(run.settled(), Some("the empty book"));
     }
     let run = host(&format!("{few} --book /dev/null"));
-    assert_eq!(run.lines[..3], ["1 =", "2 =", "3 ="]);
+    assert_eq!(run.results(), ["=", "=", "="]);
+    assert!(!run.lines[0].contains("opens"));
     assert_eq!(run.settled(), Some("the empty book"));
 }
 
@@ -279,24 +345,28 @@ fn one_seed_gives_one_sitting() {
 #[test]
 fn worked_sittings() {
     let silent = format!("--parties 3 --faults 1 --lie 3=silent {LIMIT}");
-    let one = host(&format!("{silent} --book 4142"));
-    assert_eq!(
-        one.lines[..4],
-        ["1 = 4142", "2 = 4142", "3 lies: silent", "sent 496"]
-    );
-    let two = host(&format!("{silent} --book 41 --own-book 2=42"));
-    assert_eq!(
-        two.lines[..4],
-        ["1 = 41", "2 = 41", "3 lies: silent", "sent 388"]
-    );
-    let sent = host(&format!("{silent} --book 4142 --sender 1"));
-    assert_eq!(
-        sent.lines[..4],
-        ["1 = 4142", "2 = 4142", "3 lies: silent", "sent 506"]
-    );
+    for (words, book, sent) in [
+        ("--book 4142", "4142", 496),
+        ("--book 41 --own-book 2=42", "41", 388),
+        ("--book 4142 --sender 1", "4142", 506),
+    ] {
+        let run = host(&format!("{silent} {words}"));
+        let expected = [
+            &format!("1 = {book}"),
+            "1 saw no box cheat",
+            &format!("2 = {book}"),
+            "2 saw no box cheat",
+            "3 lies: silent",
+            &format!("sent {sent}"),
+        ];
+        assert_eq!(run.lines[..6], expected, "{words}");
+    }
     for words in ["", "--sender 1"] {
         let alone = host(&format!("--parties 1 --faults 0 --book 4142 {words}"));
-        assert_eq!(alone.lines[..2], ["1 = 4142", "sent 0"]);
+        assert_eq!(
+            alone.lines[..3],
+            ["1 = 4142", "1 saw no box cheat", "sent 0"]
+        );
     }
 }
 
@@ -305,8 +375,9 @@ fn worked_sittings() {
 fn sittings_of_any_number() {
     let words = "--parties 5 --faults 2 --book 4142 --own-book 3=43 --lie 4=other-sitting \
                  --lie 5=split --seed 3";
-    let usual = host(&format!("{words} {LIMIT}")).lines;
-    assert_eq!(usual[..3], ["1 = 4142", "2 = 4142", "3 = 4142"]);
+    let usual = host(&format!("{words} {LIMIT}"));
+    assert_eq!(usual.results(), ["= 4142"; 3]);
+    let usual = usual.lines;
     for number in [0, 1, 255, 0x0100_0000, u32::MAX] {
         let run = host(&format!("{words} {LIMIT} --sitting {number}"));
         assert_eq!((run.status, &run.lines), (0, &usual), "{number}");
@@ -359,15 +430,26 @@ fn messages_from_files_and_of_any_length() {
     }
 }
 
+/// Good boxes differ. Where they have two roots or two sitting numbers, they also take one another's
+/// packets for lies.
 #[test]
 fn a_broken_duty_breaks_the_sitting() {
     let words = format!("--parties 3 --faults 1 --book 41 --own-book 2=42 --lie 3=forge {LIMIT}");
     settles(&words, 2, &["= 41"]);
-    for duty in ["forge", "clock", "agreement", "state", "sitting"] {
+    for (duty, seen) in [
+        ("forge", None),
+        ("clock", None),
+        ("agreement", Some(1)),
+        ("state", Some(1)),
+        ("sitting", Some(1)),
+    ] {
         let run = host(&format!("{words} --break {duty}"));
         assert_eq!(run.status, 1, "{duty}: {:?}", run.lines);
         let results = run.results();
         assert_ne!(results[0], results[1], "{duty}");
+        // Box 1 is good.
+        let seen = seen.into_iter().collect();
+        assert_eq!(run.seen().get(&2), Some(&seen), "{duty}");
     }
 }
 

@@ -89,6 +89,7 @@ mod archive {
         pub fn cipangohu_stage(state: *const u8, state_len: usize) -> Answer;
         pub fn cipangohu_own(state: *const u8, state_len: usize) -> Answer;
         pub fn cipangohu_session(state: *const u8, state_len: usize) -> Answer;
+        pub fn cipangohu_faulty(state: *const u8, state_len: usize) -> Answer;
         pub fn cipangohu_read_packet(n: usize, packet: *const u8, packet_len: usize) -> Answer;
         pub fn cipangohu_read_message(packet: *const u8, packet_len: usize) -> Answer;
         pub fn cipangohu_check_path(
@@ -255,6 +256,10 @@ pub fn own(state: &[u8]) -> Answer {
 
 pub fn session(state: &[u8]) -> Answer {
     tell(archive::cipangohu_session, state)
+}
+
+pub fn faulty(state: &[u8]) -> Answer {
+    tell(archive::cipangohu_faulty, state)
 }
 
 pub fn read_packet(n: usize, packet: &[u8]) -> Answer {

@@ -6,6 +6,9 @@
 //! with the same one. A message has another root in a session of another number, and packets of the
 //! one fail the check in the other.
 //!
+//! A party keeps a map of the parties that it saw cheat, boxes seen to cheat in documents for people,
+//! and gives it with its result.
+//!
 //! A call is accepted, or turned away with a [`Cause`] and nothing changed; none panics. What the
 //! host owes is told in docs/HOSTING.md. The crate needs no standard library; what needs an
 //! allocator, `lay_out`, `shares`, `rebuild` and `rebuild_with_root`, stands behind the feature
@@ -24,10 +27,12 @@
 //! lay_out_in(&[b""], &mut inbox)?;
 //! party.take_shares(&inbox, &mut out)?;
 //! assert_eq!(party.stage(), Stage::AwaitsRelays);
-//! assert_eq!(party.take_relays(&inbox)?, Outcome::Message(b"AB"));
+//! let ending = party.take_relays(&inbox)?;
+//! assert_eq!(ending.outcome, Outcome::Message(b"AB"));
+//! assert!(ending.faulty.is_empty());
 //! assert_eq!(party.result(), Some(Outcome::Message(b"AB")));
 //! // Whoever does the step again gets the same, and needs no inbox.
-//! assert_eq!(party.take_relays(&[])?, Outcome::Message(b"AB"));
+//! assert_eq!(party.take_relays(&[])?.outcome, Outcome::Message(b"AB"));
 //! # Ok(())
 //! # }
 //! ```
@@ -44,6 +49,7 @@ mod code;
 mod entries;
 mod limits;
 mod packet;
+mod parties;
 mod party;
 
 // The one module that speaks to the archive. Measurements, the fuzzer and the tests need its calls,
@@ -63,7 +69,8 @@ pub use limits::{
     MAX_PACKET, MAX_PARTIES, MAX_PATH, MAX_SHARE, MAX_SHARES, STATE,
 };
 pub use packet::{check_path, read_message, read_packet, Packet};
-pub use party::{Outcome, Party, Stage};
+pub use parties::Parties;
+pub use party::{Ending, Outcome, Party, Stage};
 
 /// A SHA-256 hash.
 pub type Hash = [u8; HASH];

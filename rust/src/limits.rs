@@ -40,11 +40,12 @@ pub const MAX_OUTBOX: usize = MAX_SHARES + MAX_PARTIES * (6 + MAX_PATH * HASH);
 pub const MAX_INBOX: usize = MAX_PARTIES * (2 + MAX_ENTRY);
 
 /// The version of a state's layout, its first byte.
-pub const LAYOUT: u8 = 3;
+pub const LAYOUT: u8 = 4;
 
 /// Where the message stands in a state, the result of a party that ended with one: behind the
-/// version, the numbers and the lengths, the session number, and the root.
-pub(crate) const AT_MESSAGE: usize = 13 + HASH;
+/// version, the numbers and the lengths, the session number, the map of parties seen to cheat, and
+/// the root.
+pub(crate) const AT_MESSAGE: usize = 17 + HASH;
 
 /// The bytes of a party's state, with room for a message and a share.
 pub const STATE: usize = AT_MESSAGE + MAX_MESSAGE + MAX_SHARE;

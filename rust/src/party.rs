@@ -5,6 +5,7 @@ use core::fmt;
 use crate::calls;
 use crate::cause::Cause;
 use crate::limits::{AT_MESSAGE, HASH, MAX_MESSAGE, STATE};
+use crate::parties::Parties;
 use crate::Hash;
 
 /// How a party ended. Nothing is no message, not even an empty one.
@@ -14,6 +15,15 @@ pub enum Outcome<'a> {
     Nothing,
     /// The message that they settled on.
     Message(&'a [u8]),
+}
+
+/// What step 5 gives: how a party ended, and whom it saw cheat.
+#[derive(Clone, Copy, Debug, PartialEq, Eq)]
+pub struct Ending<'a> {
+    /// The message, or nothing.
+    pub outcome: Outcome<'a>,
+    /// The parties that it saw cheat; [`Party::faulty`] tells what that means.
+    pub faulty: Parties,
 }
 
 /// What a party waits for, or how it ended.
@@ -44,13 +54,26 @@ const STAGES: [Stage; 6] = [
     Stage::EndedWithMessage,
 ];
 
-/// What the bytes of a state say of its party: session number, own number and stage; [`Cause::State`]
-/// if they are none.
-fn told(state: &[u8]) -> Result<(u32, usize, Stage), Cause> {
-    let session = calls::session(state).accepted()?;
-    let own = calls::own(state).accepted()? as usize;
-    let stage = calls::stage(state).accepted()? as usize;
-    Ok((session, own, *STAGES.get(stage).ok_or(Cause::State)?))
+/// What the bytes of a state say of its party.
+#[derive(Clone, Copy, Debug, PartialEq, Eq)]
+struct Told {
+    session: u32,
+    own: usize,
+    stage: Stage,
+    faulty: Parties,
+}
+
+impl Told {
+    /// [`Cause::State`] if the bytes are no state.
+    fn of(state: &[u8]) -> Result<Told, Cause> {
+        let stage = calls::stage(state).accepted()? as usize;
+        Ok(Told {
+            session: calls::session(state).accepted()?,
+            own: calls::own(state).accepted()? as usize,
+            stage: *STAGES.get(stage).ok_or(Cause::State)?,
+            faulty: Parties::of(calls::faulty(state).accepted()?),
+        })
+    }
 }
 
 /// A party, by its state. It cannot be cloned: a step done twice from one state would send two
@@ -59,17 +82,21 @@ fn told(state: &[u8]) -> Result<(u32, usize, Stage), Cause> {
 #[derive(PartialEq, Eq)]
 pub struct Party {
     state: [u8; STATE],
-    session: u32,
-    own: usize,
-    stage: Stage,
+    told: Told,
 }
 
 impl fmt::Debug for Party {
-    /// Numbers and stage: the state has too many bytes to read.
+    /// Numbers, stage and map: the state has too many bytes to read.
     fn fmt(&self, f: &mut fmt::Formatter) -> fmt::Result {
+        let Told {
+            session,
+            own,
+            stage,
+            faulty,
+        } = &self.told;
         let mut shown = f.debug_struct("Party");
-        shown.field("session", &self.session);
-        shown.field("own", &self.own).field("stage", &self.stage);
+        shown.field("session", session).field("own", own);
+        shown.field("stage", stage).field("faulty", faulty);
         shown.finish_non_exhaustive()
     }
 }
@@ -172,12 +199,9 @@ impl Party {
     /// # }
     /// ```
     pub fn from_state(state: &[u8]) -> Result<Party, Cause> {
-        let (session, own, stage) = told(state)?;
         Ok(Party {
+            told: Told::of(state)?,
             state: *state.first_chunk().ok_or(Cause::State)?,
-            session,
-            own,
-            stage,
         })
     }
 
@@ -188,22 +212,55 @@ impl Party {
 
     /// The number of the session that the party was opened in.
     pub fn session(&self) -> u32 {
-        self.session
+        self.told.session
     }
 
     /// The party's number, from 1.
     pub fn own(&self) -> usize {
-        self.own
+        self.told.own
     }
 
     /// What the party waits for, or how it ended.
     pub fn stage(&self) -> Stage {
-        self.stage
+        self.told.stage
+    }
+
+    /// The parties that it has seen cheat: those others from whom an inbox brought a packet that is
+    /// not silence and cannot be read, bears a number that it should not, or fails the check. They are
+    /// none before [`Party::take_shares`], and [`Party::take_relays`] adds to them.
+    ///
+    /// Where all good parties have one n, one agreed root and one session number, and what they send
+    /// one another arrives as it was sent, no good party is ever among a good one's, however many are
+    /// bad. Who is not among them may be bad all the same: silence is no cheating, and a bad party may
+    /// lie to one and not to another.
+    ///
+    /// ```
+    /// use cipangohu::{lay_out_in, Ending, Outcome, Party, MAX_OUTBOX};
+    ///
+    /// # fn main() -> Result<(), cipangohu::Cause> {
+    /// let (mut party, root) = Party::open(7, 3, 1, 2, b"AB")?;
+    /// party.agree_root(&root)?;
+    /// let mut out = [0; MAX_OUTBOX];
+    /// party.agree_bit(true, &mut out)?;
+    /// // Party 1 sends nothing, and party 3 what is no packet.
+    /// let mut inbox = [0; 15];
+    /// lay_out_in(&[&b""[..], b"", b"no packet"], &mut inbox)?;
+    /// party.take_shares(&inbox, &mut out)?;
+    /// assert!(party.faulty().contains(3));
+    /// // Then both are silent.
+    /// let Ending { outcome, faulty } = party.take_relays(&[0; 6])?;
+    /// assert_eq!(outcome, Outcome::Message(b"AB"));
+    /// assert!(faulty.iter().eq([3]));
+    /// # Ok(())
+    /// # }
+    /// ```
+    pub fn faulty(&self) -> Parties {
+        self.told.faulty
     }
 
     /// How the party ended, if it has.
     pub fn result(&self) -> Option<Outcome<'_>> {
-        match self.stage {
+        match self.told.stage {
             Stage::EndedWithNothing => Some(Outcome::Nothing),
             Stage::EndedWithMessage => {
                 let length = calls::result_length(&self.state).accepted().ok()? as usize;
@@ -231,19 +288,20 @@ impl Party {
     }
 
     /// Step 4: takes the first inbox and writes the relay for all others; the answer is its length, 0
-    /// if there is none. Room for any is [`MAX_PACKET`](crate::MAX_PACKET). Causes: [`Cause::Step`],
-    /// [`Cause::Entries`], [`Cause::Room`].
+    /// if there is none. Room for any is [`MAX_PACKET`](crate::MAX_PACKET). From now on
+    /// [`Party::faulty`] tells who was seen to cheat. Causes: [`Cause::Step`], [`Cause::Entries`],
+    /// [`Cause::Room`].
     pub fn take_shares(&mut self, inbox: &[u8], out: &mut [u8]) -> Result<usize, Cause> {
         let answer = calls::take_shares(&mut self.state, inbox, out);
         Ok(self.stepped(answer)? as usize)
     }
 
-    /// Step 5: takes the second inbox; the answer is the result, which [`Party::result`] gives from
-    /// then on. A happy party ends with its own message. Another one rebuilds a message from the shares
-    /// that were relayed, codes it again, and ends with it only if its root is the agreed one; else with
-    /// nothing.
+    /// Step 5: takes the second inbox; the answer is the result, and with it the parties seen to cheat,
+    /// which [`Party::result`] and [`Party::faulty`] give from then on. A happy party ends with its own
+    /// message. Another one rebuilds a message from the shares that were relayed, codes it again, and
+    /// ends with it only if its root is the agreed one; else with nothing.
     ///
-    /// A party that has ended, at this step or on the bit `false`, gives its result to every further
+    /// A party that has ended, at this step or on the bit `false`, gives the same to every further
     /// reader and does not look at the inbox. Readers hand in none: a party that has not ended yet
     /// refuses that, and would take entries for its second inbox. Causes: [`Cause::Step`],
     /// [`Cause::Entries`], and none once the party has ended.
@@ -257,22 +315,24 @@ impl Party {
     /// party.agree_bit(true, &mut [0; 2])?;
     /// party.take_shares(&[0; 2], &mut [])?;
     /// assert_eq!(party.take_relays(&[]), Err(Cause::Entries));
-    /// assert_eq!(party.take_relays(&[0; 2])?, Outcome::Message(b"AB"));
-    /// assert_eq!(party.take_relays(&[])?, Outcome::Message(b"AB"));
+    /// assert_eq!(party.take_relays(&[0; 2])?.outcome, Outcome::Message(b"AB"));
+    /// assert_eq!(party.take_relays(&[])?.outcome, Outcome::Message(b"AB"));
     /// assert_eq!(party.take_shares(&[0; 2], &mut []), Err(Cause::Step));
     /// # Ok(())
     /// # }
     /// ```
-    pub fn take_relays(&mut self, inbox: &[u8]) -> Result<Outcome<'_>, Cause> {
+    pub fn take_relays(&mut self, inbox: &[u8]) -> Result<Ending<'_>, Cause> {
         let answer = calls::take_relays(&mut self.state, inbox, &mut [0; MAX_MESSAGE]);
-        self.stepped(answer)?;
-        self.result().ok_or(Cause::State)
+        // The lowest bit of the value is whether there is a message; above it lies the map.
+        let faulty = Parties::of(self.stepped(answer)? >> 1);
+        let outcome = self.result().ok_or(Cause::State)?;
+        Ok(Ending { outcome, faulty })
     }
 
     /// The value of a step that was accepted, after which the state tells anew where it is.
     fn stepped(&mut self, answer: calls::Answer) -> Result<u32, Cause> {
         let value = answer.accepted()?;
-        (self.session, self.own, self.stage) = told(&self.state)?;
+        self.told = Told::of(&self.state)?;
         Ok(value)
     }
 }

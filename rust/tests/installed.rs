@@ -123,8 +123,10 @@ fn programs() -> [(&'static str, String); 4] {
         (
             "example",
             String::from(
-                "1 happy\n2 happy\n3 unhappy\n1 = AB\n2 = AB\n3 = AB\n\
-                 screen: 1 = AB\nscreen: 2 = AB\nscreen: 3 = AB\n",
+                "1 happy\n2 happy\n3 unhappy\n\
+                 1 = AB\n1 saw 4 cheat\n2 = AB\n2 saw 4 cheat\n3 = AB\n3 saw 4 cheat\n\
+                 screen: 1 = AB\nscreen: 1 saw 4 cheat\nscreen: 2 = AB\nscreen: 2 saw 4 cheat\n\
+                 screen: 3 = AB\nscreen: 3 saw 4 cheat\n",
             ),
         ),
         (

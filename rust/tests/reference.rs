@@ -14,9 +14,10 @@ const AT_STAGE: usize = 4;
 const OF_CALLS: [&str; 4] = ["box", "state", "opening", "calls"];
 
 /// The calls that stand there.
-const CALLS: [&str; 14] = [
+const CALLS: [&str; 15] = [
     "agree_bit",
     "agree_root",
+    "faulty",
     "hash",
     "open",
     "open_by_sender",
@@ -167,6 +168,7 @@ fn answer(call: &Field, lent: &mut Lent) -> Answer {
         "stage" => calls::stage(state),
         "own" => calls::own(state),
         "session" => calls::session(state),
+        "faulty" => calls::faulty(state),
         "shares" => calls::shares((number("n"), number("t")), &bytes("book"), out),
         "rebuild_with_root" => {
             let group = (number("n"), number("t"));
@@ -179,9 +181,27 @@ fn answer(call: &Field, lent: &mut Lent) -> Answer {
     }
 }
 
+/// Whether a line tells the result of step 5, by its value, with the boxes seen to cheat.
+fn tells_result(told: &Field, value: u32, lent: &Lent) -> bool {
+    let Lent { state, out, .. } = lent;
+    let seen = told.argument("saw").into_iter();
+    let seen = seen.flat_map(|boxes| boxes.split(" and "));
+    let map: u32 = seen
+        .map(|it| 1 << (number(it).expect("a number") - 1))
+        .sum();
+    if map != value >> 1 {
+        return false;
+    }
+    if value & 1 == 0 {
+        return told.value.split(',').next() == Some("nothing");
+    }
+    let length = calls::result_length(state).accepted().expect("a length");
+    told.bytes("book").as_deref() == out.get(..length as usize)
+}
+
 /// Whether a line under a call tells this answer.
 fn tells(told: &Field, answer: Answer, lent: &Lent) -> bool {
-    let Lent { state, root, out } = lent;
+    let Lent { root, out, .. } = lent;
     let value = answer.value as usize;
     match (answer.cause, told.name.as_str()) {
         (0, "root") => bytes(&told.value).as_deref() == root.get(..HASH),
@@ -189,11 +209,7 @@ fn tells(told: &Field, answer: Answer, lent: &Lent) -> bool {
             bytes(&told.value).as_deref() == out.get(..value)
         }
         (0, "bit" | "value") => told.value == value.to_string(),
-        (0, "result") if value == 0 => told.value == "nothing",
-        (0, "result") => {
-            let length = calls::result_length(state).accepted().expect("a length");
-            told.bytes("book").as_deref() == out.get(..length as usize)
-        }
+        (0, "result") => tells_result(told, answer.value, lent),
         (cause, "cause") => {
             let number = told.value.split(',').next();
             number == Some(&cause.to_string()) && told.number("needs").unwrap_or(0) == value

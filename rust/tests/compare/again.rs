@@ -5,14 +5,17 @@ use cipangohu::{LAYOUT, MAX_MESSAGE, MAX_OUTBOX, STATE};
 use foreign::random::Random;
 
 use crate::call::{Call, Lent};
-use crate::made::{dirt, hold, put, Play};
-use crate::reference::{AT_GROUP, AT_HELD, AT_LENGTH, AT_MESSAGE, AT_ROOT, AT_SESSION, AT_SHARE};
+use crate::made::{bit, dirt, hold, others, put, Play};
+use crate::reference::{
+    AT_FAULTY, AT_GROUP, AT_HELD, AT_LENGTH, AT_MESSAGE, AT_ROOT, AT_SESSION, AT_SHARE,
+};
 use crate::tally::{compare, Tally};
 use crate::times;
 
-/// How a party ended, and its state as a step gives it.
+/// How a party ended, whom it saw cheat, and its state as a step gives it.
 struct End {
     result: Option<Vec<u8>>,
+    faulty: u32,
     state: Vec<u8>,
 }
 
@@ -22,6 +25,7 @@ impl End {
         let length = random.pick(&[0, 1, 2, any, MAX_MESSAGE - 1, MAX_MESSAGE]);
         let result = (!random.once_in(4)).then(|| dirt(length, random));
         let (n, t, own) = play.group;
+        let faulty = others([n, own]) & random.word() as u32;
         let stage = if result.is_some() { 5 } else { 4 };
         let mut state = vec![0; STATE];
         let head = [n, t, own].map(|number| number as u8);
@@ -29,8 +33,13 @@ impl End {
         let bytes = result.as_deref().unwrap_or_default();
         put(&mut state, AT_LENGTH, &(bytes.len() as u16).to_be_bytes());
         put(&mut state, AT_SESSION, &play.session.to_be_bytes());
+        put(&mut state, AT_FAULTY, &faulty.to_be_bytes());
         put(&mut state, AT_MESSAGE, bytes);
-        End { result, state }
+        End {
+            result,
+            faulty,
+            state,
+        }
     }
 
     fn bytes(&self) -> &[u8] {
@@ -71,8 +80,8 @@ impl End {
             assert_eq!((answer.cause, answer.value as usize), (9, bytes.len()));
             return;
         }
-        let settled = u32::from(self.result.is_some());
-        assert_eq!((answer.cause, answer.value), (0, settled));
+        let given = 2 * self.faulty + u32::from(self.result.is_some());
+        assert_eq!((answer.cause, answer.value), (0, given));
         assert_eq!(lent.state, self.state);
         assert_eq!(lent.out[..bytes.len()], *bytes);
     }
@@ -81,9 +90,9 @@ impl End {
 /// A state that breaks one limit.
 fn broken(state: &[u8], random: &mut Random) -> Vec<u8> {
     let mut state = state.to_vec();
-    match random.below(7) {
+    match random.below(9) {
         0 => state.truncate(random.below(STATE)),
-        1 => state[0] = LAYOUT + 1,
+        1 => state[0] = random.pick(&[LAYOUT - 1, LAYOUT + 1]),
         2 => state[AT_GROUP] = 0,
         3 => state[AT_GROUP + 1] = 255,
         4 => state[AT_GROUP + 2] = 0,
@@ -92,7 +101,15 @@ fn broken(state: &[u8], random: &mut Random) -> Vec<u8> {
             AT_LENGTH,
             &(MAX_MESSAGE as u16 + 1).to_be_bytes(),
         ),
-        _ => put(&mut state, AT_HELD, &[255, 255]),
+        6 => put(&mut state, AT_HELD, &[255, 255]),
+        7 => {
+            let own = usize::from(state[AT_GROUP + 2]);
+            put(&mut state, AT_FAULTY, &bit(own).to_be_bytes());
+        }
+        _ => {
+            let above = usize::from(state[AT_GROUP]) + 1;
+            put(&mut state, AT_FAULTY, &bit(above).to_be_bytes());
+        }
     }
     state
 }

@@ -18,6 +18,7 @@ pub enum Call {
     Stage,
     Own,
     Session,
+    Faulty,
     ReadPacket(usize, Vec<u8>),
     ReadMessage(Vec<u8>),
     CheckPath(u32, (usize, usize), Vec<u8>, Vec<u8>, Vec<u8>),
@@ -49,6 +50,7 @@ impl Call {
             Call::Stage => "stage",
             Call::Own => "own",
             Call::Session => "session",
+            Call::Faulty => "faulty",
             Call::ReadPacket(..) => "read_packet",
             Call::ReadMessage(_) => "read_message",
             Call::CheckPath(..) => "check_path",
@@ -75,6 +77,7 @@ pub fn answered(call: &Call, state: &mut [u8], root: &mut [u8], out: &mut [u8]) 
         Call::Stage => calls::stage(state),
         Call::Own => calls::own(state),
         Call::Session => calls::session(state),
+        Call::Faulty => calls::faulty(state),
         Call::ReadPacket(n, packet) => calls::read_packet(*n, packet),
         Call::ReadMessage(packet) => calls::read_message(packet),
         Call::CheckPath(session, place, share, path, root) => {

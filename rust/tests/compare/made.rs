@@ -7,7 +7,9 @@ use foreign::limits::INSIDE;
 use foreign::random::Random;
 use foreign::sessions;
 
-use crate::reference::{AT_GROUP, AT_HELD, AT_LENGTH, AT_ROOT, AT_SESSION, AT_SHARE, AT_STAGE};
+use crate::reference::{
+    AT_FAULTY, AT_GROUP, AT_HELD, AT_LENGTH, AT_ROOT, AT_SESSION, AT_SHARE, AT_STAGE,
+};
 
 /// A number that no group has.
 pub const ODD: [usize; 8] = [
@@ -160,7 +162,7 @@ pub fn room(needed: usize, random: &mut Random) -> usize {
 
 /// Changes a state in one way that its holder should not.
 pub fn spoil(state: &mut Vec<u8>, play: &Play, random: &mut Random) {
-    match random.below(14) {
+    match random.below(16) {
         0 => {
             let length = STATE - 1 - random.below(STATE);
             state.truncate(length);
@@ -183,12 +185,43 @@ pub fn spoil(state: &mut Vec<u8>, play: &Play, random: &mut Random) {
         8 => put(state, AT_ROOT, &play.scene.agreed.root),
         9 => hold(state, play),
         10 => past_lengths(state, random),
-        11 => state[0] = random.pick(&[0, LAYOUT, LAYOUT + 1, 255]),
+        11 => state[0] = random.pick(&[0, LAYOUT - 1, LAYOUT, LAYOUT + 1, 255]),
         12 => put(state, AT_SESSION, &sessions::some(random).to_be_bytes()),
+        13 | 14 => {
+            let group = [state[AT_GROUP], state[AT_GROUP + 2]].map(usize::from);
+            put(state, AT_FAULTY, &map(group, random).to_be_bytes());
+        }
         _ => {
             let place = random.below(state.len());
             state[place] ^= 1 << random.below(8);
         }
+    }
+}
+
+/// All others of a party of n, as a map; whatever the numbers are, it is one.
+pub fn others([n, own]: [usize; 2]) -> u32 {
+    let in_map = |party: &usize| *party != own;
+    (1..=n.min(32)).filter(in_map).map(bit).sum()
+}
+
+/// What a party counts in a map.
+pub fn bit(party: usize) -> u32 {
+    1 << (party - 1)
+}
+
+/// A map of parties: some others of a party of n, mostly; or beside them the own one, the next above
+/// n, or any bit; or any number.
+pub fn map(group: [usize; 2], random: &mut Random) -> u32 {
+    let any = random.word() as u32;
+    let some = others(group) & any;
+    let [n, own] = group;
+    match random.below(8) {
+        0 => some | bit(own.clamp(1, 32)),
+        1 => some | bit((n + 1).min(32)),
+        2 => some | bit(1 + random.below(32)),
+        3 => any,
+        4 => others(group),
+        _ => some,
     }
 }
 

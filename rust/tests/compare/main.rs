@@ -6,6 +6,7 @@
 
 mod again;
 mod call;
+mod faulty;
 mod made;
 mod reference;
 mod root;
@@ -66,7 +67,13 @@ fn stateless(call: &Call, random: &mut Random, tally: &mut Tally) {
 
 /// The calls that ask something of a state.
 fn ask(state: &[u8], tally: &mut Tally) {
-    for call in [Call::ResultLength, Call::Stage, Call::Own, Call::Session] {
+    for call in [
+        Call::ResultLength,
+        Call::Stage,
+        Call::Own,
+        Call::Session,
+        Call::Faulty,
+    ] {
         let mut lent = Lent {
             state: state.to_vec(),
             ..Lent::default()
@@ -136,6 +143,7 @@ fn lists_of_calls() {
     tally.expect("stage", &[0, 5]);
     tally.expect("own", &[0, 5]);
     tally.expect("session", &[0, 5]);
+    tally.expect("faulty", &[0, 5]);
 }
 
 #[test]

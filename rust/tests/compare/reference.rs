@@ -5,20 +5,21 @@ use foreign::coder::{self, encode, rebuild};
 use foreign::commitment::rebuild_with_root;
 use foreign::limits::{LONGEST_STRING, MOST_HASHES};
 use foreign::packet::{self, Reading};
-use foreign::party::{Begun, Given, Outcome, Stage, State};
+use foreign::party::{Begun, Ending, Given, Outcome, Stage, State};
 use foreign::{message_packet, sha256, tree};
 
 use crate::call::{Answer, Call, Lent};
 
 /// Where things stand in a state: behind the version of the layout n, t and the own number, the
-/// stage, the lengths of the message and of the share, the session number, the root, the message and
-/// the share.
+/// stage, the lengths of the message and of the share, the session number, the map of those seen to
+/// cheat, the root, the message and the share.
 pub const AT_GROUP: usize = 1;
 pub const AT_STAGE: usize = 4;
 pub const AT_LENGTH: usize = 5;
 pub const AT_HELD: usize = 7;
 pub const AT_SESSION: usize = 9;
-pub const AT_ROOT: usize = AT_SESSION + 4;
+pub const AT_FAULTY: usize = AT_SESSION + 4;
+pub const AT_ROOT: usize = AT_FAULTY + 4;
 pub const AT_MESSAGE: usize = AT_ROOT + HASH;
 pub const AT_SHARE: usize = AT_MESSAGE + MAX_MESSAGE;
 
@@ -47,11 +48,7 @@ pub fn answer(call: &Call, lent: &mut Lent) -> Answer {
             step(state, |s| s.agree_bit(bit, out), |length| length)
         }
         Call::TakeShares(inbox) => step(state, |s| s.take_shares(inbox, out), |length| length),
-        Call::TakeRelays(inbox) => step(
-            state,
-            |s| s.take_relays(inbox, out),
-            |length| usize::from(length.is_some()),
-        ),
+        Call::TakeRelays(inbox) => step(state, |s| s.take_relays(inbox, out), ending),
         Call::ResultLength => told(state, |s| match s.stage {
             Stage::Ended(Outcome::Message(length)) => accepted(length as usize),
             _ => refused(6, 0),
@@ -59,6 +56,7 @@ pub fn answer(call: &Call, lent: &mut Lent) -> Answer {
         Call::Stage => told(state, |s| accepted(stage_number(s.stage).into())),
         Call::Own => told(state, |s| accepted(s.own as usize)),
         Call::Session => told(state, |s| accepted(s.session as usize)),
+        Call::Faulty => told(state, |s| accepted(s.faulty as usize)),
         Call::ReadPacket(n, packet) => read(*n, packet),
         Call::ReadMessage(packet) => read_message(packet),
         Call::CheckPath(session, place, share, path, root) => {
@@ -71,6 +69,12 @@ pub fn answer(call: &Call, lent: &mut Lent) -> Answer {
         }
         Call::Hash(message) => hash(message, out),
     }
+}
+
+/// The value of step 5: bit 0 tells whether there is a message, bit p whether party p was seen to
+/// cheat.
+fn ending(Ending { length, faulty }: Ending) -> usize {
+    2 * faulty as usize + usize::from(length.is_some())
 }
 
 /// The number at two bytes.
@@ -91,9 +95,9 @@ pub fn decoded(bytes: &[u8]) -> Option<State> {
         5 => (Stage::Ended(Outcome::Message(length)), 0),
         _ => return None,
     };
-    let session = bytes[AT_SESSION..AT_ROOT].try_into().expect("a number");
+    let four = |at: usize| bytes[at..at + 4].try_into().expect("four bytes");
     Some(State {
-        session: u32::from_be_bytes(session),
+        session: u32::from_be_bytes(four(AT_SESSION)),
         n: bytes[AT_GROUP].into(),
         t: bytes[AT_GROUP + 1].into(),
         own: bytes[AT_GROUP + 2].into(),
@@ -103,6 +107,7 @@ pub fn decoded(bytes: &[u8]) -> Option<State> {
         root: bytes[AT_ROOT..AT_MESSAGE].try_into().expect("a root"),
         message: bytes[AT_MESSAGE..AT_SHARE].try_into().expect("a message"),
         share: bytes[AT_SHARE..].try_into().expect("a share"),
+        faulty: u32::from_be_bytes(four(AT_FAULTY)),
     })
 }
 
@@ -131,6 +136,7 @@ pub fn encoded(state: &State) -> Vec<u8> {
     bytes.extend(two(length));
     bytes.extend(two(state.held));
     bytes.extend(state.session.to_be_bytes());
+    bytes.extend(state.faulty.to_be_bytes());
     bytes.extend(state.root);
     bytes.extend(state.message);
     bytes.extend(state.share);

@@ -3,8 +3,8 @@
 
 use cipangohu::{
     calls, check_path, entries, hash, lay_out, lay_out_in, read_packet, rebuild, rebuild_with_root,
-    shares, version, Cause, Hash, Outcome, Packet, Party, Stage, HASH, MAX_ENTRY, MAX_OUTBOX,
-    MAX_PACKET, MAX_PARTIES, STATE,
+    shares, version, Cause, Ending, Hash, Outcome, Packet, Party, Stage, HASH, MAX_ENTRY,
+    MAX_OUTBOX, MAX_PACKET, MAX_PARTIES, STATE,
 };
 use foreign::coder::{self, frame_of, shares_of};
 use foreign::liars::flip;
@@ -15,6 +15,7 @@ use foreign::random::Random;
 use foreign::{commitment, inbox, packet, sessions, sha256};
 
 use crate::call::{Answer, Call, Lent};
+use crate::faulty::map_of;
 use crate::made::{group, message, spoil, Play};
 use crate::reference::{self, encoded, AT_STAGE};
 use crate::{some_step, times};
@@ -36,6 +37,11 @@ fn told<T>(answer: Result<T, Refusal>) -> Result<T, Cause> {
 /// What a step wrote, or its cause.
 fn wrote(answer: Result<usize, Cause>, out: &[u8]) -> Result<Vec<u8>, Cause> {
     answer.map(|length| out[..length].to_vec())
+}
+
+/// What step 5 gave, with the parties seen to cheat as a map.
+fn given(ending: Ending) -> (Outcome, u32) {
+    (ending.outcome, map_of(ending.faulty))
 }
 
 /// The library's party and its root.
@@ -67,18 +73,20 @@ fn steps(play: &Play, random: &mut Random) -> bool {
     let relay = wrote(party.take_shares(&first, &mut out[..MAX_PACKET]), &out);
     assert_eq!(relay, wrote(told(length), &theirs));
     let second = play.inbox(1, random);
-    let (state, length) = state.take_relays(&second, &mut theirs);
-    let expected = told(length).map(|length| match length {
-        Some(length) => Outcome::Message(&theirs[..length]),
-        None => Outcome::Nothing,
+    let (state, ending) = state.take_relays(&second, &mut theirs);
+    let expected = told(ending).map(|ending| match ending.length {
+        Some(length) => (Outcome::Message(&theirs[..length]), ending.faulty),
+        None => (Outcome::Nothing, ending.faulty),
     });
-    assert_eq!(party.take_relays(&second), expected);
+    assert_eq!(party.take_relays(&second).map(given), expected);
     if expected.is_ok() {
-        assert_eq!(party.take_relays(&play.any_inbox(1, random)), expected);
+        let again = party.take_relays(&play.any_inbox(1, random));
+        assert_eq!(again.map(given), expected);
     }
-    assert_eq!(party.result(), expected.ok());
+    assert_eq!(party.result(), expected.ok().map(|(outcome, _)| outcome));
     assert_eq!(party.state()[..], encoded(&state));
     assert_eq!(party.session(), play.session);
+    assert_eq!(map_of(party.faulty()), state.faulty);
     assert_eq!(Party::from_state(party.state()).as_ref(), Ok(&party));
     party.stage() == Stage::EndedWithMessage
 }
@@ -267,5 +275,6 @@ fn the_archive_is_this_version() {
 fn a_party_is_shown_in_short() {
     let (party, _) = Party::open(7, 3, 1, 2, b"AB").expect("a lawful opening");
     let shown = format!("{party:?}");
-    assert_eq!(shown, "Party { session: 7, own: 2, stage: AwaitsRoot, .. }");
+    let expected = "Party { session: 7, own: 2, stage: AwaitsRoot, faulty: {}, .. }";
+    assert_eq!(shown, expected);
 }

@@ -57,7 +57,8 @@ fn played(mut parties: Vec<Party>, root: &Hash) -> Vec<Party> {
 }
 
 /// The last party was opened with another number: it is not happy though it has the message, finds no
-/// share that passes, and ends with nothing where the others settle.
+/// share that passes, and ends with nothing where the others settle. It takes them all for cheats,
+/// which they do not say of it, since it sends nothing.
 #[test]
 fn a_party_of_another_session() {
     let mut random = Random::new(18);
@@ -76,9 +77,11 @@ fn a_party_of_another_session() {
             (last.session(), last.stage()),
             (other, Stage::EndedWithNothing)
         );
+        assert!(last.faulty().iter().eq(1..n));
         for party in others {
             assert_eq!(party.session(), number);
             assert_eq!(party.result(), Some(Outcome::Message(&message)));
+            assert!(party.faulty().is_empty());
         }
     }
 }
