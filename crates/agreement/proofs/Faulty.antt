@@ -237,7 +237,7 @@ module _ (H : List ℕ → List ℕ) (session n t i : ℕ) (m : List ℕ) where
 pub awaited : (H : List ℕ → List ℕ) (session n t i : ℕ) (m : List ℕ) (calls : List Call) → opening H session n t i m .cause ≡ 0 → (e : Event)
     → firstOf H session n t i m calls 5 ≡ some e → e .before .stage ≡ Second → (d : Event) × (firstOf H session n t i m calls 4 ≡ some d)
 awaited H session n t i m calls o =
-    fifth H session n t i m _ (did H session n t i m calls) (course H session n t i m _ (did H session n t i m calls) (did-chain H session n t i m calls o))
+    fifth H session n t i m _ (did H session n t i m calls) (goes H session n t i m calls o)
 
 pub named-if-faulty : (H : List ℕ → List ℕ) → NamedIfFaulty H
 named-if-faulty H session n t i m calls z o root p a b = named H session n t i m calls z o root p a b
