@@ -37,11 +37,12 @@ use Rattle.party.specs.Steps.{shareFrom, rebuilt}
 use Rattle.party.specs.declared.Opened.{Opened}
 use Rattle.party.proofs.Ways.{Way, on, off, way, clash}
 use Rattle.agreement.specs.Calls.{heard, wrote, entry, lengths, opening, resultAfter, sentBy}
-use Rattle.agreement.specs.Agreement.{Good, among, absent, Each, owns, step, OpenedAll, CalledAll, Ruled, DeliveredAll, sent, Conclusions, Agreement}
+use Rattle.agreement.specs.Agreement.{Good, among, absent, Each, owns, step, OpenedAll, CalledAll, Ruled, DeliveredAll, allHashed, sent, Conclusions, Agreement}
 use Rattle.agreement.proofs.Ran.{opened-is}
 use Rattle.agreement.proofs.Lists.{lengths-none, lengths-others, sum-below, sum-none, among-out, one-each, present-borne}
 use Rattle.agreement.proofs.Needed.{isGlad, relayFrom, coding, check, Needed}
 use Rattle.agreement.proofs.Later.{gave}
+use Rattle.agreement.proofs.Strings.{clean-of-all}
 use Rattle.agreement.proofs.Conduct.{Conduct, sharesIn, shares-or, voted, someone, bit-low, ended, conducts, needed-hashed}
 
 regroup : (g k K x : ℕ) → x ≤ g * (2 * (k * K)) → x ≤ 2 * g * k * K
@@ -316,6 +317,16 @@ agreement H wide session n t good z bit P =
     let in-list = needed-hashed H session n t good z bit (P .opened) (P .called) in
     agreement-needed H wide session n t good z bit (P .opened) (P .called) (P .ruled) (P .delivered)
     (λ b1 x y h k. P .clean x y (in-list b1 x h) (in-list b1 y k))
+
+-- so is the longer one of all strings hashed
+pub agreement-of-all : (H : List ℕ → List ℕ) → ((s : List ℕ) → length (H s) ≡ 32) → (session n t : ℕ) (good : List Good) (z : List ℕ) (bit : ℕ)
+    → OpenedAll H session n t good → CalledAll H session n t good z bit → Ruled H session n t good z bit → (bit ≡ 1 → DeliveredAll H session n t good)
+    → ((x y : List ℕ) → List·Memᴰ x (allHashed H session n t good) → List·Memᴰ y (allHashed H session n t good) → H x ≡ H y → x ≡ y)
+    → (R : Result) × Conclusions H session n t good bit R
+agreement-of-all H wide session n t good z bit opened called ruled delivered free =
+    let in-list = needed-hashed H session n t good z bit opened called in
+    agreement-needed H wide session n t good z bit opened called ruled delivered
+    (λ b1 x y h k. clean-of-all H session n t good free x y (in-list b1 x h) (in-list b1 y k))
 
 -- demand 3: at SHA-256
 pub agreement-sha256 : Agreement sha256

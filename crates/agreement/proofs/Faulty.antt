@@ -264,9 +264,9 @@ module _ (H : List ℕ → List ℕ) (wide : (s : List ℕ) → length (H s) ≡
         quiet : at (replicate n [])
         quiet = subst (Fine j) (sym (at-none n (j - 1))) (none-fine j)
 
-        sends : (k : ℕ) → k ≡ j → Way (eqb k i) → glad H session n t m z ≡ true → Fine j (cond (eqb k i) [] (packetWith H session n t m k))
-        sends k q (on e) g = rw e (none-fine j)
-        sends k q (off e) g = rw e (subst (λ (u : ℕ). Fine j (packetWith H session n t m u)) (sym q) (packet-fine g j a b))
+        sends : (k : ℕ) → k ≡ j → (own : Bool) → glad H session n t m z ≡ true → Fine j (cond own [] (packetWith H session n t m k))
+        sends k q true g = none-fine j
+        sends k q false g = subst (λ (u : ℕ). Fine j (packetWith H session n t m u)) (sym q) (packet-fine g j a b)
 
         go : Way (eqb bit 0) → Way (glad H session n t m z) → at (bodies n (outboxOf H (X1 H session n t i m z) bit))
         go (on e) g = rw (eqb-true bit 0 e, out-zero H session n t i m z) quiet
@@ -276,22 +276,22 @@ module _ (H : List ℕ → List ℕ) (wide : (s : List ℕ) → length (H s) ≡
         go (off e) (on g) =
             let one : bit ≡ 1 = omega (arith, low, eqb-false bit 0 e) in
             rw (one, out-happy H session n t i m z g) (subst (Fine j) (sym (getD-tabulate n _ (j - 1) [] (omega arith)))
-            (sends (j - 1 + 1) (omega arith) (way (eqb (j - 1 + 1) i)) g))
+            (sends (j - 1 + 1) (omega arith) (eqb (j - 1 + 1) i) g))
 
     relay-fine : 1 ≤ i → i ≤ n → (in4 : List ℕ) → Fine i (relayOf H (X2 H session n t i m z) in4)
     unfolding atFirst
     relay-fine a b in4 = go (way (glad H session n t m z))
       where
-        own : glad H session n t m z ≡ true → Way (eqb n 1) → Fine i (cond (eqb n 1) [] (packetWith H session n t m i))
-        own g (on e) = rw e (none-fine i)
-        own g (off e) = rw e (packet-fine g i a b)
+        own : glad H session n t m z ≡ true → (alone : Bool) → Fine i (cond alone [] (packetWith H session n t m i))
+        own g true = none-fine i
+        own g false = packet-fine g i a b
 
         took : (u : glad H session n t m z ≡ false) (k : Taken) → it H session n t i m z u in4 ≡ k → Fine i (relayOf H (X2 H session n t i m z) in4)
         took u missing e = subst (Fine i) (sym (relay-is H session n t i m z u in4 ∙ ap (packetTaken (X2 H session n t i m z)) e)) (none-fine i)
         took u (found x p) e = ap isFaulty (relay-found H session n t i m z u in4 x p e)
 
         go : Way (glad H session n t m z) → Fine i (relayOf H (X2 H session n t i m z) in4)
-        go (on g) = subst (Fine i) (sym (relay-happy H session n t i m z g in4)) (own g (way (eqb n 1)))
+        go (on g) = subst (Fine i) (sym (relay-happy H session n t i m z g in4)) (own g (eqb n 1))
         go (off u) = took u (it H session n t i m z u in4) refl
 
 -- an opening's state has the empty map
