@@ -2,7 +2,7 @@
 -- another's by the check. On bit 1 some good party is happy, by the rule of the bit, and its message has that root too: one root has one message, or two
 -- strings collide. Where none do, every share that passes is that message's, so what is rebuilt is that message or nothing, with the check or without.
 -- Assumes nothing.
-use mathlib.Core.Path.{_≡_, refl, sym, ap, ap₂, _∙_, subst}
+use mathlib.Core.Path.{_≡_, refl, sym, ap, _∙_, subst}
 use mathlib.Core.Logic.{_⊎_, inl, inr}
 use mathlib.Core.Bool.{true, false, cond}
 use mathlib.Core.List.{List, [], _∷_, List·Memᴰ, List·Memᴰ·head, List·Memᴰ·tail, List·Memᴰ·not-nil, List·Memᴰ·append-cases, Memᴰ·append-left}

@@ -28,7 +28,7 @@ use Rattle.party.specs.Steps.{sentFaulty, faultyShares, faultyRelays, faultyOf,
 use Rattle.party.specs.Strings.{judgedStrings, shareStrings}
 use Rattle.agreement.specs.Calls.{Call, Event, accepted, first, entry, made, events, final}
 use Rattle.agreement.specs.Calls.{stringsOver, checkedIn, did, openedAndChecked, heard, packetTo, wrote, bitGiven, firstOf, resultAfter}
-use Rattle.agreement.proofs.Instances.{mix, digest, toy, cleanOf, clean, there, M, rootUnder, packetUnder, room, calls}
+use Rattle.agreement.proofs.Instances.{mix, digest, toy, cleanOf, clean, there, M, rootUnder, packetUnder, calls}
 
 -- the root that party 1 opened with is agreed; each party's inboxes hold what the other wrote
 abbrev calls1 : List Call

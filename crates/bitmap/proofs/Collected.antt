@@ -4,12 +4,10 @@ use mathlib.Core.Bool.{Bool, true, false, cond}
 use Prim.Native.Nat.{ℕ, zero, suc, _+_, _-_, _*_, _/_, _%_, _^_, _≤_, _<_}
 use native.Mathlib.Decide.{decLt}
 use native.Mathlib.Nat.{add-mul-div-right, add-mul-mod-self-right, div-eq-of-lt, pow-suc, one-le-pow}
-use native.Mathlib.Numerals.{add-one}
 use native.Mathlib.Omega.{arith}
-use borrow.Author.Tests.{lt-ltb}
-use lib.Dec.{ltb, eqb}
+use lib.Dec.{eqb}
 use lib.Pow.{pow-add, pow-mono}
-use Rattle.bitmap.specs.Bitmap.{names, upTo, mapOf}
+use Rattle.bitmap.specs.Bitmap.{names, mapOf}
 
 some-power : (k : ℕ) → 1 ≤ 2 ^ k
 some-power k = one-le-pow k 2 (omega arith)
@@ -23,9 +21,6 @@ map-small f (suc k) = go (f (k + 1)) (map-small f k)
     go : (t : Bool) → mapOf f k < 2 ^ k → mapOf f k + cond t (2 ^ k) 0 < 2 ^ suc k
     go true h = omega (arith, h, pow-suc 2 k)
     go false h = omega (arith, h, pow-suc 2 k, some-power k)
-
-pub map-upto : (f : ℕ → Bool) (k : ℕ) → upTo k (mapOf f k) ≡ true
-map-upto f k = lt-ltb (mapOf f k) (2 ^ k) (map-small f k)
 
 -- a map that names none beyond k does not name a later party
 pub beyond : (map k p : ℕ) → map < 2 ^ k → k < p → names map p ≡ false

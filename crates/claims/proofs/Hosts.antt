@@ -269,10 +269,10 @@ box-same session n t four h e =
     (seen-all (q .state) (h .calls) ∙ ap (λ (y : Party). map view (accepted (events sha256 y (h .calls)))) says)
     (ap resultIn (calls-kept sha256 (q .state) (h .calls) ∙ ap (λ (y : Party). final sha256 y (h .calls)) says))
   where
-    boxes : {i : ℕ} {b : List ℕ} {k l : ℕ} {z y : List ℕ} {as1 as2 : List Act} {q r : Option Result} {ss ts : List (List ℕ)} → k ≡ l → z ≡ y
+    boxes : {i : ℕ} {b : List ℕ} {k l : ℕ} {z y : List ℕ} {as1 as2 : List Act} {q r : Option Result} {ss us ts : List (List ℕ)} → k ≡ l → z ≡ y
         → as1 ≡ as2 → q ≡ r
-        → _≡_ {A = Box} (record { own = i; book = b; cause = k; root = z; acts = as1; result = q; openedAndChecked = ss; recoded = ts })
-        (record { own = i; book = b; cause = l; root = y; acts = as2; result = r; openedAndChecked = ss; recoded = ts })
+        → _≡_ {A = Box} (record { own = i; book = b; cause = k; root = z; acts = as1; result = q; openedAndChecked = ss; judged = us; recoded = ts })
+        (record { own = i; book = b; cause = l; root = y; acts = as2; result = r; openedAndChecked = ss; judged = us; recoded = ts })
     boxes a b c d = rw (a, b, c, d)
 
 -- every good box is a party, seen as one

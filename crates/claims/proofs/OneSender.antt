@@ -26,7 +26,7 @@ use Rattle.party.specs.declared.Opened.{Opened}
 use Rattle.party.specs.declared.Party.{Party}
 use Rattle.party.proofs.Outcomes.{open-given}
 use Rattle.party.proofs.Sender.{cause-bounds, begun-refused, begun-short, begun-given, accepted-fits, accepted-opens, cause-small, value-fits}
-use Rattle.agreement.specs.Calls.{Event, accepted, events, final, did, openedAndChecked, recoded}
+use Rattle.agreement.specs.Calls.{Event, accepted, events, final, did, openedAndChecked, judged, recoded}
 use Rattle.agreement.specs.Agreement.{Good, different, absent}
 use Rattle.agreement.specs.Agreement as agreement
 use Rattle.agreement.specs.Broadcast.{Opener as Begins, partyOf as partyIn, gave, sentInAll}
@@ -137,6 +137,7 @@ module _ (session n t : ℕ) (A : Begins) where
         acts = map (λ (e : Event). actOf (e .call) (e .reply)) (accepted (events sha256 (o .state) (A .calls)));
         result = resultIn (final sha256 (o .state) (A .calls));
         openedAndChecked = openedAndChecked sha256 session n t (A .own) (partyIn A .message) (A .calls);
+        judged = judged sha256 session n t (A .own) (partyIn A .message) (A .calls);
         recoded = recoded sha256 session n t (A .own) (partyIn A .message) (A .calls);
       }
 
@@ -290,17 +291,17 @@ module _ (session n t : ℕ) (four : FourBytes session) (h : SenderHost) where
       (ap resultIn (calls-kept sha256 (Q .state) (h .calls) ∙ ap (λ (y : Party). final sha256 y (h .calls)) kept))
       (ap (λ (y : Opens). take (y .number % 2 ^ 32) (y .out)) (a .3) ∙ ap (λ (k : ℕ). take k (b .buffer)) (lower (b .value) small))
     where
-      openers : {i j : ℕ} {x y : List ℕ} {k l : ℕ} {z u : List ℕ} {as1 as2 : List Act} {q r : Option Result} {ss ts : List (List ℕ)} {p o : List ℕ} → k ≡ l
+      openers : {i j : ℕ} {x y : List ℕ} {k l : ℕ} {z u : List ℕ} {as1 as2 : List Act} {q r : Option Result} {ss us ts : List (List ℕ)} {p o : List ℕ} → k ≡ l
           → z ≡ u → as1 ≡ as2 → q ≡ r → p ≡ o
           → _≡_ {A = OpenedBox}
           (record {
-            box = record { own = i; book = x; cause = k; root = z; acts = as1; result = q; openedAndChecked = ss; recoded = ts };
+            box = record { own = i; book = x; cause = k; root = z; acts = as1; result = q; openedAndChecked = ss; judged = us; recoded = ts };
             sender = j;
             handed = y;
             packet = p;
           })
           (record {
-            box = record { own = i; book = x; cause = l; root = u; acts = as2; result = r; openedAndChecked = ss; recoded = ts };
+            box = record { own = i; book = x; cause = l; root = u; acts = as2; result = r; openedAndChecked = ss; judged = us; recoded = ts };
             sender = j;
             handed = y;
             packet = o;

@@ -28,7 +28,7 @@ use Rattle.agreement.specs.Calls.{Call, agreeRoot, agreeBit, takeShares, takeRe
 use Rattle.agreement.specs.Agreement.{Good}
 use Rattle.agreement.proofs.Run.{endedWith, did5, event}
 use Rattle.agreement.proofs.Lists.{same-some}
-use Rattle.agreement.proofs.Later.{did-both, gave, later-result, later-sent, later-checked, later-recoded}
+use Rattle.agreement.proofs.Later.{did-both, gave, later-result, later-sent, later-checked, later-judged, later-recoded}
 use Rattle.state_bytes.specs.Layout.{stateBytes, stateOf}
 use Rattle.state_bytes.proofs.Reading.{session-small}
 use Rattle.state_bytes.proofs.Inverse.{written-again, end-storable}
@@ -231,7 +231,7 @@ module _ (session n t : ℕ) (A : Good) (R : Result) (h : partyBox session n t A
         held = held ∙ sym h;
         readings = λ inbox r k. readers (did sha256 session n t i m (cs ++ more)) R (gave sha256 session n t i m (cs ++ more) R held) inbox r k ∙ sym h;
         sent = view-sent n (did sha256 session n t i m (cs ++ more)) ∙ later-sent sha256 session n t i m cs R h more ∙ sym (view-sent n (did sha256 session n t i m cs));
-        hashed = (later-checked sha256 session n t i m cs R h more, later-recoded sha256 session n t i m cs R h more);
+        hashed = (later-checked sha256 session n t i m cs R h more, later-judged sha256 session n t i m cs R h more, later-recoded sha256 session n t i m cs R h more);
       }
 
   party-next : (inbox out : List ℕ) → partyBox session n t A .cause ≡ 0 → length (resultBytes R) ≤ length out

@@ -15,19 +15,17 @@ use Rattle.sha256.proofs.Laws.{sha256-length}
 use Rattle.limits.specs.Limits.{maxMessage, maxShare, numbered, groupCause}
 use Rattle.merkle.specs.Shares.{passes}
 use Rattle.packet.specs.Format.{Reading, silence, unreadable, shared, readOf}
-use Rattle.packet.specs.Class.{Class, valid, faulty, judged, classOf}
+use Rattle.packet.specs.Class.{valid, faulty, judged, classOf}
 use Rattle.commitment.specs.declared.Seat.{Seat}
 use Rattle.commitment.proofs.Opening.{open-bounds}
 use Rattle.party.specs.State.{Result, nothing, settled, messageIn, hasEnded, atBit, atFirst, atSecond, atEnd, stray, overlong, broken}
 use Rattle.party.specs.Steps.{openOf, entry, isFaulty, sentFaulty, faultyIn, faultyOf, Stepped}
-use Rattle.party.specs.Sender.{messageBy, openBySenderOf}
 use Rattle.party.specs.declared.Party.{Party}
 use Rattle.party.specs.declared.Stage.the-variants.{Second}
-use Rattle.party.specs.declared.Opened.{Opened}
 use Rattle.party.proofs.Causes.{fit-of}
 use Rattle.party.proofs.Faulty.{shares-name, relays-name}
 use Rattle.party.proofs.Sender.{accepted-opens}
-use Rattle.agreement.specs.Calls.{Call, agreeRoot, agreeBit, takeShares, takeRelays, stepOf, inboxIn, Event, heard, wrote, packetTo, made, events, final, opening, did, firstOf}
+use Rattle.agreement.specs.Calls.{Call, agreeRoot, agreeBit, takeShares, takeRelays, stepOf, inboxIn, Event, heard, wrote, packetTo, made, events, opening, did}
 use Rattle.agreement.specs.Calls as calls
 use Rattle.agreement.specs.Agreement.{Good}
 use Rattle.agreement.specs.Agreement as agreed
@@ -38,10 +36,10 @@ use Rattle.agreement.proofs.Lists.{first-in}
 use Rattle.agreement.proofs.Ran.{opened-is}
 use Rattle.agreement.proofs.Faulty.{begun-empty, awaited, no-good-named, no-good-named-in-agreement}
 use Rattle.state_bytes.specs.Layout.{stateOf}
-use Rattle.capi.specs.Calls.{packed, Replies, valueShown, numberOf, openCall, called, faultyCall}
+use Rattle.capi.specs.Calls.{packed, valueShown, openCall, called, faultyCall}
 use Rattle.capi.proofs.Asked.{unbroken}
 use Rattle.capi.proofs.Kept.{call-kept}
-use Rattle.claims.specs.Terms.{foremost, next, FourBytes, Act, rooted, sent, relayed, ended, first, Host, Box, actOf, partyBox, boxOf, party}
+use Rattle.claims.specs.Terms.{foremost, next, FourBytes, Act, rooted, relayed, ended, first, Host, Box, actOf, partyBox, boxOf, party}
 use Rattle.claims.specs.Claims.{Sitting}
 use Rattle.claims.specs.SeenToCheat.{saw, cheats, cheatedIn, mapsHeld, mapsKept, mapsOf, Member, outboxIn, relayIn, Linked, NoneSeen, bit0, NoGoodBoxIsSeenToCheat}
 use Rattle.claims.proofs.Steps.{step-tells}

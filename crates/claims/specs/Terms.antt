@@ -26,7 +26,7 @@ use Rattle.party.specs.declared.Outcome.the-variants.{Nothing, Message}
 use Rattle.party.specs.declared.Stage.{Stage}
 use Rattle.party.specs.declared.Stage.the-variants.{Root, Bit, First, Second, Ended}
 use Rattle.party.specs.declared.Party.{Party}
-use Rattle.agreement.specs.Calls.{Call, agreeRoot, agreeBit, takeShares, takeRelays, Event, accepted, events, final, did, openedAndChecked, recoded, lengths, resultAfter}
+use Rattle.agreement.specs.Calls.{Call, agreeRoot, agreeBit, takeShares, takeRelays, Event, accepted, events, final, did, openedAndChecked, judged, recoded, lengths, resultAfter}
 use Rattle.agreement.specs.Agreement.{Good, sumOver, joinOver}
 use Rattle.agreement.specs.Broadcast.{Opener as Begins}
 use Rattle.state_bytes.specs.Layout.{stateOf}
@@ -185,8 +185,8 @@ bytesIn n (relayed inbox out) = (n - 1) * length out
 bytesIn n (ended inbox r) = 0
 
 -- a good box: its number and book, the cause of its opening and the root that it gave, its accepted calls in their order, the result that its state
--- holds after all calls, and the strings that it hashed, worked out from what it was given: those of its opening and its path checks, and those of the book
--- that it rebuilt and coded again
+-- holds after all calls, and the strings that it hashed, worked out from what it was given: those of its opening and of the path checks that settle what it
+-- relays and rebuilds, those of all its path checks, and those of the book that it rebuilt and coded again
 pub record Box : Type 0 where
   pub own : ℕ
   pub book : List ℕ
@@ -195,13 +195,14 @@ pub record Box : Type 0 where
   pub acts : List Act
   pub result : Option Result
   pub openedAndChecked : List (List ℕ)
+  pub judged : List (List ℕ)
   pub recoded : List (List ℕ)
 
 -- it ends with a result: its state holds it, or an accepted step 5 gave it
 abbrev pub EndsWith : Box → Result → Type 0
 EndsWith A R = (A .result ≡ some R) ⊎ ((inbox : List ℕ) × List·Memᴰ (ended inbox (some R)) (A .acts))
 
--- no two different strings of the openings and path checks of these boxes, all taken together, have one hash
+-- no two different strings of the openings of these boxes and of the path checks that settle what they relay and rebuild, all taken together, have one hash
 abbrev pub Clean : List Box → Type 0
 Clean good =
     let ss = joinOver (λ (A : Box). A .openedAndChecked) good in
@@ -224,6 +225,7 @@ partyBox session n t A =
       acts = map (λ (e : Event). actOf (e .call) (e .reply)) (did sha256 session n t (A .own) (A .message) (A .calls));
       result = resultAfter sha256 session n t (A .own) (A .message) (A .calls);
       openedAndChecked = openedAndChecked sha256 session n t (A .own) (A .message) (A .calls);
+      judged = judged sha256 session n t (A .own) (A .message) (A .calls);
       recoded = recoded sha256 session n t (A .own) (A .message) (A .calls);
     }
 
@@ -261,6 +263,7 @@ hostBox session n t h =
       acts = actsSeen (r .state) (h .calls);
       result = resultIn (stateOf (left sha256 (r .state) (h .calls)));
       openedAndChecked = openedAndChecked sha256 session n t (h .own) (h .book) (h .calls);
+      judged = judged sha256 session n t (h .own) (h .book) (h .calls);
       recoded = recoded sha256 session n t (h .own) (h .book) (h .calls);
     }
 
@@ -287,7 +290,7 @@ pub record NothingMore (n : ℕ) (before after : Box) : Type 0 where
   pub held : after .result ≡ before .result
   pub readings : (inbox : List ℕ) (r : Option Result) → List·Memᴰ (ended inbox r) (after .acts) → r ≡ before .result
   pub sent : sumOver (bytesIn n) (after .acts) ≡ sumOver (bytesIn n) (before .acts)
-  pub hashed : (after .openedAndChecked ≡ before .openedAndChecked) × (after .recoded ≡ before .recoded)
+  pub hashed : (after .openedAndChecked ≡ before .openedAndChecked) × (after .judged ≡ before .judged) × (after .recoded ≡ before .recoded)
 
 -- the packet of a book that is sent whole
 abbrev pub bookPacket : List ℕ → List ℕ
@@ -314,6 +317,7 @@ openerParty session n t A =
         acts = map (λ (e : Event). actOf (e .call) (e .reply)) (accepted (events sha256 (r .opened .state) (A .calls)));
         result = resultIn (final sha256 (r .opened .state) (A .calls));
         openedAndChecked = openedAndChecked sha256 session n t (A .own) m (A .calls);
+        judged = judged sha256 session n t (A .own) m (A .calls);
         recoded = recoded sha256 session n t (A .own) m (A .calls);
       };
       sender = A .sender;
@@ -344,6 +348,7 @@ openerHost session n t h =
         acts = actsSeen (r .state) (h .calls);
         result = resultIn (stateOf (left sha256 (r .state) (h .calls)));
         openedAndChecked = openedAndChecked sha256 session n t (h .own) m (h .calls);
+        judged = judged sha256 session n t (h .own) m (h .calls);
         recoded = recoded sha256 session n t (h .own) m (h .calls);
       };
       sender = h .sender;

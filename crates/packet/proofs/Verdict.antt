@@ -70,12 +70,6 @@ two-left false b c p x q f g = refl
 two-left true b c true x q f g = rw (f, g)
 two-left true b c false x q f g = rw (f, g)
 
--- a class by its judgement
-over : (c : Class) → OneOf (0 ∷ 1 ∷ 2 ∷ []) (tagOf judged-type (verdictFor c)) → PassedOver c
-over silent h = tt
-over faulty h = tt
-over (valid share path) h = absurd (miss (0 ∷ 1 ∷ 2 ∷ []) 3 tt h)
-
 module _ (H : List ℕ → List ℕ) (session n j : ℕ) (root s : List ℕ) where
   module _ (x : Packet) where
     pub judge-parties : parties n ≡ false → judgeOf H session n j root s x ≡ Refused 1
@@ -211,11 +205,6 @@ module _ (H : List ℕ → List ℕ) (session n j : ℕ) (root s : List ℕ) (at
           judge-on H session n j root s x low high first last wide ∙ ap (verdictOn H session n j root s) read ∙ on-reading (readOf n P) refl
 
       module _ (r : Judged) (answer : r ≡ judgeOf H session n j root s x) where
-        pub class-passed-over : OneOf (0 ∷ 1 ∷ 2 ∷ []) (tagOf judged-type r) → PassedOver (classOf H session n j root P)
-        class-passed-over h =
-            over (classOf H session n j root P)
-            (subst (λ (y : Judged). OneOf (0 ∷ 1 ∷ 2 ∷ []) (tagOf judged-type y)) (answer ∙ judge-class) h)
-
         pub class-taken : (number from len count : ℕ) → x ≡ packet.Share number from len count → r ≡ Valid
             → TakenAt s from len count (classOf H session n j root P)
         unfolding classOf

@@ -1,18 +1,17 @@
 -- The maps of parties seen to be faulty, for any hash: a map names a sender exactly if one of its packets was faulty, and it names neither the party itself
 -- nor anyone beyond n, so that no state with such a map is broken by it. By the laws of maps. Assumes nothing.
 use mathlib.Core.Path.{_≡_, refl, ap, ap₂, _∙_}
-use mathlib.Core.Bool.{Bool, true, false, cond, not, _&&_, _||_}
+use mathlib.Core.Bool.{Bool, true, false, cond, not, _||_}
 use mathlib.Core.List.{List}
 use Prim.Native.Nat.{ℕ, _-_, _/_, _%_, _^_, _≤_, _<_}
 use native.Mathlib.Nat.{div-eq-of-lt, one-le-pow}
 use native.Mathlib.Omega.{arith}
 use borrow.Author.Tests.{lt-ltb, eq-eqb}
 use lib.Dec.{eqb}
-use Rattle.bitmap.specs.Bitmap.{names, upTo, mapOf}
+use Rattle.bitmap.specs.Bitmap.{names}
 use Rattle.bitmap.proofs.Collected.{map-small, map-names}
-use Rattle.packet.specs.Class.{classOf}
 use Rattle.party.specs.State.{hasEnded, stray}
-use Rattle.party.specs.Steps.{entry, isFaulty, sentFaulty, faultyIn, faultyShares, faultyRelays, faultyOf}
+use Rattle.party.specs.Steps.{entry, sentFaulty, faultyIn, faultyShares, faultyRelays, faultyOf}
 use Rattle.party.specs.Private.{Fit}
 use Rattle.party.specs.declared.Party.{Party}
 

@@ -1,6 +1,6 @@
 -- What a walk over an inbox finds of one packet: it is what the packet's class says, so it tells whether the packet is faulty, and a search that takes the
 -- first valid one goes by it. For any hash; by cases of the class and of what was read. Assumes nothing.
-use mathlib.Core.Path.{_≡_, refl, sym, ap, subst, _∙_}
+use mathlib.Core.Path.{_≡_, refl, sym, subst}
 use mathlib.Core.Logic.{inl, inr}
 use mathlib.Core.List.{List, [], _∷_}
 use Prim.Native.Nat.{ℕ, _+_, _≤_}
@@ -97,9 +97,6 @@ so-far-more Nowhere Faulty (valid x p) all rest s h g = absurd h
 so-far-more Nowhere (Valid a l k) silent all rest s h g = absurd h
 so-far-more Nowhere (Valid a l k) faulty all rest s h g = absurd h
 so-far-more Nowhere (Valid a l k) (valid x p) all rest s h g = subst (λ (t : Taken). TakenIs (At a l k) t s) (sym g) h
-
-pub so-far-own : (p : Placed) (all rest next : Taken) (s : List ℕ) → rest ≡ next → SoFar p all rest s → SoFar p all next s
-so-far-own p all rest next s e g = subst (λ (t : Taken). SoFar p all t s) e g
 
 pub so-far-end : (p : Placed) (all : Taken) (s : List ℕ) → SoFar p all missing s → TakenIs p all s
 so-far-end Nowhere all s g = subst (λ (t : Taken). TakenIs Nowhere t s) (sym g) tt

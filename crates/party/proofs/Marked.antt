@@ -1,15 +1,14 @@
 -- A walk over an inbox that marks senders in a map: after j turns it has the map of the first j senders. For any hash, by the laws of maps and of one
 -- entry. Assumes nothing.
 use mathlib.Core.Path.{_≡_, refl, sym, ap, ap₂, subst, _∙_}
-use mathlib.Core.Bool.{Bool, true, false, cond, not, _&&_, _||_}
+use mathlib.Core.Bool.{Bool, false, cond, _||_}
 use mathlib.Core.List.{List, [], _∷_}
 use Prim.Native.Nat.{ℕ, suc, _+_, _-_, _*_, _^_, _≤_, _<_}
 use native.Mathlib.Nat.{sub-zero, pow-suc}
 use native.Mathlib.Numerals.{add-one}
 use native.Mathlib.Omega.{arith}
 use borrow.Author.Tests.{eq-eqb, ne-eqb}
-use lib.Dec.{eqb}
-use lib.ListN.{length, getD, drop}
+use lib.ListN.{getD, drop}
 use lib.Pow.{pow-mono}
 use lib.Seq.{getD-drop, drop-drop}
 use Rattle.limits.specs.Limits.{maxParties}
@@ -17,7 +16,7 @@ use Rattle.bitmap.specs.Bitmap.{mapOf}
 use Rattle.bitmap.proofs.Collected.{map-small}
 use Rattle.buffer.specs.Entries.{bodies}
 use Rattle.buffer.proofs.Entries.{bodies-more}
-use Rattle.packet.specs.Class.{Class, classOf}
+use Rattle.packet.specs.Class.{classOf}
 use Rattle.packet.specs.Answer.{nextAt}
 use Rattle.packet.specs.Private.{bodyAt}
 use Rattle.party.specs.Steps.{entry, isFaulty, sentFaulty}

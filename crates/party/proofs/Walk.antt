@@ -1,6 +1,6 @@
 -- Laws of the two walks over an inbox, for any hash: what one entry adds to the search for a valid packet, and to the shares gathered. One law
 -- for each case of an entry, stated at its place. Assumes nothing.
-use mathlib.Core.Path.{_≡_, refl, sym, ap, subst, _∙_}
+use mathlib.Core.Path.{_≡_, refl, ap, _∙_}
 use mathlib.Core.Bool.{cond}
 use mathlib.Core.List.{List, [], _∷_}
 use Prim.Native.Nat.{ℕ, suc, _+_, _≤_}
@@ -15,10 +15,8 @@ use Rattle.packet.specs.Class.{Class, silent, faulty, valid, classOf}
 use Rattle.packet.specs.Answer.{nextAt}
 use Rattle.packet.specs.Private.{bodyAt, PassedOver, TakenAt}
 use Rattle.party.specs.State.{shareHeld}
-use Rattle.party.specs.Steps.{Taken, missing, orLater, firstValid, shareFrom, gathered}
-use Rattle.party.specs.Private.{TakenIs}
+use Rattle.party.specs.Steps.{missing, orLater, firstValid, shareFrom, gathered}
 use Rattle.party.specs.declared.Party.{Party}
-use Rattle.party.specs.declared.Placed.the-variants.{At}
 
 -- the m packets after the entry at a place
 abbrev pub bodiesAfter : ℕ → ℕ → List ℕ → List (List ℕ)

@@ -1,5 +1,5 @@
 -- `capi::cipangohu_faulty` meets its contract: by whether the state that the bytes say is broken. Assumes nothing.
-use mathlib.Core.Path.{sym, _∙_}
+use mathlib.Core.Path.{_∙_}
 use Rattle.party.specs.declared.Party.{Party}
 use Rattle.capi.specs.Calls.{packed, faultyCall}
 use Rattle.capi.proofs.Asked.{asked-refused, asked-told}

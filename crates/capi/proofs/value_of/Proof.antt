@@ -1,5 +1,5 @@
 -- `capi::value_of` meets its contract: by the cases of the answer. Assumes nothing.
-use mathlib.Core.Path.{_≡_, sym, ap}
+use mathlib.Core.Path.{sym, ap}
 use mathlib.Core.List.{[]}
 use Prim.Native.Nat.{ℕ}
 use Rattle.party.specs.Steps.{valueOf, resultGiven, faultyGiven}

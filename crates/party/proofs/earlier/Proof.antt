@@ -1,5 +1,5 @@
 -- `party::earlier` meets its contract: by the cases of what was taken and of what was found. Assumes nothing.
-use mathlib.Core.Path.{_≡_, sym, ap, ap₂, _∙_}
+use mathlib.Core.Path.{sym, ap, ap₂}
 use borrow.Author.Needs.{needs}
 use Rattle.party.specs.Private.{earlierOf}
 use Rattle.party.specs.declared.Placed.{Placed}

@@ -1,5 +1,5 @@
 -- `party::place_of` meets its contract: by the cases of the packet. Assumes nothing.
-use mathlib.Core.Path.{_≡_, sym, ap}
+use mathlib.Core.Path.{sym, ap}
 use borrow.Author.Needs.{needs}
 use Rattle.party.specs.Private.{placeOf}
 use Rattle.party.proofs.place_of.Statement.{statement}

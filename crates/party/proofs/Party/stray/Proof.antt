@@ -1,5 +1,5 @@
 -- `party::Party::stray` meets its contract: the map is looked at only where it names none beyond n. Assumes nothing.
-use mathlib.Core.Path.{_≡_, sym, ap, _∙_}
+use mathlib.Core.Path.{sym, ap, _∙_}
 use mathlib.Core.Bool.{Bool, not, _||_}
 use borrow.Author.Needs.{needs}
 use Rattle.bitmap.specs.Bitmap.{names}
