@@ -1,5 +1,5 @@
--- A packet judged, by a hash, against the session's number, n, the number demanded of it and the agreed root. Steps 4 and 5 take valid packets alone: silent
--- and faulty are alike to them. Assumes nothing.
+-- A packet judged, by a hash, against the session's number, n, the number demanded of it and the agreed root. Steps 4 and 5 take valid packets alone, and note
+-- who sent a faulty one. Assumes nothing.
 use mathlib.Core.Bool.{cond, _&&_}
 use mathlib.Core.List.{List, []}
 use Prim.Native.Nat.{ℕ}
