@@ -1,4 +1,6 @@
 // Sets of parties as numbers, in which party p has the value two to the p - 1.
+#![tactic(auto)]
+
 ghost use Rattle.std.specs.Prelude.{◌≡◌};
 ghost use Rattle.bitmap.specs.Bitmap.{names, up_to};
 

@@ -1,6 +1,8 @@
 // What C and Rust hosts link: the steps of a party on a state of bytes that the host keeps, and the tools beside them. A `&[u8]` passes as a
 // pointer and a length. Every function that can refuse answers one number, the cause in its upper 32 bits (0: accepted) and the value in its
 // lower; a refused call leaves every lent byte.
+#![tactic(auto)]
+
 ghost use Rattle.std.specs.Prelude.{◌≡◌, false, List, [], ℕ, ◌<◌, ◌^◌};
 ghost use Rattle.sha256.specs.Sha256.{sha256};
 ghost use Rattle.buffer.specs.Given.{gave};

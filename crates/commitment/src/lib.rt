@@ -1,5 +1,7 @@
 // What a session's number, n, t and a message give without a state: the root of the message's shares, and the packets that carry them; and the message again,
 // if it has the root given. The message is coded, and each hash of its tree made, once a call.
+#![tactic(auto)]
+
 ghost use Rattle.std.specs.Prelude.{◌≡◌, ◌-◌, ◌*◌, ◌≤◌, length, take};
 ghost use Rattle.sha256.specs.Sha256.{sha256};
 ghost use Rattle.limits.specs.Limits.{max_parties, max_message, max_share};
@@ -26,7 +28,7 @@ pub const MAX_PACKET: usize = 4 + MAX_SHARE + 32 * MAX_PATH;
 pub const MAX_OUTBOX: usize = MAX_SHARES + MAX_PARTIES * (6 + 32 * MAX_PATH);
 
 // Where a party sits: the session's number (document 02, No. 6: the sitting's), how many parties there are, how many of them may be bad, and its own number.
-#[derive(Drop)]
+#[derive(Clone, Copy)]
 pub struct Seat {
     pub session: u32,
     pub n: usize,
@@ -35,14 +37,14 @@ pub struct Seat {
 }
 
 // What a party sends once a root is agreed: whether its message has that root, and how many bytes were written.
-#[derive(Drop)]
+#[derive(Clone, Copy)]
 pub struct Sent {
     pub happy: bool,
     pub answer: Written,
 }
 
 // How many bytes a message's shares have: together, and each.
-#[derive(Drop)]
+#[derive(Clone, Copy)]
 struct Lengths {
     size: usize,
     len: usize,

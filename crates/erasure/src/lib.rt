@@ -1,4 +1,6 @@
 // The erasure code: a message becomes n shares, and any b = n - t of them give it back.
+#![tactic(auto)]
+
 ghost use Rattle.std.specs.Prelude.{◌≡◌, true, ◌++◌, ℕ, ◌+◌, ◌-◌, ◌*◌, ◌≤◌, ◌<◌, length, get_or, take, drop};
 ghost use Rattle.std.specs.Int.Bits.{bit_xor};
 ghost use Rattle.limits.specs.Limits.{max_parties, max_message, max_share, max_entry};
@@ -123,7 +125,7 @@ pub fn rebuild(n: usize, t: usize, entries: &[u8], out: &mut [u8]) -> Written
 }
 
 // Shares by their places in bytes: where each begins and how long it is, for numbers 1 on; a length of 0 for a missing one.
-#[derive(Drop)]
+#[derive(Clone, Copy)]
 pub struct Places {
     pub from: [usize; MAX_PARTIES],
     pub len: [usize; MAX_PARTIES],
@@ -235,7 +237,7 @@ fn recover(
 }
 
 // The shares to use: how many, their numbers, and the place and length of each.
-#[derive(Drop)]
+#[derive(Clone, Copy)]
 struct Chosen {
     count: usize,
     numbers: [u8; MAX_PARTIES],

@@ -1,4 +1,6 @@
 // An exchange of a rehearsal: inboxes, from what good parties wrote and from what the plan says that bad ones send.
+#![tactic(auto)]
+
 ghost use Rattle.std.specs.Prelude.{◌≡◌, ◌+◌, ◌≤◌, min, length, get_or};
 ghost use Rattle.limits.specs.Limits.{max_parties, max_entry};
 ghost use Rattle.buffer.specs.Splice.{spliced};
@@ -12,7 +14,7 @@ use limits::{MAX_ENTRY, MAX_PLAN};
 
 // An exchange among n parties, of whom a map names the good ones. What a good party wrote lies in a slot of so many bytes; it goes to every
 // other party whole, or has an entry for each.
-#[derive(Drop)]
+#[derive(Clone, Copy)]
 pub struct Mail {
     pub n: usize,
     pub good: usize,

@@ -1,5 +1,7 @@
 // The field of 256 elements: bytes as polynomials over two elements modulo 0x11B.
 // Public contracts name the definition and no table.
+#![tactic(auto)]
+
 mod table;
 
 ghost use Rattle.std.specs.Prelude.{◌≡◌, ℕ, ◌*◌, ◌%◌, ◌<◌, get_or};

@@ -1,4 +1,6 @@
 // The greatest numbers, in one place, and the judgement of n, t and a party's number by them. All other code and all definitions cite these.
+#![tactic(auto)]
+
 ghost use Rattle.std.specs.Prelude.{◌≡◌};
 ghost use Rattle.limits.specs.Limits.{greatest, parties, numbered, group_cause};
 
@@ -24,7 +26,7 @@ pub const MAX_ENTRY: usize = 65535;
 pub const MAX_PLAN: usize = 60000;
 
 // All of them, as one value.
-#[derive(Drop)]
+#[derive(Clone, Copy)]
 pub struct Greatest {
     pub parties: usize,
     pub message: usize,

@@ -1,5 +1,7 @@
 // The Merkle tree of RFC 6962 over the shares of a message: hashes of leaves and nodes, root, audit path, and the check of a path. A session's number stands
 // in every leaf string (document 02, No. 6: a sitting's number).
+#![tactic(auto)]
+
 ghost use Rattle.std.specs.Prelude.{◌≡◌, true, false, [], ◌++◌, ◌+◌, ◌-◌, ◌≤◌, ◌<◌, length, take, drop, replicate};
 ghost use Rattle.limits.specs.Limits.{max_parties, max_path, max_hashed};
 ghost use Rattle.sha256.specs.Sha256.{sha256};
@@ -16,7 +18,7 @@ use limits::{MAX_HASHED, MAX_PARTIES, MAX_PATH};
 pub type Hash = [u8; 32];
 
 // How many hashes an audit path has.
-#[derive(Drop)]
+#[derive(Clone, Copy)]
 pub enum Counted {
     // Turned away for this cause of document 01.
     Refused(u8),
@@ -24,7 +26,7 @@ pub enum Counted {
 }
 
 // What `root` and `root_in` answer.
-#[derive(Drop)]
+#[derive(Clone, Copy)]
 pub struct Rooted {
     // 0, or 1 where n is out of its range.
     pub cause: u8,
@@ -33,7 +35,7 @@ pub struct Rooted {
 }
 
 // The answer of a path check.
-#[derive(Drop)]
+#[derive(Clone, Copy)]
 pub enum Checked {
     // Turned away for this cause of document 01.
     Refused(u8),
@@ -294,7 +296,7 @@ fn fill(
 }
 
 // The half of a tree that holds a leaf, and the other half: their first leaves, their numbers of leaves, and the leaf's place in its half.
-#[derive(Drop)]
+#[derive(Clone, Copy)]
 struct Halves {
     first: usize,
     width: usize,
@@ -346,7 +348,7 @@ fn halve(first: usize, width: usize, at: usize) -> Halves
 }
 
 // The way from the root down to a leaf: its length, and at each node whether the sibling stands on the right.
-#[derive(Drop)]
+#[derive(Clone, Copy)]
 struct Turns {
     count: usize,
     right: [bool; MAX_PATH],

@@ -1,4 +1,6 @@
 // Packets: the bytes in which one party sends another a share with its audit path, or a whole message. Reading them, judging them, and writing them.
+#![tactic(auto)]
+
 ghost use Rattle.std.specs.Prelude.{◌≡◌, ◌+◌, ◌*◌, ◌≤◌, ◌<◌, length, take, drop};
 ghost use Rattle.limits.specs.Limits.{max_parties, max_path, max_entry};
 ghost use Rattle.buffer.specs.Given.{gave};
@@ -15,7 +17,7 @@ use limits::{MAX_MESSAGE, MAX_PATH, MAX_SHARE};
 use merkle::{Checked, Counted, Hash};
 
 // What stands at a place.
-#[derive(Drop)]
+#[derive(Clone, Copy)]
 pub enum Packet {
     // Turned away for this cause of document 01: 1, n is out of its range; 8, its entry runs short; or 10, neither silence nor readable.
     Refused(u8),
@@ -30,14 +32,14 @@ pub enum Packet {
 }
 
 // An entry of an inbox: the packet in it, and where the next entry begins.
-#[derive(Drop)]
+#[derive(Clone, Copy)]
 pub struct Entry {
     pub packet: Packet,
     pub next: usize,
 }
 
 // A packet that was read, judged against a number and a root.
-#[derive(Drop)]
+#[derive(Clone, Copy)]
 pub enum Judged {
     // Turned away for this cause of document 01: 1, 3 or 7.
     Refused(u8),
@@ -50,7 +52,7 @@ pub enum Judged {
 pub const MAX_MESSAGE_PACKET: usize = 3 + MAX_MESSAGE;
 
 // What bytes are as a packet with a whole message.
-#[derive(Drop)]
+#[derive(Clone, Copy)]
 pub enum MessagePacket {
     // Turned away for this cause of document 01: 10, neither silence nor readable.
     Refused(u8),
@@ -225,7 +227,7 @@ pub fn judge(session: u32, n: usize, j: usize, root: &[u8], s: &[u8], packet: Pa
 }
 
 // Where a share lies, how long it is, and how many hashes follow it.
-#[derive(Drop)]
+#[derive(Clone, Copy)]
 struct Place {
     from: usize,
     len: usize,
@@ -369,7 +371,7 @@ fn write_path(path: [Hash; MAX_PATH], count: usize, out: &mut [u8], at: usize)
 }
 
 // An inbox, read entry by entry from a place that it remembers (document 01: the cursor).
-#[derive(Drop)]
+#[derive(Clone, Copy)]
 pub struct Reader<'a> {
     pub src: &'a [u8],
     pub at: usize,

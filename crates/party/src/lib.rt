@@ -1,4 +1,6 @@
 // One party of a session (document 01: a box): its state, its opening, and the four steps that follow.
+#![tactic(auto)]
+
 ghost use Rattle.std.specs.Prelude.{◌≡◌, true, false, cond, ◌||◌, [], ◌+◌, ◌-◌, ◌*◌, ◌≤◌, ◌<◌, length, replicate};
 ghost use Rattle.sha256.specs.Sha256.{sha256};
 ghost use Rattle.limits.specs.Limits.{max_parties, max_message, max_share};
@@ -24,14 +26,14 @@ use merkle::{Hash, Rooted};
 use packet::{Entry, Judged, MessagePacket, Packet};
 
 // The result of a session: nothing, or a message of so many bytes.
-#[derive(Drop)]
+#[derive(Clone, Copy)]
 pub enum Outcome {
     Nothing,
     Message(usize),
 }
 
 // What a party waits for, or that it has ended with its result.
-#[derive(Drop)]
+#[derive(Clone, Copy)]
 pub enum Stage {
     Root,
     Bit,
@@ -41,7 +43,7 @@ pub enum Stage {
 }
 
 // The state of a party.
-#[derive(Drop)]
+#[derive(Clone, Copy)]
 pub struct Party {
     pub seat: Seat,
     pub stage: Stage,
@@ -54,14 +56,14 @@ pub struct Party {
 }
 
 // The limits that belong to a party: how many parties there may be, and how long a message.
-#[derive(Drop)]
+#[derive(Clone, Copy)]
 pub struct Limits {
     pub parties: usize,
     pub message: usize,
 }
 
 // What the opening gives: a state, and the cause for which it was refused, or 0 and the root of the message's shares.
-#[derive(Drop)]
+#[derive(Clone, Copy)]
 pub struct Opened {
     pub state: Party,
     pub cause: u8,
@@ -70,7 +72,7 @@ pub struct Opened {
 
 // What the opening by a named sender gives: the opening, whose causes have 9 among them, and how many bytes were written for the others, or are
 // needed with cause 9.
-#[derive(Drop)]
+#[derive(Clone, Copy)]
 pub struct OpenedBySender {
     pub opened: Opened,
     pub len: usize,
@@ -78,7 +80,7 @@ pub struct OpenedBySender {
 
 // The answer of a step: the cause for which it was refused, with cause 9 the length needed; else of step 2 the party's bit, of steps 3 and 4 how
 // many bytes were written, of step 5 the result with the map of parties seen to be faulty.
-#[derive(Drop)]
+#[derive(Clone, Copy)]
 pub enum Answer {
     Refused(u8),
     Short(usize),
@@ -89,7 +91,7 @@ pub enum Answer {
 }
 
 // What a step gives back.
-#[derive(Drop)]
+#[derive(Clone, Copy)]
 pub struct Reply {
     pub state: Party,
     pub answer: Answer,
@@ -624,14 +626,14 @@ impl Party {
 }
 
 // Where a share that passed the check lies, how long it is, and how many hashes follow it.
-#[derive(Drop)]
+#[derive(Clone, Copy)]
 enum Placed {
     Nowhere,
     At(usize, usize, usize),
 }
 
 // What a sender's packet is to a walk over an inbox: silence, faulty, or a valid share by its place as above.
-#[derive(Drop)]
+#[derive(Clone, Copy)]
 enum Finding {
     Silent,
     Faulty,
@@ -639,14 +641,14 @@ enum Finding {
 }
 
 // What the first inbox gives: the share to relay, and a map of the senders whose packets are faulty.
-#[derive(Drop)]
+#[derive(Clone, Copy)]
 struct Shares {
     taken: Placed,
     faulty: u32,
 }
 
 // What the second inbox gives: where the shares lie to rebuild from, and the map of all parties seen to be faulty.
-#[derive(Drop)]
+#[derive(Clone, Copy)]
 struct Relays {
     places: Places,
     faulty: u32,

@@ -1,4 +1,6 @@
 // The plan of a rehearsal: what its bytes say, and why it is refused.
+#![tactic(auto)]
+
 ghost use Rattle.std.specs.Prelude.{◌≡◌, true, not, ◌&&◌, ◌+◌, ◌-◌, ◌≤◌, ◌<◌, length, take, drop};
 ghost use Rattle.limits.specs.Limits.{max_parties, numbered};
 ghost use Rattle.buffer.specs.Given.{gave, written};
@@ -35,7 +37,7 @@ const EXCHANGES: usize = 2;
 
 // A plan's parts: n, t, the option map, the sender's number or 0, the session's number, the maps of good parties and of those whose books are listed, and
 // where the books, a bad sender's packets and the exchanges start. The cause is 0 if the plan is taken; else all parts are 0.
-#[derive(Drop)]
+#[derive(Clone, Copy)]
 pub struct Plan {
     pub cause: u8,
     pub n: usize,
@@ -51,21 +53,21 @@ pub struct Plan {
 }
 
 // An offset in a plan; nowhere if what stands before it is not in order.
-#[derive(Drop)]
+#[derive(Clone, Copy)]
 enum Offset {
     Nowhere,
     At(usize),
 }
 
 // Where a bad sender's packets and the exchanges start; nowhere if the plan is not laid out to its last byte.
-#[derive(Drop)]
+#[derive(Clone, Copy)]
 enum Behind {
     Nowhere,
     At(usize, usize),
 }
 
 // The sender: whether the plan names one, its number, and whether that is a good party's.
-#[derive(Drop)]
+#[derive(Clone, Copy)]
 struct Source {
     given: bool,
     number: usize,
@@ -73,7 +75,7 @@ struct Source {
 }
 
 // Where bytes lie: from one offset up to another.
-#[derive(Drop)]
+#[derive(Clone, Copy)]
 struct Span {
     from: usize,
     end: usize,

@@ -1,5 +1,7 @@
 // Rehearses a plan: reads it from standard input, to its end or to the byte that makes it too long, and prints what its parties end with,
 // or why it is refused.
+#![tactic(auto)]
+
 use buffer::Written;
 use limits::MAX_PLAN;
 use session::MAX_TEXT;

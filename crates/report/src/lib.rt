@@ -1,4 +1,6 @@
 // What a rehearsal prints: a line for each good party, and one for what they sent.
+#![tactic(auto)]
+
 ghost use Rattle.std.specs.Prelude.{◌≡◌, [], ◌∷◌, ◌++◌, ◌+◌, ◌*◌, ◌≤◌, ◌<◌, length, drop};
 ghost use Rattle.limits.specs.Limits.{max_message};
 ghost use Rattle.buffer.specs.Splice.{spliced};
@@ -20,7 +22,7 @@ const MAX_WORD: usize = 8;
 const MAX_WORDED: usize = MAX_WORD + MAX_DIGITS + 1;
 
 // A number's digits, at the end of the array.
-#[derive(Drop)]
+#[derive(Clone, Copy)]
 struct Digits {
     bytes: [u8; MAX_DIGITS],
     from: usize,

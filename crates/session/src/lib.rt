@@ -1,4 +1,6 @@
 // A rehearsal: a plan played by the parties themselves, and what it prints.
+#![tactic(auto)]
+
 ghost use Rattle.std.specs.Prelude.{◌≡◌, true, [], ◌+◌, ◌*◌, ◌/◌, ◌%◌, ◌≤◌, ◌<◌, length, take, replicate};
 ghost use Rattle.sha256.specs.Sha256.{sha256};
 ghost use Rattle.limits.specs.Limits.{max_parties, max_message, max_plan};
@@ -38,7 +40,7 @@ pub const MAX_TEXT: usize = (MAX_PARTIES + 1) * MAX_LINE;
 const MAX_BOXES: usize = MAX_PARTIES * MAX_OUTBOX;
 
 // A plan that is taken, the agreed bit, and an exchange for which parties write: 0, their outboxes, or 1, their relays.
-#[derive(Drop)]
+#[derive(Clone, Copy)]
 struct Turn {
     parts: Plan,
     bit: u8,
@@ -540,7 +542,7 @@ fn unlawful(bytes: &[u8], parts: Plan, root: &Hash, bit: u8) -> bool
 }
 
 // A party, and how many bytes it wrote.
-#[derive(Drop)]
+#[derive(Clone, Copy)]
 struct Moved {
     state: Party,
     len: usize,

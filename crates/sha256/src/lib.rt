@@ -1,4 +1,6 @@
 // SHA-256 (FIPS 180-4) of a string of bytes. The functions have the names that the standard gives their steps.
+#![tactic(auto)]
+
 mod constants;
 
 ghost use Rattle.std.specs.Prelude.{◌≡◌, ◌+◌, ◌-◌, ◌*◌, ◌/◌, ◌%◌, ◌^◌, ◌<◌, ◌≤◌, ◌++◌, length, take, slice_index};
@@ -13,7 +15,7 @@ use limits::MAX_HASHED;
 use std::num::wrapping_add_u32;
 
 // What `hash` and `hash_with_front` answer.
-#[derive(Drop)]
+#[derive(Clone, Copy)]
 pub struct Hashed {
     // 0, or 4 where the message is longer than MAX_HASHED.
     pub cause: u8,
@@ -22,7 +24,7 @@ pub struct Hashed {
 }
 
 // The eight working variables of 6.2.2.
-#[derive(Drop)]
+#[derive(Clone, Copy)]
 struct Working {
     a: u32,
     b: u32,

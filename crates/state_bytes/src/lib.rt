@@ -1,4 +1,6 @@
 // The state of a party as bytes, which a host can keep between two calls.
+#![tactic(auto)]
+
 ghost use Rattle.std.specs.Prelude.{◌≡◌, cond, eqb, ◌+◌, ◌%◌, ◌≤◌, ◌<◌, length, take, drop};
 ghost use Rattle.limits.specs.Limits.{max_message, max_share};
 ghost use Rattle.buffer.specs.Given.{gave, written};

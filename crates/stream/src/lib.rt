@@ -5,6 +5,8 @@
 // after it.
 //
 // No contract can say what is read or written.
+#![tactic(auto)]
+
 ghost use Rattle.std.specs.Prelude.{◌≡◌, ◌<◌, ◌≤◌, true, ◌&&◌, length, drop, replicate, ◌==◌};
 ghost use Rattle.stream.specs.Number.{spelled};
 ghost use Rattle.stream.specs.Parts.{part_of, start_of, Told};
@@ -24,7 +26,7 @@ pub const MAX_CASES: usize = 1_000_000;
 const ROOMY: usize = 1 << 56;
 
 // The cases of one kind: how many agreed and failed, and the running number of the first that failed.
-#[derive(Drop)]
+#[derive(Clone, Copy)]
 pub struct Tally {
     pub agreed: u64,
     pub failed: u64,
@@ -60,7 +62,7 @@ impl Tally {
 }
 
 // The kind of the next case. 0: there is none, and `whole` tells whether the stream ended there as it should.
-#[derive(Drop)]
+#[derive(Clone, Copy)]
 pub struct Next {
     pub kind: usize,
     pub whole: bool,
@@ -98,7 +100,7 @@ fn at_end() -> bool {
 }
 
 // A part of a case, at the start of a buffer: its length, how many of its bytes came, and whether the stream and the buffer had them all.
-#[derive(Drop)]
+#[derive(Clone, Copy)]
 pub struct Part {
     pub len: usize,
     pub got: usize,

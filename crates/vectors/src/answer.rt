@@ -9,7 +9,7 @@ pub(crate) const ANSWER: usize = 9;
 
 // An answer. The codes: 0 done, with the bytes written or another result; 1 nothing; 2 short, with the length needed; 3 refused, with
 // the cause.
-#[derive(Drop)]
+#[derive(Clone, Copy)]
 pub(crate) struct Answer {
     pub code: u8,
     pub value: usize,

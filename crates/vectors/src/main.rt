@@ -4,6 +4,8 @@
 // number their kinds from 1, and write what came of a case at the start of a lent buffer. Where a call is lent a part of that buffer, the
 // part is compared whole, with the bytes that must stay: before each case all bytes are UNTOUCHED.
 // A stream that ends early, has more behind its end, has a kind that is not here or a part that does not fit its buffer is broken.
+#![tactic(auto)]
+
 ghost use Rattle.std.specs.Prelude.{◌≤◌, length};
 
 mod answer;
@@ -45,14 +47,14 @@ const MESSAGES: usize = 16;
 const STEPS: usize = 25;
 
 // What came of a stream: a tally for each kind, and whether the stream was whole.
-#[derive(Drop)]
+#[derive(Clone, Copy)]
 struct Outcome {
     tallies: [Tally; KINDS],
     whole: bool,
 }
 
 // What came of a case: what the next one finds, the kind's tally, and whether the stream gave the case as it should.
-#[derive(Drop)]
+#[derive(Clone, Copy)]
 struct Case {
     world: World,
     tally: Tally,

@@ -64,7 +64,7 @@ fn reading(input: &[u8], out: &mut [u8]) -> usize {
 }
 
 // What is told of a packet.
-#[derive(Drop)]
+#[derive(Clone, Copy)]
 struct Told {
     answer: Answer,
     number: usize,

@@ -52,21 +52,21 @@ const AT_OUT: usize = AT_SHARE + MAX_SHARE;
 const DIGESTED: usize = AT_OUT + 32;
 
 // What a case finds.
-#[derive(Drop)]
+#[derive(Clone, Copy)]
 pub(crate) struct World {
     pub state: Party,
     pub inbox: [u8; MAX_INBOX],
 }
 
 // What the next case finds, and how many bytes came of this one.
-#[derive(Drop)]
+#[derive(Clone, Copy)]
 pub(crate) struct Moved {
     pub world: World,
     pub len: usize,
 }
 
 // The state that a call or a change gives, and how many bytes came of it.
-#[derive(Drop)]
+#[derive(Clone, Copy)]
 struct Called {
     state: Party,
     len: usize,
