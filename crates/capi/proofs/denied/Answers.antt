@@ -1,0 +1,7 @@
+-- `capi::denied` meets its contract: one case for each answer. Assumes nothing.
+use mathlib.Core.Path.{refl, sym, ap}
+use Rattle.merkle.specs.Answer.{check_cause}
+use Rattle.capi.proofs.denied.Goals as goal
+
+pub returns-in-Refused : goal.returns-in-Refused
+returns-in-Refused c = (sym (ap check_cause c.answer-1.given.1), refl)

@@ -1,0 +1,11 @@
+use mathlib.Core.Path.{◌≡◌}
+use Prim.Native.Nat.{◌+◌, ◌-◌, ◌/◌, ◌^◌, ◌≤◌}
+use Rattle.plan.specs.Layout.{unnamed}
+use Rattle.session.proofs.unnamed.Given as goal
+
+abbrev pub invariant-loop-p : goal.invariant-loop-p
+invariant-loop-p l =
+    (l.p ≤ l.n) × (l.count ≤ l.p) × (l.m ≡ l.good / 2 ^ l.p) × (unnamed l.n 1 l.good ≡ l.count + unnamed (l.n - l.p) (l.p + 1) l.good)
+
+abbrev pub decreases-loop-p : goal.decreases-loop-p
+decreases-loop-p l = l.n - l.p
