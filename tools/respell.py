@@ -37,9 +37,14 @@ def main():
     for top, end in (("specs", "antt"), ("proofs", "antt"), ("src", "rt")):
         if not sys.argv[1:]:
             paths += sorted(glob.glob(f"crates/*/{top}/**/*.{end}", recursive=True))
+    texts = {}
     for path in paths:
         with open(path, encoding="utf-8") as f:
-            text = f.read()
+            texts[path] = f.read()
+    # Where no name is left to spell, the lemmas' names are right already.
+    if not any(CAMEL.search(text) for text in texts.values()):
+        return
+    for path, text in texts.items():
         new = respelled(path, text)
         if new != text:
             with open(path, "w", encoding="utf-8") as f:

@@ -22,7 +22,7 @@ use Rattle.merkle.specs.Shares.{session_bytes, leaf_string, front_length, leaf_s
 use Rattle.packet.specs.Format.{chained, hashes, packet_of, entry_of, share_in, read_of}
 use Rattle.packet.specs.Inbox.{inbox_of}
 use Rattle.packet.specs.Class.{faulty, class_of, class_strings}
-use Rattle.party.specs.State.{nothing, settled, at_root, at_bit, at-first, at-second, at_end, blank_state, broken, message_root, happy}
+use Rattle.party.specs.State.{nothing, settled, at_root, at_bit, at_first, at_second, at_end, blank_state, broken, message_root, happy}
 use Rattle.party.specs.Steps.{state_cause, open_cause, open_of, root_cause, agree_root_of, packet_for, bit_cause, outbox_of, agree_bit_of, inbox_cause, first_valid}
 use Rattle.party.specs.Steps.{sent_faulty, faulty_shares, faulty_relays, faulty_of, relay_of, held_of, take_shares_of, gathered, result_found, result_of, relays_cause, take_relays_of}
 use Rattle.party.specs.Strings.{judged_strings, share_strings}
@@ -65,7 +65,7 @@ pub record Computed : Type 0 where
   pub ends2 : result_after toy 8 3 1 2 M calls2 ≡ some nothing
 
 pub computed : Computed
-unfolding size body rest fills bodies spliced tabulate parties numbered group_cause times_x product_of product power inverse sum pow value factor unit numerator denominator basis through share_length headed frame block share_byte share_of share shares present point framed other unframed joined recovered split_from split shape_of shape leaves node_string sides beside root path folded tree_strings fold_strings check_strings top_hash path_hashes four_bytes session_bytes leaf_string front_length leaf_strings shares_cause same leaves_of root_of path_of passes coding_strings strings_of chained hashes packet_of entry_of share_in read_of inbox_of class_of class_strings at_root at_bit at-first at-second at_end blank_state broken message_root happy state_cause open_cause open_of root_cause agree_root_of packet_for bit_cause outbox_of agree_bit_of inbox_cause first_valid map_of sent_faulty faulty_shares faulty_relays faulty_of relay_of held_of take_shares_of gathered result_found result_of relays_cause take_relays_of accepted first entry made events final share_strings judged_strings checked_in strings_over did opened_and_checked clean clean_of there mix digest
+unfolding size body rest fills bodies spliced tabulate parties numbered group_cause times_x product_of product power inverse sum pow value factor unit numerator denominator basis through share_length headed frame block share_byte share_of share shares present point framed other unframed joined recovered split_from split shape_of shape leaves node_string sides beside root path folded tree_strings fold_strings check_strings top_hash path_hashes four_bytes session_bytes leaf_string front_length leaf_strings shares_cause same leaves_of root_of path_of passes coding_strings strings_of chained hashes packet_of entry_of share_in read_of inbox_of class_of class_strings at_root at_bit at_first at_second at_end blank_state broken message_root happy state_cause open_cause open_of root_cause agree_root_of packet_for bit_cause outbox_of agree_bit_of inbox_cause first_valid map_of sent_faulty faulty_shares faulty_relays faulty_of relay_of held_of take_shares_of gathered result_found result_of relays_cause take_relays_of accepted first entry made events final share_strings judged_strings checked_in strings_over did opened_and_checked clean clean_of there mix digest
 computed = record {
   roots = refl;
   accepted1 = refl;

@@ -27,7 +27,7 @@ use Rattle.packet.proofs.Reading.{fields-of, read-empty}
 use Rattle.packet.proofs.Class.{passing, rewritten}
 use Rattle.commitment.specs.Commitment.{message_root, packets_with, relay_with}
 use Rattle.commitment.specs.Rebuild.{under_root, recoded_strings}
-use Rattle.party.specs.State.{seat_of, Result, nothing, settled, share_held, at_bit, at-first, at-second, happy}
+use Rattle.party.specs.State.{seat_of, Result, nothing, settled, share_held, at_bit, at_first, at_second, happy}
 use Rattle.party.specs.Steps.{packet_for, outbox_of, Taken, missing, found, share_taken, packet_taken, first_valid, faulty_shares, relay_of, held_of}
 use Rattle.party.specs.Steps.{share_from, gathered, rebuilt, recovered_by, result_found, result_of}
 use Rattle.party.specs.Strings.{share_strings}
@@ -96,7 +96,7 @@ module _ (H : List ℕ → List ℕ) (session n t i : ℕ) (m z : List ℕ) wher
   X1 = at_bit (seat_of session n t i) m z
 
   abbrev X2 : Party
-  X2 = at-first (seat_of session n t i) m z
+  X2 = at_first (seat_of session n t i) m z
 
   -- whether it is happy
   happy-bit : happy H X1 ≡ glad H session n t m z
@@ -104,11 +104,11 @@ module _ (H : List ℕ → List ℕ) (session n t i : ℕ) (m z : List ℕ) wher
   happy-bit = ap (λ (b : List ℕ). same (message_root H session n t b) z) (message-bit (seat_of session n t i) m z)
 
   happy-first : happy H X2 ≡ glad H session n t m z
-  unfolding happy at-first
+  unfolding happy at_first
   happy-first = ap (λ (b : List ℕ). same (message_root H session n t b) z) (message-first (seat_of session n t i) m z)
 
-  happy-second : (x : List ℕ) (f : ℕ) → happy H (at-second (seat_of session n t i) m z x f) ≡ glad H session n t m z
-  unfolding happy at-second
+  happy-second : (x : List ℕ) (f : ℕ) → happy H (at_second (seat_of session n t i) m z x f) ≡ glad H session n t m z
+  unfolding happy at_second
   happy-second x f = ap (λ (b : List ℕ). same (message_root H session n t b) z) (message-second (seat_of session n t i) m z x f)
 
   -- what lies in its outbox
@@ -134,11 +134,11 @@ module _ (H : List ℕ → List ℕ) (session n t i : ℕ) (m z : List ℕ) wher
   out-zero = out_none
 
   pub relay-happy : glad H session n t m z ≡ true → (inbox : List ℕ) → relay_of H X2 inbox ≡ relay_with H session n t i m
-  unfolding relay_of packet_for at-first
+  unfolding relay_of packet_for at_first
   relay-happy e inbox = rw (happy-first ∙ e) (ap (λ (b : List ℕ). relay_with H session n t i b) (message-first (seat_of session n t i) m z))
 
-  result-happy : glad H session n t m z ≡ true → (x : List ℕ) (f : ℕ) (inbox : List ℕ) → result_of H (at-second (seat_of session n t i) m z x f) inbox ≡ settled m
-  unfolding result_of result_found at-second
+  result-happy : glad H session n t m z ≡ true → (x : List ℕ) (f : ℕ) (inbox : List ℕ) → result_of H (at_second (seat_of session n t i) m z x f) inbox ≡ settled m
+  unfolding result_of result_found at_second
   result-happy e x f inbox = rw (happy-second x f ∙ e) (ap settled (message-second (seat_of session n t i) m z x f))
 
   -- an unhappy party: what it takes from the first inbox, relays and keeps
@@ -147,26 +147,26 @@ module _ (H : List ℕ → List ℕ) (session n t i : ℕ) (m z : List ℕ) wher
     it = first_valid H session n i z 1 (bodies n in4)
 
     abbrev X3 : Party
-    X3 = at-second (seat_of session n t i) m z (held_of H X2 in4) (faulty_shares H X2 in4)
+    X3 = at_second (seat_of session n t i) m z (held_of H X2 in4) (faulty_shares H X2 in4)
 
     pub relay-is : relay_of H X2 in4 ≡ packet_taken X2 it
-    unfolding relay_of at-first
+    unfolding relay_of at_first
     relay-is = rw (happy-first ∙ u)
 
     held-is : held_of H X2 in4 ≡ share_taken it
-    unfolding held_of at-first
+    unfolding held_of at_first
     held-is = rw (happy-first ∙ u)
 
     taken-valid : (x : List ℕ) (p : List (List ℕ)) → it ≡ found x p → class_of H session n i z (packet_of i x p) ≡ valid x p
     taken-valid x p e = let k = took H session n i z 1 (bodies n in4) x p e in rewritten H session n i z k.packet x p k.good
 
     pub relay-found : (x : List ℕ) (p : List (List ℕ)) → it ≡ found x p → class_of H session n i z (relay_of H X2 in4) ≡ valid x p
-    unfolding at-first
+    unfolding at_first
     relay-found x p e = rw relay-is (rw e (taken-valid x p e))
 
     -- it keeps the share that it relays
     relay-held : held_of H X2 in4 ≡ share_from (class_of H session n i z (relay_of H X2 in4))
-    unfolding at-first
+    unfolding at_first
     relay-held = go it refl
       where
         go : (k : Taken) → it ≡ k → held_of H X2 in4 ≡ share_from (class_of H session n i z (relay_of H X2 in4))
@@ -179,7 +179,7 @@ module _ (H : List ℕ → List ℕ) (session n t i : ℕ) (m z : List ℕ) wher
     none-strings = ap (checked_strings H session n i) (read-empty n [] refl)
 
     relay-strings : (s : List ℕ) → Memᴰ s (class_strings H session n i (relay_of H X2 in4)) → Memᴰ s (checked_in H X2 (take_shares in4 []))
-    unfolding checked_in at-first
+    unfolding checked_in at_first
     relay-strings s h = rw (happy-first ∙ u) (go it refl)
       where
         go : (k : Taken) → it ≡ k → Memᴰ s (share_strings H session n i z 1 (bodies n in4))
@@ -215,7 +215,7 @@ module _ (H : List ℕ → List ℕ) (session n t i : ℕ) (m z : List ℕ) wher
       entry-at k = let e : 1 + k - 1 ≡ k = omega arith in ap (λ (j : ℕ). get_or (bodies n in5) j []) e
 
       at : (k : ℕ) → k < n → get_or gs k [] ≡ share_from (class_of H session n (1 + k) z (has (1 + k)))
-      unfolding at-second
+      unfolding at_second
       at k l =
           gathered-at H X3 1 (bodies n in5) k (omega (arith, length-bodies n in5)) ∙ go (way (eqb (1 + k) i))
         where
@@ -236,20 +236,20 @@ module _ (H : List ℕ → List ℕ) (session n t i : ℕ) (m z : List ℕ) wher
       All = tabulate n (λ k. share_from (class_of H session n (1 + k) z (has (1 + k))))
 
       recovered-is : recovered_by H X3 in5 ≡ recovered (n - t) (present 1 All)
-      unfolding at-second
+      unfolding at_second
       recovered-is = ap (λ (l : List (List ℕ)). recovered (n - t) (present 1 l)) gathered-is
 
       result-unhappy : result_of H X3 in5 ≡ rebuilt (under_root H session n t z (recovered (n - t) (present 1 All)))
-      unfolding result_of result_found at-second
+      unfolding result_of result_found at_second
       result-unhappy = rw (happy-second (held_of H X2 in4) (faulty_shares H X2 in4) ∙ u) (ap (λ (a : Recovered). rebuilt (under_root H session n t z a)) recovered-is)
 
       recoded-is : recoded_in H X3 (take_relays in5 []) ≡ recoded_strings H session n t (recovered (n - t) (present 1 All))
-      unfolding recoded_in at-second
+      unfolding recoded_in at_second
       recoded-is = rw (happy-second (held_of H X2 in4) (faulty_shares H X2 in4) ∙ u) (ap (recoded_strings H session n t) recovered-is)
 
       heard-strings : (j : ℕ) → j ≢ i → (x : List ℕ) (p : List (List ℕ)) → class_of H session n j z (entry n j in5) ≡ valid x p → (s : List ℕ)
           → Memᴰ s (class_strings H session n j (entry n j in5)) → Memᴰ s (checked_in H X3 (take_relays in5 []))
-      unfolding checked_in at-second entry
+      unfolding checked_in at_second entry
       heard-strings j d x p v s h =
           let w : List ℕ = get_or (bodies n in5) (j - 1) [] in
           let f = fields-of n w j x p (passing H session n j z w x p v).reads in
@@ -279,10 +279,10 @@ module _ (H : List ℕ → List ℕ) (session n t i : ℕ) (m z : List ℕ) wher
     shares-is = tabulate-cong n _ _ (λ k l. ap (λ (w : List ℕ). share_from (class_of H session n (1 + k) z w)) (sym (has-is (1 + k))))
 
     pub conduct : Conduct H session n t i m calls z
-    unfolding at-second
+    unfolding at_second
     conduct =
         record {
-          result = result_of H (at-second (seat_of session n t i) m z (held_of H X2 r.in4) (faulty_shares H X2 r.in4)) r.in5;
+          result = result_of H (at_second (seat_of session n t i) m z (held_of H X2 r.in4) (faulty_shares H X2 r.in4)) r.in5;
           ends = r.ends;
           sends = rw (r.packets, r.relayed) r.sends;
           hashes = hashes;

@@ -26,9 +26,9 @@ use Rattle.merkle.proofs.Trees.{root-hashed, path-hashed, check-hashed}
 use Rattle.packet.specs.Format.{Reading, silence, unreadable, shared, packet_of, read_of}
 use Rattle.packet.specs.Inbox.{inbox_of}
 use Rattle.packet.specs.Class.{Class, silent, faulty, valid, judged, class_of, checked_strings, class_strings}
-use Rattle.party.specs.State.{Result, nothing, settled, message_in, share_held, at_bit, at-first, at-second, at_end, result_in, has_ended, message_root, happy}
+use Rattle.party.specs.State.{Result, nothing, settled, message_in, share_held, at_bit, at_first, at_second, at_end, result_in, has_ended, message_root, happy}
 use Rattle.party.specs.Steps.{packet_for, outbox_of, first_valid, taken_by, share_taken, packet_taken, own_relay, relay_of, held_of, share_from, gathered, rebuilt, recovered_by, result_found, held_or, result_of}
-use Rattle.party.specs.Steps.{root_cause, with-root, Stepped, gives, agree_root_of, bit_cause, refused, writes, agree_bit_of, inbox_cause, relays_cause, take_shares_of, ending, take_relays_of}
+use Rattle.party.specs.Steps.{root_cause, with_root, Stepped, gives, agree_root_of, bit_cause, refused, writes, agree_bit_of, inbox_cause, relays_cause, take_shares_of, ending, take_relays_of}
 use Rattle.party.specs.Steps.{entry, is_faulty, sent_faulty, faulty_in, faulty_shares, faulty_relays, faulty_of}
 use Rattle.party.specs.Strings.{unless_valid, judged_strings, share_strings, relay_strings}
 use Rattle.party.specs.declared.Party.{Party}
@@ -80,10 +80,10 @@ mapless r =
 abbrev given4 : Party → List ℕ → List ℕ → List ℕ → List ℕ → ℕ → Stepped
 given4 x inbox out held bs f =
     cond (not (eqb (inbox_cause 4 x inbox) 0)) (refused x (inbox_cause 4 x inbox) out)
-    (writes x (at-second x.seat (message_in x) x.root held f) bs out)
+    (writes x (at_second x.seat (message_in x) x.root held f) bs out)
 
 mapless-4 : (x : Party) (inbox out held bs : List ℕ) (f g : ℕ) → mapless (given4 x inbox out held bs f) ≡ mapless (given4 x inbox out held bs g)
-unfolding at-second
+unfolding at_second
 mapless-4 x inbox out held bs f g = go (way (eqb (inbox_cause 4 x inbox) 0)) (way (ltb (length out) (length bs)))
   where
     go : Way (eqb (inbox_cause 4 x inbox) 0) → Way (ltb (length out) (length bs))
@@ -322,7 +322,7 @@ module _ (H K : List ℕ → List ℕ) where
               rw e (map_same _ _ x.seat.n (λ p a b. ap (λ (t : Bool). names x.faulty p || t) (sent-depends (λ k. k) p a b (rw e at f))))
 
     -- the root that a party is handed may be any
-    bit-depends : (z : List ℕ) → happy H (with-root x z) ≡ happy K (with-root x z)
+    bit-depends : (z : List ℕ) → happy H (with_root x z) ≡ happy K (with_root x z)
     unfolding happy at_bit
     bit-depends z =
         ap (λ (m : List ℕ). same (message_root H x.seat.session x.seat.n x.seat.t m) z) (message-bit x.seat (message_in x) z)
@@ -334,13 +334,13 @@ module _ (H K : List ℕ → List ℕ) where
     unfolding made agree_root_of
     step2-depends z =
         ap {B = Stepped} (λ (b : Bool). cond (not (eqb (root_cause x z) 0)) (refused x (root_cause x z) [])
-        (gives (with-root x z) (answer.Happy b) [])) (bit-depends z)
+        (gives (with_root x z) (answer.Happy b) [])) (bit-depends z)
 
     step3-depends : (bit : ℕ) (out : List ℕ) → made H x (agree_bit bit out) ≡ made K x (agree_bit bit out)
     unfolding made agree_bit_of
     step3-depends bit out =
         ap {B = Stepped} (λ (bs : List ℕ). cond (not (eqb (bit_cause x bit) 0)) (refused x (bit_cause x bit) out)
-        (writes x (cond (eqb bit 0) (at_end x.seat nothing 0) (at-first x.seat (message_in x) x.root)) bs out)) (outbox-depends bit)
+        (writes x (cond (eqb bit 0) (at_end x.seat nothing 0) (at_first x.seat (message_in x) x.root)) bs out)) (outbox-depends bit)
 
     -- all of the reply but its map
     pub settled-depends : (call : Call) → Agree H K (settling_in H x call) → mapless (made H x call) ≡ mapless (made K x call)

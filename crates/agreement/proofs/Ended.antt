@@ -11,7 +11,7 @@ use native.Mathlib.Decide.{ℕ_discrete}
 use native.Mathlib.Omega.{arith}
 use lib.ListN.{length}
 use Rattle.limits.specs.Limits.{parties, group_cause}
-use Rattle.party.specs.State.{Result, nothing, seat_of, at_root, at_bit, at-first, at-second, at_end, blank_state, broken, result_in, has_ended}
+use Rattle.party.specs.State.{Result, nothing, seat_of, at_root, at_bit, at_first, at_second, at_end, blank_state, broken, result_in, has_ended}
 use Rattle.party.specs.Steps.{open_cause, result_of, faulty_of}
 use Rattle.party.specs.declared.Party.{Party}
 use Rattle.party.specs.declared.Opened.{Opened}
@@ -134,7 +134,7 @@ module _ (H : List ℕ → List ℕ) where
           )
 
     pub went : (R : Result) → result_after H session n t i m calls ≡ some R → Went R
-    unfolding first at_root at_bit at-first at-second
+    unfolding first at_root at_bit at_first at_second
     went R f = go (goes H session n t i m calls o)
       where
         o : (opening H session n t i m).cause ≡ 0

@@ -25,7 +25,7 @@ use Rattle.commitment.specs.Commitment.{message_root, packet_with}
 use Rattle.commitment.specs.Private.{Coded}
 use Rattle.commitment.proofs.Opening.{open-bounds, open-coded}
 use Rattle.commitment.proofs.Packets.{packet-valid}
-use Rattle.party.specs.State.{seat_of, Result, nothing, at_root, at_bit, at-first, at-second, at_end, blank_state, result_in, has_ended}
+use Rattle.party.specs.State.{seat_of, Result, nothing, at_root, at_bit, at_first, at_second, at_end, blank_state, result_in, has_ended}
 use Rattle.party.specs.Steps.{entry, is_faulty, sent_faulty, faulty_shares, faulty_relays, faulty_of, open_cause, open_of, outbox_of}
 use Rattle.party.specs.Steps.{Taken, missing, found, packet_taken, relay_of, result_of}
 use Rattle.party.specs.declared.Party.{Party}
@@ -138,7 +138,7 @@ module _ (H : List ℕ → List ℕ) (session n t i : ℕ) (m : List ℕ) where
     Both d = Q d.reply.state.faulty × Q d.reply.faulty
 
     maps : (fin : Party) → Course H session n t i m fin es → (d : Event) → Memᴰ d es → Both d
-    unfolding first at_bit at-first at-second at_end faulty_of
+    unfolding first at_bit at_first at_second at_end faulty_of
     maps fin (at-root q h) d k = absurd (Memᴰ.not-nil (subst (Memᴰ d) q k))
     maps fin (at-bit z q h) d k = on-cons Both (E2 z) [] (empty, empty) (λ e l. absurd (Memᴰ.not-nil l)) d (subst (Memᴰ d) q k)
     maps fin (ended-void z out rest q h) d k =
@@ -166,12 +166,12 @@ module _ (H : List ℕ → List ℕ) (session n t i : ℕ) (m : List ℕ) where
   -- whom the two inboxes bring into the map
   module _ (z : List ℕ) (p : ℕ) (a : 1 ≤ p) (b : p ≤ n) (y : List ℕ) (under : y ≡ z) (in4 : List ℕ) where
     first-names : names (faulty_shares H (X2 H session n t i m y) in4) p ≡ sent_faulty H session n i z in4 i p
-    unfolding at-first
+    unfolding at_first
     first-names = shares-name H (X2 H session n t i m y) in4 p a b ∙ ap (λ (v : List ℕ). sent_faulty H session n i v in4 i p) under
 
     second-names : (in5 : List ℕ) → names (faulty_relays H (X3 H session n t i m y in4) in5) p
         ≡ sent_faulty H session n i z in4 i p || sent_faulty H session n i z in5 p p
-    unfolding at-second
+    unfolding at_second
     second-names in5 =
         relays-name H (X3 H session n t i m y in4) in5 p a b
         ∙ ap₂ ◌||◌ first-names (ap (λ (v : List ℕ). sent_faulty H session n i v in5 p p) under)
@@ -202,7 +202,7 @@ module _ (H : List ℕ → List ℕ) (session n t i : ℕ) (m : List ℕ) where
         go (some e) q = rw (f e q)
 
     names-end : Course H session n t i m end its → names end.faulty p ≡ saw its
-    unfolding first at_root at_bit at-first at-second at_end faulty_of
+    unfolding first at_root at_bit at_first at_second at_end faulty_of
     names-end (at-root q h) = ap (λ (x : Party). names x.faulty p) h ∙ names-none p ∙ sym (ap saw q)
     names-end (at-bit y q h) = ap (λ (x : Party). names x.faulty p) h ∙ names-none p ∙ sym (ap saw q)
     names-end (ended-void y out rest q h) =
@@ -224,7 +224,7 @@ module _ (H : List ℕ → List ℕ) (session n t i : ℕ) (m : List ℕ) where
     last-is = ap (λ (x : Party). final H x calls) (x0-is H session n t i m calls o)
 
     named : Named H session n t i m calls z p
-    unfolding at-second
+    unfolding at_second
     named =
         record {
           first = λ e f. let k = fourth end its course e f in
@@ -280,7 +280,7 @@ module _ (H : List ℕ → List ℕ) (wide : (s : List ℕ) → length (H s) ≡
             (sends (j - 1 + 1) (omega arith) (eqb (j - 1 + 1) i) g))
 
     relay-fine : 1 ≤ i → i ≤ n → (in4 : List ℕ) → Fine i (relay_of H (X2 H session n t i m z) in4)
-    unfolding at-first
+    unfolding at_first
     relay-fine a b in4 = go (way (glad H session n t m z))
       where
         own : glad H session n t m z ≡ true → (alone : Bool) → Fine i (cond alone [] (packet_with H session n t m i))
@@ -382,7 +382,7 @@ module _ (H : List ℕ → List ℕ) (wide : (s : List ℕ) → length (H s) ≡
               ∙ packet-sent B hB A.own c.1 c.2)
 
       shares-clear : Clear (faulty_shares H (X2 H session n A.t A.own A.message y) in4)
-      unfolding faulty_shares at-first
+      unfolding faulty_shares at_first
       shares-clear = elim (dec_lt n p) [
         | yes k ↦ map-others _ n p k
         | no k ↦ first-names H session n A.t A.own A.message z p (P.numbered B hB) (omega arith) y under in4 ∙ first-clear
@@ -390,7 +390,7 @@ module _ (H : List ℕ → List ℕ) (wide : (s : List ℕ) → length (H s) ≡
 
       module _ (in5 out5 : List ℕ) (five : first 5 (its-calls A) ≡ some (ev5 H session n A.t A.own A.message y in4 in5 out5)) where
         second-clear : sent_faulty H session n A.own z in5 p p ≡ false
-        unfolding sent_faulty at-second
+        unfolding sent_faulty at_second
         second-clear = go (way (eqb p A.own))
           where
             go : Way (eqb p A.own) → sent_faulty H session n A.own z in5 p p ≡ false
@@ -401,7 +401,7 @@ module _ (H : List ℕ → List ℕ) (wide : (s : List ℕ) → length (H s) ≡
                 ∙ relay-sent B hB)
 
         relays-clear : Clear (faulty_relays H (X3 H session n A.t A.own A.message y in4) in5)
-        unfolding faulty_relays at-second
+        unfolding faulty_relays at_second
         relays-clear = elim (dec_lt n p) [
           | yes k ↦ map-others _ n p k
           | no k ↦ second-names H session n A.t A.own A.message z p (P.numbered B hB) (omega arith) y under in4 in5

@@ -32,7 +32,7 @@ use Rattle.merkle.proofs.Judged.{same_true, same_refl}
 use Rattle.packet.specs.Format.{chained, hashes, packet_of, entry_of, share_in, read_of}
 use Rattle.packet.specs.Inbox.{inbox_of}
 use Rattle.packet.specs.Class.{valid, faulty, class_of, class_strings}
-use Rattle.party.specs.State.{seat_of, padded, Result, nothing, settled, at_root, at_bit, at-first, at-second, at_end, blank_state, broken, message_root, happy}
+use Rattle.party.specs.State.{seat_of, padded, Result, nothing, settled, at_root, at_bit, at_first, at_second, at_end, blank_state, broken, message_root, happy}
 use Rattle.party.specs.Steps.{state_cause, open_cause, open_of, root_cause, agree_root_of, packet_for, bit_cause, outbox_of, agree_bit_of, inbox_cause, first_valid}
 use Rattle.party.specs.Steps.{gives, sent_faulty, faulty_shares, faulty_relays, faulty_of, relay_of, held_of, take_shares_of, gathered, result_found, result_of, relays_cause, take_relays_of}
 use Rattle.party.specs.declared.Outcome.TheVariants.{Message}
@@ -308,7 +308,7 @@ pub record Computed : Type 0 where
   pub second-ends : result_after toy 0 3 1 2 (0x42 ∷ []) calls2 ≡ some (settled (0x41 ∷ []))
 
 pub computed : Computed
-unfolding size body rest fills bodies spliced tabulate parties numbered group_cause times_x product_of product power inverse sum pow value factor unit numerator denominator basis through share_length headed frame block share_byte share_of share shares present point framed other unframed joined recovered split_from split shape_of shape leaves node_string sides beside root path folded tree_strings fold_strings check_strings top_hash path_hashes four_bytes session_bytes leaf_string front_length leaf_strings shares_cause same leaves_of root_of path_of passes coding_strings strings_of chained hashes packet_of entry_of share_in read_of inbox_of class_of class_strings at_root at_bit at-first at-second at_end blank_state broken message_root happy state_cause open_cause open_of root_cause agree_root_of packet_for bit_cause outbox_of agree_bit_of inbox_cause first_valid map_of sent_faulty faulty_shares faulty_relays faulty_of relay_of held_of take_shares_of gathered result_found result_of relays_cause take_relays_of accepted first entry lengths sent_over made events final share_strings judged_strings checked_in strings_over judged_in recoded_in did opened_and_checked judged recoded sent_by among different absent sum_over join_over clean clean_of there mix digest
+unfolding size body rest fills bodies spliced tabulate parties numbered group_cause times_x product_of product power inverse sum pow value factor unit numerator denominator basis through share_length headed frame block share_byte share_of share shares present point framed other unframed joined recovered split_from split shape_of shape leaves node_string sides beside root path folded tree_strings fold_strings check_strings top_hash path_hashes four_bytes session_bytes leaf_string front_length leaf_strings shares_cause same leaves_of root_of path_of passes coding_strings strings_of chained hashes packet_of entry_of share_in read_of inbox_of class_of class_strings at_root at_bit at_first at_second at_end blank_state broken message_root happy state_cause open_cause open_of root_cause agree_root_of packet_for bit_cause outbox_of agree_bit_of inbox_cause first_valid map_of sent_faulty faulty_shares faulty_relays faulty_of relay_of held_of take_shares_of gathered result_found result_of relays_cause take_relays_of accepted first entry lengths sent_over made events final share_strings judged_strings checked_in strings_over judged_in recoded_in did opened_and_checked judged recoded sent_by among different absent sum_over join_over clean clean_of there mix digest
 computed = record {
   premises = record {
     opened = record {

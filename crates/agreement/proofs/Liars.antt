@@ -24,7 +24,7 @@ use Rattle.merkle.specs.Shares.{session_bytes, leaf_string, front_length, leaf_s
 use Rattle.packet.specs.Format.{chained, hashes, packet_of, entry_of, share_in, read_of}
 use Rattle.packet.specs.Inbox.{inbox_of}
 use Rattle.packet.specs.Class.{class_of}
-use Rattle.party.specs.State.{at_root, at_bit, at-first, at-second, at_end, blank_state, broken, message_root, happy}
+use Rattle.party.specs.State.{at_root, at_bit, at_first, at_second, at_end, blank_state, broken, message_root, happy}
 use Rattle.party.specs.Steps.{state_cause, open_cause, open_of, root_cause, agree_root_of, packet_for, bit_cause, outbox_of, agree_bit_of, inbox_cause, first_valid}
 use Rattle.party.specs.Steps.{sent_faulty, faulty_shares, faulty_relays, faulty_of, relay_of, held_of, take_shares_of, gathered, result_found, result_of, relays_cause, take_relays_of}
 use Rattle.party.specs.declared.Stage.TheVariants.{Second}
@@ -83,7 +83,7 @@ pub record Computed : Type 0 where
   pub relayed : Relayed A2 A3 × Relayed A3 A2
 
 pub computed : Computed
-unfolding size body rest fills bodies spliced tabulate parties numbered group_cause times_x product_of product power inverse sum pow value factor unit numerator denominator basis through share_length headed frame block share_byte share_of share shares present point framed other unframed joined recovered split_from split shape_of shape leaves node_string sides beside root path folded top_hash path_hashes four_bytes session_bytes leaf_string front_length leaf_strings shares_cause same leaves_of root_of path_of passes chained hashes packet_of entry_of share_in read_of inbox_of class_of at_root at_bit at-first at-second at_end blank_state broken message_root happy state_cause open_cause open_of root_cause agree_root_of packet_for bit_cause outbox_of agree_bit_of inbox_cause first_valid map_of sent_faulty faulty_shares faulty_relays faulty_of relay_of held_of take_shares_of gathered result_found result_of relays_cause take_relays_of accepted first entry made events final did there mix digest
+unfolding size body rest fills bodies spliced tabulate parties numbered group_cause times_x product_of product power inverse sum pow value factor unit numerator denominator basis through share_length headed frame block share_byte share_of share shares present point framed other unframed joined recovered split_from split shape_of shape leaves node_string sides beside root path folded top_hash path_hashes four_bytes session_bytes leaf_string front_length leaf_strings shares_cause same leaves_of root_of path_of passes chained hashes packet_of entry_of share_in read_of inbox_of class_of at_root at_bit at_first at_second at_end blank_state broken message_root happy state_cause open_cause open_of root_cause agree_root_of packet_for bit_cause outbox_of agree_bit_of inbox_cause first_valid map_of sent_faulty faulty_shares faulty_relays faulty_of relay_of held_of take_shares_of gathered result_found result_of relays_cause take_relays_of accepted first entry made events final did there mix digest
 computed = record {
   maps2 = refl;
   maps3 = refl;

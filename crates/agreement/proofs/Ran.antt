@@ -17,7 +17,7 @@ use Rattle.buffer.specs.Entries.{bodies}
 use Rattle.buffer.proofs.Splice.{take-spliced}
 use Rattle.erasure.specs.Coding.{shares}
 use Rattle.merkle.specs.Shares.{coding_strings}
-use Rattle.party.specs.State.{seat_of, Result, nothing, at_root, at_bit, at-first, at-second, at_end}
+use Rattle.party.specs.State.{seat_of, Result, nothing, at_root, at_bit, at_first, at_second, at_end}
 use Rattle.party.specs.State.{result_in, message_root, happy}
 use Rattle.party.specs.Steps.{open_cause, Stepped, gives, outbox_of, faulty_shares, relay_of, held_of, result_of, faulty_of}
 use Rattle.party.specs.declared.Party.{Party}
@@ -88,10 +88,10 @@ module _ (H : List ℕ → List ℕ) where
     X1 = at_bit (seat_of session n t i) m z
 
     abbrev pub X2 : Party
-    X2 = at-first (seat_of session n t i) m z
+    X2 = at_first (seat_of session n t i) m z
 
     abbrev pub X3 : List ℕ → Party
-    X3 inbox = at-second (seat_of session n t i) m z (held_of H X2 inbox) (faulty_shares H X2 inbox)
+    X3 inbox = at_second (seat_of session n t i) m z (held_of H X2 inbox) (faulty_shares H X2 inbox)
 
     -- the replies, by the states that the accepted calls got
     abbrev pub reply2 : Stepped
@@ -117,17 +117,17 @@ module _ (H : List ℕ → List ℕ) where
     pub is3 : (bit : ℕ) (out : List ℕ) → made3 H X1 bit out ≡ reply3 bit out
     unfolding at_bit
     is3 bit out =
-        ap (λ (b : List ℕ). gives (cond (eqb bit 0) (at_end (seat_of session n t i) nothing 0) (at-first (seat_of session n t i) b z))
+        ap (λ (b : List ℕ). gives (cond (eqb bit 0) (at_end (seat_of session n t i) nothing 0) (at_first (seat_of session n t i) b z))
         (answer.Sent (length (outbox_of H X1 bit))) (spliced out 0 (outbox_of H X1 bit))) (take-padded max_message m)
 
     pub is4 : (inbox out : List ℕ) → made4 H X2 inbox out ≡ reply4 inbox out
-    unfolding at-first
+    unfolding at_first
     is4 inbox out =
-        ap (λ (b : List ℕ). gives (at-second (seat_of session n t i) b z (held_of H X2 inbox) (faulty_shares H X2 inbox)) (answer.Sent (length (relay_of H X2 inbox)))
+        ap (λ (b : List ℕ). gives (at_second (seat_of session n t i) b z (held_of H X2 inbox) (faulty_shares H X2 inbox)) (answer.Sent (length (relay_of H X2 inbox)))
         (spliced out 0 (relay_of H X2 inbox))) (take-padded max_message m)
 
     pub is5 : (in4 in5 out : List ℕ) → ended_with (X3 in4).seat (result_of H (X3 in4) in5) (faulty_of H (X3 in4) in5) out ≡ reply5 in4 in5 out
-    unfolding at-second
+    unfolding at_second
     is5 in4 in5 out = refl
 
     abbrev pub ev2 : Event
@@ -161,7 +161,7 @@ module _ (H : List ℕ → List ℕ) where
     module _ (fin : Party) (all : List Event) where
       from_second : (z out in4 out4 : List ℕ) (es : List Event) → all ≡ voted z 1 out (ev4 session n t i m z in4 out4 ∷ es)
           → Chain H (X3 session n t i m z in4) es fin → Course fin all
-      unfolding at-second
+      unfolding at_second
       from_second z out in4 out4 [] q h = at-second z out in4 out4 q h
       from_second z out in4 out4 (d ∷ es) q h =
           let x : Party = X3 session n t i m z in4 in
@@ -171,7 +171,7 @@ module _ (H : List ℕ → List ℕ) where
           ended z out in4 out4 c.0 c.1 es (q ∙ ap (λ (e : Event). voted z 1 out (ev4 session n t i m z in4 out4 ∷ e ∷ es)) a.0) a.1
 
       from_first : (z out : List ℕ) (es : List Event) → all ≡ voted z 1 out es → Chain H (X2 session n t i m z) es fin → Course fin all
-      unfolding at-first
+      unfolding at_first
       from_first z out [] q h = at-first z out q h
       from_first z out (d ∷ es) q h =
           let x : Party = X2 session n t i m z in
@@ -226,10 +226,10 @@ pub record Ran (H : List ℕ → List ℕ) (session n t i : ℕ) (m : List ℕ) 
   pub heard4 : (j : ℕ) → heard n j (first_of H session n t i m calls 4) ≡ entry n j in4
   pub heard5 : (j : ℕ) → heard n j (first_of H session n t i m calls 5) ≡ entry n j in5
   pub packets : wrote (first_of H session n t i m calls 3) ≡ outbox_of H (at_bit (seat_of session n t i) m z) 1
-  pub relayed : wrote (first_of H session n t i m calls 4) ≡ relay_of H (at-first (seat_of session n t i) m z) in4
+  pub relayed : wrote (first_of H session n t i m calls 4) ≡ relay_of H (at_first (seat_of session n t i) m z) in4
   pub ends : result_after H session n t i m calls ≡ some (result_of H (X3 H session n t i m z in4) in5)
   pub in_tree : (s : List ℕ) → Memᴰ s (coding_strings H session n (shares n (n - t) m)) → Memᴰ s (opened_and_checked H session n t i m calls)
-  pub in-first : (s : List ℕ) → Memᴰ s (checked_in H (at-first (seat_of session n t i) m z) (take_shares in4 []))
+  pub in-first : (s : List ℕ) → Memᴰ s (checked_in H (at_first (seat_of session n t i) m z) (take_shares in4 []))
       → Memᴰ s (opened_and_checked H session n t i m calls)
   pub in-second : (s : List ℕ)
       → Memᴰ s (checked_in H (X3 H session n t i m z in4) (take_relays in5 []))
@@ -241,7 +241,7 @@ pub record Ran (H : List ℕ → List ℕ) (session n t i : ℕ) (m : List ℕ) 
   pub last-call : (e : Event) → first_of H session n t i m calls 5 ≡ some e
       → (e.before ≡ X3 H session n t i m z in4) × (inbox_in e.call ≡ in5)
   pub sends : sent_by H session n t i m calls
-      ≡ lengths (bodies n (outbox_of H (at_bit (seat_of session n t i) m z) 1)) + (n - 1) * length (relay_of H (at-first (seat_of session n t i) m z) in4)
+      ≡ lengths (bodies n (outbox_of H (at_bit (seat_of session n t i) m z) 1)) + (n - 1) * length (relay_of H (at_first (seat_of session n t i) m z) in4)
 
 module _ (H : List ℕ → List ℕ) (session n t i : ℕ) (m : List ℕ) (calls : List Call) (o : (opening H session n t i m).cause ≡ 0) where
   pub x0-is : (opening H session n t i m).state ≡ at_root (seat_of session n t i) m
@@ -353,11 +353,11 @@ module _ (H : List ℕ → List ℕ) (session n t i : ℕ) (m : List ℕ) (calls
           heard4 = λ j. ap (heard n j) is-4;
           heard5 = λ j. ap (heard n j) is-5;
           packets = ap wrote is-3 ∙ take-spliced out (outbox_of H (at_bit (seat_of session n t i) m z) 1);
-          relayed = ap wrote is-4 ∙ take-spliced out4 (relay_of H (at-first (seat_of session n t i) m z) in4);
+          relayed = ap wrote is-4 ∙ take-spliced out4 (relay_of H (at_first (seat_of session n t i) m z) in4);
           ends = ends_is H session n t i m calls o ∙ last.0;
           in_tree = λ s h. Memᴰ.append_left (checked_over H (did H session n t i m calls)) h;
           in-first = λ s h. checked-in s (Memᴰ.append_left (checked_over H (fifth ∷ rest)) h);
-          in-second = λ s h. checked-in s (Memᴰ.append_right (checked_in H (at-first (seat_of session n t i) m z) (take_shares in4 []))
+          in-second = λ s h. checked-in s (Memᴰ.append_right (checked_in H (at_first (seat_of session n t i) m z) (take_shares in4 []))
               (Memᴰ.append_left (checked_over H rest) h));
           in-again = λ s h. subst (λ (l : List Event). Memᴰ s (recoded_over H l)) (sym all-did) (Memᴰ.append_left (recoded_over H rest) h);
           last-call = λ e f. let k : fifth ≡ e = same_some (sym is-5 ∙ f) in
@@ -366,7 +366,7 @@ module _ (H : List ℕ → List ℕ) (session n t i : ℕ) (m : List ℕ) (calls
             all-did,
             last.1,
             take-spliced out (outbox_of H (at_bit (seat_of session n t i) m z) 1),
-            take-spliced out4 (relay_of H (at-first (seat_of session n t i) m z) in4),
+            take-spliced out4 (relay_of H (at_first (seat_of session n t i) m z) in4),
           ) (omega arith);
         }
 

@@ -14,8 +14,8 @@ use lib.Dec.{eqb, ltb}
 use lib.ListN.{length}
 use Rattle.buffer.specs.Splice.{spliced}
 use Rattle.buffer.proofs.Splice.{take-spliced}
-use Rattle.party.specs.State.{Result, nothing, settled, result_bytes, message_in, at-first, at-second, at_end, result_in, broken, happy}
-use Rattle.party.specs.Steps.{turn_of, state_cause, root_cause, with-root, Stepped, gives, refused, writes, bit_cause, outbox_of}
+use Rattle.party.specs.State.{Result, nothing, settled, result_bytes, message_in, at_first, at_second, at_end, result_in, broken, happy}
+use Rattle.party.specs.Steps.{turn_of, state_cause, root_cause, with_root, Stepped, gives, refused, writes, bit_cause, outbox_of}
 use Rattle.party.specs.Steps.{agree_bit_of, inbox_cause, relays_cause, faulty_shares, relay_of, held_of, take_shares_of, result_of, faulty_of, ending, take_relays_of}
 use Rattle.party.specs.declared.Party.{Party}
 use Rattle.commitment.specs.declared.Seat.{Seat}
@@ -116,17 +116,17 @@ bit-state x bit e =
 module _ (H : List ℕ → List ℕ) where
   -- what an accepted call gives, from the state it got
   abbrev pub made2 : Party → List ℕ → Stepped
-  made2 x z = gives (with-root x z) (answer.Happy (happy H (with-root x z))) []
+  made2 x z = gives (with_root x z) (answer.Happy (happy H (with_root x z))) []
 
   abbrev pub made3 : Party → ℕ → List ℕ → Stepped
   made3 x bit out =
-      gives (cond (eqb bit 0) (at_end x.seat nothing 0) (at-first x.seat (message_in x) x.root))
+      gives (cond (eqb bit 0) (at_end x.seat nothing 0) (at_first x.seat (message_in x) x.root))
       (answer.Sent (length (outbox_of H x bit)))
       (spliced out 0 (outbox_of H x bit))
 
   abbrev pub made4 : Party → List ℕ → List ℕ → Stepped
   made4 x inbox out =
-      gives (at-second x.seat (message_in x) x.root (held_of H x inbox) (faulty_shares H x inbox)) (answer.Sent (length (relay_of H x inbox)))
+      gives (at_second x.seat (message_in x) x.root (held_of H x inbox) (faulty_shares H x inbox)) (answer.Sent (length (relay_of H x inbox)))
       (spliced out 0 (relay_of H x inbox))
 
   -- each step, taken or turned away
@@ -144,14 +144,14 @@ module _ (H : List ℕ → List ℕ) where
   unfolding made agree_bit_of
   bit_or x bit out =
       (written-or (bit_cause x bit) x
-      (cond (eqb bit 0) (at_end x.seat nothing 0) (at-first x.seat (message_in x) x.root))
+      (cond (eqb bit 0) (at_end x.seat nothing 0) (at_first x.seat (message_in x) x.root))
       (outbox_of H x bit) out)
 
   shares-or : (x : Party) (inbox out : List ℕ)
       → ((inbox_cause 4 x inbox ≡ 0) × (made H x (take_shares inbox out) ≡ made4 x inbox out)) ⊎ Turned x (made H x (take_shares inbox out))
   unfolding made take_shares_of
   shares-or x inbox out =
-      (written-or (inbox_cause 4 x inbox) x (at-second x.seat (message_in x) x.root (held_of H x inbox) (faulty_shares H x inbox))
+      (written-or (inbox_cause 4 x inbox) x (at_second x.seat (message_in x) x.root (held_of H x inbox) (faulty_shares H x inbox))
       (relay_of H x inbox) out)
 
   relays-or : (x : Party) (inbox out : List ℕ)

@@ -29,7 +29,7 @@ use Rattle.packet.specs.Format.{chained, hashes, packet_of, entry_of, share_in, 
 use Rattle.packet.specs.Inbox.{inbox_of}
 use Rattle.packet.specs.Class.{faulty, class_of, class_strings}
 use Rattle.packet.specs.Message.{message_packet, message_in, read_message}
-use Rattle.party.specs.State.{seat_of, Result, nothing, settled, at_root, at_bit, at-first, at-second, at_end, blank_state, broken, message_root, happy}
+use Rattle.party.specs.State.{seat_of, Result, nothing, settled, at_root, at_bit, at_first, at_second, at_end, blank_state, broken, message_root, happy}
 use Rattle.party.specs.Steps.{state_cause, open_cause, open_of, root_cause, agree_root_of, packet_for, bit_cause, outbox_of, agree_bit_of, inbox_cause, first_valid}
 use Rattle.party.specs.Steps.{sent_faulty, faulty_shares, faulty_relays, faulty_of, relay_of, held_of, take_shares_of, gathered, result_found, result_of, relays_cause, take_relays_of}
 use Rattle.party.specs.Strings.{judged_strings, share_strings}
@@ -213,7 +213,7 @@ pub record Computed : Type 0 where
   pub good-sent : sent_in_all toy 7 3 1 good ≡ 2 * 5 + 464
 
 pub computed : Computed
-unfolding size body rest fills bodies spliced tabulate parties numbered group_cause times_x product_of product power inverse sum pow value factor unit numerator denominator basis through share_length headed frame block share_byte share_of share shares present point framed other unframed joined recovered split_from split shape_of shape leaves node_string sides beside root path folded tree_strings fold_strings check_strings top_hash path_hashes four_bytes session_bytes leaf_string front_length leaf_strings shares_cause same leaves_of root_of path_of passes coding_strings strings_of chained hashes packet_of entry_of share_in read_of inbox_of class_of class_strings at_root at_bit at-first at-second at_end blank_state broken message_root happy state_cause open_cause open_of root_cause agree_root_of packet_for bit_cause outbox_of agree_bit_of inbox_cause first_valid map_of sent_faulty faulty_shares faulty_relays faulty_of relay_of held_of take_shares_of gathered result_found result_of relays_cause take_relays_of accepted first entry lengths sent_over made events final share_strings judged_strings checked_in strings_over recoded_in did opened_and_checked recoded sent_by among different absent sum_over join_over clean clean_of there mix digest message_packet message_in read_message sender_cause open_by_sender_of
+unfolding size body rest fills bodies spliced tabulate parties numbered group_cause times_x product_of product power inverse sum pow value factor unit numerator denominator basis through share_length headed frame block share_byte share_of share shares present point framed other unframed joined recovered split_from split shape_of shape leaves node_string sides beside root path folded tree_strings fold_strings check_strings top_hash path_hashes four_bytes session_bytes leaf_string front_length leaf_strings shares_cause same leaves_of root_of path_of passes coding_strings strings_of chained hashes packet_of entry_of share_in read_of inbox_of class_of class_strings at_root at_bit at_first at_second at_end blank_state broken message_root happy state_cause open_cause open_of root_cause agree_root_of packet_for bit_cause outbox_of agree_bit_of inbox_cause first_valid map_of sent_faulty faulty_shares faulty_relays faulty_of relay_of held_of take_shares_of gathered result_found result_of relays_cause take_relays_of accepted first entry lengths sent_over made events final share_strings judged_strings checked_in strings_over recoded_in did opened_and_checked recoded sent_by among different absent sum_over join_over clean clean_of there mix digest message_packet message_in read_message sender_cause open_by_sender_of
 computed = record {
   two-went = record {
     bytes = (packet-bytes (0x41 ∷ []) (one_byte 0x41 (lit< tt)) (lit≤ tt), packet-bytes (0x42 ∷ []) (one_byte 0x42 (lit< tt)) (lit≤ tt));

@@ -11,7 +11,7 @@ use lib.Dec.{eqb}
 use lib.ListN.{length}
 use Rattle.limits.proofs.Group.{group_of}
 use Rattle.commitment.proofs.Opening.{open-bounds}
-use Rattle.party.specs.State.{seat_of, Result, nothing, settled, message_in, at-first, at_end}
+use Rattle.party.specs.State.{seat_of, Result, nothing, settled, message_in, at_first, at_end}
 use Rattle.party.specs.Steps.{open_of, Stepped, faulty_shares, held_of, result_of, faulty_of}
 use Rattle.commitment.specs.declared.Seat.{Seat}
 use Rattle.party.specs.declared.Party.{Party}
@@ -53,7 +53,7 @@ module _ (H : List ℕ → List ℕ) (x : Party) (four : x.seat.session < 2 ^ 32
       let w = whole H x (agree_bit bit out) e in
       let f = fit_of x w in
       subst (λ (r : Stepped). Storable r.state) (sym (did3 H x bit out e).2)
-      (either (eqb bit 0) (at_end x.seat nothing 0) (at-first x.seat (message_in x) x.root)
+      (either (eqb bit 0) (at_end x.seat nothing 0) (at_first x.seat (message_in x) x.root)
       (end-storable x.seat four f.high (omega (arith, f.faults)) f.last nothing 0 (omega arith) (holds-empty x.seat.n x.seat.own).named)
       (first-storable x.seat four f.high (omega (arith, f.faults)) f.last (message_in x) (message-short H x w) x.root root))
   storable (take_shares inbox out) e =

@@ -22,8 +22,8 @@ use Rattle.erasure.proofs.Frame.{share-most}
 use Rattle.commitment.specs.Private.{Coded}
 use Rattle.commitment.specs.Rooms.{max_packet, max_outbox}
 use Rattle.commitment.proofs.Shared.{length-shares}
-use Rattle.party.specs.State.{Result, nothing, settled, result_bytes, message_in, at_bit, at-first, at-second, at_end, happy}
-use Rattle.party.specs.Steps.{Stepped, stepped, gives, writes, root_cause, with-root, agree_root_of, bit_cause, packet_for, outbox_of, agree_bit_of}
+use Rattle.party.specs.State.{Result, nothing, settled, result_bytes, message_in, at_bit, at_first, at_second, at_end, happy}
+use Rattle.party.specs.Steps.{Stepped, stepped, gives, writes, root_cause, with_root, agree_root_of, bit_cause, packet_for, outbox_of, agree_bit_of}
 use Rattle.party.specs.Steps.{inbox_cause, relays_cause, relay_of, held_of, faulty_shares, faulty_of, Taken, missing, found, taken_by, packet_taken, take_shares_of, result_of, ending, take_relays_of}
 use Rattle.party.specs.Private.{Fit}
 use Rattle.party.specs.declared.Party.{Party}
@@ -103,26 +103,26 @@ module _ (H : List ℕ → List ℕ) (x : Party) where
   Bit = at_bit x.seat (message_in x) x.root
 
   abbrev First : Party
-  First = at-first x.seat (message_in x) x.root
+  First = at_first x.seat (message_in x) x.root
 
   bit-same : (bit : ℕ) → outbox_of H Bit bit ≡ outbox_of H x bit
   unfolding outbox_of packet_for happy at_bit
   bit-same bit = rw (take-padded max_message (message_in x))
 
   taken-same : (t : Taken) → packet_taken First t ≡ packet_taken x t
-  unfolding at-first
+  unfolding at_first
   taken-same missing = refl
   taken-same (found y p) = refl
 
   first-same : (inbox : List ℕ) → relay_of H First inbox ≡ relay_of H x inbox
-  unfolding relay_of packet_for happy at-first
+  unfolding relay_of packet_for happy at_first
   first-same inbox = rw (take-padded max_message (message_in x), taken-same (taken_by H x inbox))
 
 module _ (H : List ℕ → List ℕ) (wide : (s : List ℕ) → length (H s) ≡ 32) (x : Party) where
   -- step 2: a bit
   root-small : (z : List ℕ) → Fitting (agree_root_of H x z)
   root-small z = elim (ℕ_discrete (root_cause x z) 0) [
-    | yes e ↦ rw (root-given H x z e) (one (happy H (with-root x z)), omega arith)
+    | yes e ↦ rw (root-given H x z e) (one (happy H (with_root x z)), omega arith)
     | no e ↦ rw (root-refused H x z e) (omega arith, omega arith)
   ]
     where
@@ -140,7 +140,7 @@ module _ (H : List ℕ → List ℕ) (wide : (s : List ℕ) → length (H s) ≡
   unfolding agree_bit_of
   bit-small bit out = elim (ℕ_discrete (bit_cause x bit) 0) [
     | yes e ↦ let next : Party = cond (eqb bit 0) (at_end x.seat nothing 0)
-        (at-first x.seat (message_in x) x.root) in
+        (at_first x.seat (message_in x) x.root) in
         rw (eq-eqb (bit_cause x bit) 0 e)
         (writes-fitting x next (outbox_of H x bit) out (omega (arith, outbox-small (state-fit 3 x (bit-sound x bit e)) bit)))
     | no e ↦ rw (ne_eqb (bit_cause x bit) 0 e) (omega arith, omega arith)
@@ -155,7 +155,7 @@ module _ (H : List ℕ → List ℕ) (wide : (s : List ℕ) → length (H s) ≡
   shares-small : (inbox out : List ℕ) → Fitting (take_shares_of H x inbox out)
   unfolding take_shares_of
   shares-small inbox out = elim (ℕ_discrete (inbox_cause 4 x inbox) 0) [
-    | yes e ↦ let next : Party = at-second x.seat (message_in x) x.root (held_of H x inbox) (faulty_shares H x inbox) in
+    | yes e ↦ let next : Party = at_second x.seat (message_in x) x.root (held_of H x inbox) (faulty_shares H x inbox) in
         rw (eq-eqb (inbox_cause 4 x inbox) 0 e)
         (writes-fitting x next (relay_of H x inbox) out (omega (arith, relay-small (state-fit 4 x (inbox-sound 4 x inbox e).0) inbox)))
     | no e ↦ rw (ne_eqb (inbox_cause 4 x inbox) 0 e) (omega arith, omega arith)

@@ -16,7 +16,7 @@ use Rattle.buffer.specs.Splice.{spliced}
 use Rattle.buffer.specs.Entries.{fills}
 use Rattle.buffer.specs.Given.{written}
 use Rattle.sha256.specs.Sha256.{sha256}
-use Rattle.party.specs.State.{Result, nothing, settled, result_bytes, result_in, message_in, at_bit, at-first, at-second, at_end, broken}
+use Rattle.party.specs.State.{Result, nothing, settled, result_bytes, result_in, message_in, at_bit, at_first, at_second, at_end, broken}
 use Rattle.party.specs.Steps.{turn_of, state_cause, open_of, result_found, result_of, faulty_of, Stepped, refused}
 use Rattle.party.specs.declared.Stage.TheVariants.{Second}
 use Rattle.commitment.specs.declared.Seat.{Seat}
@@ -130,14 +130,14 @@ module _ (s : Seat) (R : Result) (y : Party) (held : result_in y ≡ some R) whe
   waiting-form : (z : Party) → y ≡ z → result_in z ≡ none → y ≡ at_end s R y.faulty
   waiting-form z q n = absurd (none-ne-some R (sym n ∙ sym (ap result_in q) ∙ held))
 
-bit-form : (s : Seat) (R : Result) (b : Bool) (m z : List ℕ) (y : Party) → result_in y ≡ some R → y ≡ cond b (at_end s nothing 0) (at-first s m z)
+bit-form : (s : Seat) (R : Result) (b : Bool) (m z : List ℕ) (y : Party) → result_in y ≡ some R → y ≡ cond b (at_end s nothing 0) (at_first s m z)
     → y ≡ at_end s R y.faulty
-unfolding at-first
+unfolding at_first
 bit-form s R true m z y h q = ended-form s R y h nothing 0 q
 bit-form s R false m z y h q = waiting-form s R y h _ q refl
 
 next-form : (x : Party) (c : Call) (R : Result) (y : Party) → result_in y ≡ some R → y ≡ next x c → y ≡ at_end x.seat R y.faulty
-unfolding at_bit at-second
+unfolding at_bit at_second
 next-form x (agree_root z) R y h q = waiting-form x.seat R y h _ q refl
 next-form x (agree_bit bit out) R y h q = bit-form x.seat R (eqb bit 0) (message_in x) x.root y h q
 next-form x (take_shares inbox out) R y h q = waiting-form x.seat R y h _ q refl

@@ -19,7 +19,7 @@ use Rattle.packet.specs.Format.{Reading, silence, unreadable, shared, read_of}
 use Rattle.packet.specs.Class.{valid, faulty, judged, class_of}
 use Rattle.commitment.specs.declared.Seat.{Seat}
 use Rattle.commitment.proofs.Opening.{open-bounds}
-use Rattle.party.specs.State.{Result, nothing, settled, message_in, has_ended, at_bit, at-first, at-second, at_end, stray, overlong, broken}
+use Rattle.party.specs.State.{Result, nothing, settled, message_in, has_ended, at_bit, at_first, at_second, at_end, stray, overlong, broken}
 use Rattle.party.specs.Steps.{open_of, entry, is_faulty, sent_faulty, faulty_in, faulty_of, Stepped}
 use Rattle.party.specs.declared.Party.{Party}
 use Rattle.party.specs.declared.Stage.TheVariants.{Second}
@@ -65,29 +65,29 @@ cheated-is x inbox number p =
 
 -- the next state's seat and map
 next-seat : (x : Party) (c : Call) → (next x c).seat ≡ x.seat
-unfolding at_bit at-first at-second at_end
+unfolding at_bit at_first at_second at_end
 next-seat x (agree_root z) = refl
 next-seat x (agree_bit bit out) = go (eqb bit 0)
   where
-    go : (b : Bool) → (cond b (at_end x.seat nothing 0) (at-first x.seat (message_in x) x.root)).seat ≡ x.seat
+    go : (b : Bool) → (cond b (at_end x.seat nothing 0) (at_first x.seat (message_in x) x.root)).seat ≡ x.seat
     go true = refl
     go false = refl
 next-seat x (take_shares inbox out) = refl
 next-seat x (take_relays inbox out) = refl
 
 early-empty : (x : Party) (c : Call) → step_of c ≢ 4 → step_of c ≢ 5 → (next x c).faulty ≡ 0
-unfolding at_bit at-first at_end
+unfolding at_bit at_first at_end
 early-empty x (agree_root z) a b = refl
 early-empty x (agree_bit bit out) a b = go (eqb bit 0)
   where
-    go : (b : Bool) → (cond b (at_end x.seat nothing 0) (at-first x.seat (message_in x) x.root)).faulty ≡ 0
+    go : (b : Bool) → (cond b (at_end x.seat nothing 0) (at_first x.seat (message_in x) x.root)).faulty ≡ 0
     go true = refl
     go false = refl
 early-empty x (take_shares inbox out) a b = absurd (a refl)
 early-empty x (take_relays inbox out) a b = absurd (b refl)
 
-second-map : (s : Seat) (m z y : List ℕ) (f : ℕ) → (at-second s m z y f).faulty ≡ f
-unfolding at-second
+second-map : (s : Seat) (m z y : List ℕ) (f : ℕ) → (at_second s m z y f).faulty ≡ f
+unfolding at_second
 second-map s m z y f = refl
 
 end-map : (s : Seat) (r : Result) (f : ℕ) → (at_end s r f).faulty ≡ f

@@ -14,7 +14,7 @@ use Rattle.sha256.proofs.Laws.{sha256-length}
 use Rattle.merkle.proofs.Written.{leaf-plain, leaf-numbered}
 use Rattle.merkle.proofs.Shares.{leaf_string-injective}
 use Rattle.commitment.proofs.Sessions.{roots-differ, empty-string, behind-string, two-messages}
-use Rattle.party.specs.State.{nothing, at_root, at_bit, at-first, at-second, at_end, message_in, broken}
+use Rattle.party.specs.State.{nothing, at_root, at_bit, at_first, at_second, at_end, message_in, broken}
 use Rattle.party.specs.Steps.{open_of}
 use Rattle.party.specs.Sender.{open_by_sender_of}
 use Rattle.party.specs.declared.Party.{Party}
@@ -46,11 +46,11 @@ by-sender session n t own q bs out e =
 
 -- no step changes it
 next-seat : (x : Party) (c : Call) → (next x c).seat.session ≡ x.seat.session
-unfolding at_bit at-first at-second at_end
+unfolding at_bit at_first at_second at_end
 next-seat x (agree_root z) = refl
 next-seat x (agree_bit bit out) = go (eqb bit 0)
   where
-    go : (b : Bool) → (cond b (at_end x.seat nothing 0) (at-first x.seat (message_in x) x.root)).seat.session ≡ x.seat.session
+    go : (b : Bool) → (cond b (at_end x.seat nothing 0) (at_first x.seat (message_in x) x.root)).seat.session ≡ x.seat.session
     go true = refl
     go false = refl
 next-seat x (take_shares inbox out) = refl

@@ -19,7 +19,7 @@ use Rattle.sha256.specs.Sha256.{sha256}
 use Rattle.commitment.specs.Commitment.{message_root, open_cause}
 use Rattle.commitment.proofs.Opening.{open-bounds, spared}
 use Rattle.merkle.specs.Shares.{blank}
-use Rattle.party.specs.State.{seat_of, Result, nothing, settled, result_bytes, has_ended, message_in, at_root, at-first, at_end, blank_state, broken}
+use Rattle.party.specs.State.{seat_of, Result, nothing, settled, result_bytes, has_ended, message_in, at_root, at_first, at_end, blank_state, broken}
 use Rattle.party.specs.Steps.{turn_of, state_cause, open_of, Stepped, cause_of, value_of, result_given, faulty_given, refused, writes, ending, root_cause, agree_root_of, bit_cause, outbox_of, agree_bit_of}
 use Rattle.party.specs.Steps.{inbox_cause, relays_cause, relay_of, held_of, faulty_shares, take_shares_of, result_of, faulty_of, take_relays_of}
 use Rattle.party.specs.declared.Party.{Party}
@@ -167,7 +167,7 @@ pub done : (x : Party) (c : Call) → Does x c (judged (step_of c) x c)
 unfolding made agree_root_of agree_bit_of take_shares_of take_relays_of root_cause bit_cause inbox_cause
 done x (agree_root z) = record { does = _; is = refl; cause = refl; keeps = λ d. absurd (d refl) }
 done x (agree_bit bit out) =
-    let next = cond (eqb bit 0) (at_end x.seat nothing 0) (at-first x.seat (message_in x) x.root) in
+    let next = cond (eqb bit 0) (at_end x.seat nothing 0) (at_first x.seat (message_in x) x.root) in
     record { does = _; is = refl; cause = writes-cause x next (outbox_of sha256 x bit) out; keeps = writes-keeps x next (outbox_of sha256 x bit) out }
 done x (take_shares inbox out) =
     record { does = _; is = refl; cause = writes-cause x _ (relay_of sha256 x inbox) out; keeps = writes-keeps x _ (relay_of sha256 x inbox) out }
@@ -266,7 +266,7 @@ step-accepted x c e = go c e (whole sha256 x c e)
           refl,
           refl,
           refl,
-          sound (eqb bit 0) (at_end x.seat nothing 0) (at-first x.seat (message_in x) x.root)
+          sound (eqb bit 0) (at_end x.seat nothing 0) (at_first x.seat (message_in x) x.root)
               (end_whole x.seat f.low f.high (omega (arith, f.faults)) f.first f.last nothing 0 (omega arith) (holds-empty x.seat.n x.seat.own))
               (first-whole x.seat f.low f.high (omega (arith, f.faults)) f.first f.last (message_in x) (message-short sha256 x w) x.root),
         )

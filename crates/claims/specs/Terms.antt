@@ -15,7 +15,7 @@ use Rattle.sha256.specs.Sha256.{sha256}
 use Rattle.merkle.specs.Tree.{shape, sides, folded}
 use Rattle.packet.specs.Format.{Reading, silence, unreadable, shared}
 use Rattle.commitment.specs.Rooms.{max_packet, max_outbox}
-use Rattle.party.specs.State.{Result, nothing, settled, result_bytes, result_in, has_ended, message_in, at_bit, at-first, at-second, at_end, happy}
+use Rattle.party.specs.State.{Result, nothing, settled, result_bytes, result_in, has_ended, message_in, at_bit, at_first, at_second, at_end, happy}
 use Rattle.party.specs.Steps.{open_of, Stepped, outbox_of, relay_of, held_of, faulty_shares, result_of, faulty_of}
 use Rattle.party.specs.Sender.{message_by, open_by_sender_of}
 use Rattle.party.specs.declared.Outcome.TheVariants.{Nothing, Message}
@@ -63,8 +63,8 @@ due x (take_relays inbox out) = result_bytes (result_of sha256 x inbox)
 
 abbrev pub next : Party → Call → Party
 next x (agree_root z) = at_bit x.seat (message_in x) z
-next x (agree_bit bit out) = cond (eqb bit 0) (at_end x.seat nothing 0) (at-first x.seat (message_in x) x.root)
-next x (take_shares inbox out) = at-second x.seat (message_in x) x.root (held_of sha256 x inbox) (faulty_shares sha256 x inbox)
+next x (agree_bit bit out) = cond (eqb bit 0) (at_end x.seat nothing 0) (at_first x.seat (message_in x) x.root)
+next x (take_shares inbox out) = at_second x.seat (message_in x) x.root (held_of sha256 x inbox) (faulty_shares sha256 x inbox)
 next x (take_relays inbox out) = at_end x.seat (result_of sha256 x inbox) (faulty_of sha256 x inbox)
 
 abbrev pub answered : Party → Call → ℕ

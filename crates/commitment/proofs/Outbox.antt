@@ -26,19 +26,19 @@ use Rattle.packet.specs.Format.{packet_of, entry_of}
 use Rattle.packet.specs.Answer.{write_entry_of}
 use Rattle.packet.proofs.Reading.{count-refused}
 use Rattle.packet.proofs.Writing.{cause-fine, entry-written}
-use Rattle.commitment.specs.Private.{entry_with, entry_for, outbox_up_to, entry-length, outbox_length}
+use Rattle.commitment.specs.Private.{entry_with, entry_for, outbox_up_to, entry_length, outbox_length}
 
 -- the length of an entry
 module _ (n own s j : ℕ) where
-  pub length-own : j ≡ own → entry-length n own s j ≡ 2
-  unfolding entry-length
+  pub length-own : j ≡ own → entry_length n own s j ≡ 2
+  unfolding entry_length
   length-own e = rw (eq-eqb j own e)
 
-  pub length-other : (j ≡ own → ⊥) → entry-length n own s j ≡ 2 + 4 + s + 32 * length (sides_of n j)
-  unfolding entry-length
+  pub length-other : (j ≡ own → ⊥) → entry_length n own s j ≡ 2 + 4 + s + 32 * length (sides_of n j)
+  unfolding entry_length
   length-other e = rw (ne_eqb j own e)
 
-  length-fits : n ≤ max_parties → 1 ≤ j → j ≤ n → s ≤ max_share → entry-length n own s j ≤ 2 + 4 + max_share + 32 * max_path
+  length-fits : n ≤ max_parties → 1 ≤ j → j ≤ n → s ≤ max_share → entry_length n own s j ≤ 2 + 4 + max_share + 32 * max_path
   length-fits high first last short =
       elim (ℕ_discrete j own) [
         | yes e ↦ omega (arith, length-own e)
@@ -57,11 +57,11 @@ module _ (n own s : ℕ) where
   unfolding outbox_length
   length_none = refl
 
-  pub length_more : (k : ℕ) → outbox_length (k + 1) n own s ≡ outbox_length k n own s + entry-length n own s (k + 1)
+  pub length_more : (k : ℕ) → outbox_length (k + 1) n own s ≡ outbox_length k n own s + entry_length n own s (k + 1)
   unfolding outbox_length
   length_more k =
       ap (λ (m : ℕ). outbox_length m n own s) (add-one k)
-      ∙ ap (λ (m : ℕ). outbox_length k n own s + entry-length n own s m) (sym (add-one k))
+      ∙ ap (λ (m : ℕ). outbox_length k n own s + entry_length n own s m) (sym (add-one k))
 
   pub length-small : n ≤ max_parties → s ≤ max_share → (k : ℕ) → k ≤ n → outbox_length k n own s ≤ (2 + 4 + max_share + 32 * max_path) * k
   unfolding outbox_length

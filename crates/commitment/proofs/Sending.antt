@@ -20,7 +20,7 @@ use Rattle.packet.proofs.Parts.{packet-length, entry-length}
 use Rattle.packet.proofs.Inbox.{inbox-more}
 use Rattle.buffer.proofs.Parts.{length_part}
 use Rattle.commitment.specs.Commitment.{leaves_for, packet_with, packets_with, relay_with}
-use Rattle.commitment.specs.Private.{Coded, entry_with, entry_for, relay_for, outbox_up_to, entry-length, outbox_length}
+use Rattle.commitment.specs.Private.{Coded, entry_with, entry_for, relay_for, outbox_up_to, entry_length, outbox_length}
 use Rattle.commitment.proofs.Shared.{share-inside, shares-fine, share-at}
 use Rattle.commitment.proofs.Outbox.{length-own, length-other, entry-own, entry_other}
 
@@ -35,7 +35,7 @@ module _ (H : List ℕ → List ℕ) where
       fine : shares_cause session n (length all) ≡ 0
       fine = shares-fine session n s all low high short long
 
-      entry-counted : length (entry_for H n own s all (leaves_of H session n all) j) ≡ entry-length n own s j
+      entry-counted : length (entry_for H n own s all (leaves_of H session n all) j) ≡ entry_length n own s j
       entry-counted =
           let one : List ℕ = take s (drop ((j - 1) * s) all) in
           let way : List (List ℕ) = take (length (sides_of n j)) Path in

@@ -32,9 +32,9 @@ module _ (H : List ℕ → List ℕ) where
   outbox_up_to (suc k) n own s shares leaves = outbox_up_to k n own s shares leaves ++ entry_for n own s shares leaves (suc k)
 
 -- how long they are
-unfoldable pub entry-length : ℕ → ℕ → ℕ → ℕ → ℕ
-entry-length n own s j = cond (eqb j own) 2 (2 + 4 + s + 32 * length (sides_of n j))
+unfoldable pub entry_length : ℕ → ℕ → ℕ → ℕ → ℕ
+entry_length n own s j = cond (eqb j own) 2 (2 + 4 + s + 32 * length (sides_of n j))
 
 unfoldable pub outbox_length : ℕ → ℕ → ℕ → ℕ → ℕ
 outbox_length zero n own s = 0
-outbox_length (suc k) n own s = outbox_length k n own s + entry-length n own s (suc k)
+outbox_length (suc k) n own s = outbox_length k n own s + entry_length n own s (suc k)

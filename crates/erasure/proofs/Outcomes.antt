@@ -11,7 +11,7 @@ use Rattle.buffer.specs.Entries.{size, body, rest, fills, bodies}
 use Rattle.buffer.specs.Given.{Given, gave, written}
 use Rattle.erasure.specs.Coding.{share_length, shares, encode_of}
 use Rattle.erasure.specs.Rebuild.{Point, point, present, framed, other, unframed, joined, recovered, answered, rebuild_of}
-use Rattle.erasure.specs.Rebuild.{cause, message, parts_at, all-lie, rebuild_at_of}
+use Rattle.erasure.specs.Rebuild.{cause, message, parts_at, all_lie, rebuild_at_of}
 use Rattle.erasure.specs.Arrays.{judged_frame}
 use Rattle.erasure.specs.declared.Places.{Places}
 use Rattle.buffer.specs.declared.Written.TheVariants.{Refused}
@@ -109,12 +109,12 @@ module _ (n t : ℕ) (x y : List ℕ) (p : Places) (out : List ℕ) where
 
   pub rebuild-at-refused : (group_cause n t ≡ 0 → ⊥) → rebuild_at_of n t x y p out ≡ gave (Refused (group_cause n t)) out
   unfolding rebuild_at_of
-  rebuild-at-refused = checked_refused (group_cause n t) (all-lie n (length x) (length y) p) out given-at
+  rebuild-at-refused = checked_refused (group_cause n t) (all_lie n (length x) (length y) p) out given-at
 
-  pub rebuild-at-astray : group_cause n t ≡ 0 → all-lie n (length x) (length y) p ≡ false → rebuild_at_of n t x y p out ≡ gave (Refused 8) out
+  pub rebuild-at-astray : group_cause n t ≡ 0 → all_lie n (length x) (length y) p ≡ false → rebuild_at_of n t x y p out ≡ gave (Refused 8) out
   unfolding rebuild_at_of
-  rebuild-at-astray = checked-unlaid (group_cause n t) (all-lie n (length x) (length y) p) out given-at
+  rebuild-at-astray = checked-unlaid (group_cause n t) (all_lie n (length x) (length y) p) out given-at
 
-  pub rebuild-at-answered : group_cause n t ≡ 0 → all-lie n (length x) (length y) p ≡ true → rebuild_at_of n t x y p out ≡ given-at
+  pub rebuild-at-answered : group_cause n t ≡ 0 → all_lie n (length x) (length y) p ≡ true → rebuild_at_of n t x y p out ≡ given-at
   unfolding rebuild_at_of
-  rebuild-at-answered = checked-fine (group_cause n t) (all-lie n (length x) (length y) p) out given-at
+  rebuild-at-answered = checked-fine (group_cause n t) (all_lie n (length x) (length y) p) out given-at

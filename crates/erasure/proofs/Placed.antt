@@ -18,7 +18,7 @@ use Rattle.buffer.specs.Entries.{size, bodies}
 use Rattle.buffer.proofs.Entries.{size-drop}
 use Rattle.buffer.proofs.Parts.{part-rest}
 use Rattle.buffer.proofs.Tabulate.{tabulate-cong, tabulate-get_or}
-use Rattle.erasure.specs.Rebuild.{present, recovered, answered, part_at, parts_at, lies, all-lie, rebuild_at_of}
+use Rattle.erasure.specs.Rebuild.{present, recovered, answered, part_at, parts_at, lies, all_lie, rebuild_at_of}
 use Rattle.erasure.specs.Arrays.{InOne, Lie}
 use Rattle.erasure.specs.declared.Places.{Places}
 use Rattle.erasure.proofs.Outcomes.{rebuild-at-answered}
@@ -107,22 +107,22 @@ both true b e = (refl, e)
 both false b e = absurd (true≢false (sym e))
 
 module _ (f g : ℕ) (p : Places) where
-  pub all-lie : (n : ℕ) → Lie n f g p → all-lie n f g p ≡ true
-  unfolding all-lie
+  pub all-lie : (n : ℕ) → Lie n f g p → all_lie n f g p ≡ true
+  unfolding all_lie
   all-lie zero h = refl
   all-lie (suc n) h = rw (all-lie n (λ i l. h i (omega arith)), h n (omega arith))
 
-  pub lie-each : (n : ℕ) → all-lie n f g p ≡ true → Lie n f g p
-  unfolding all-lie
+  pub lie-each : (n : ℕ) → all_lie n f g p ≡ true → Lie n f g p
+  unfolding all_lie
   lie-each zero e i l = absurd (omega arith)
   lie-each (suc n) e i l =
-      let h = both (all-lie n f g p) (lies f g (get_or p.from n 0) (get_or p.len n 0)) e in
+      let h = both (all_lie n f g p) (lies f g (get_or p.from n 0) (get_or p.len n 0)) e in
       below_more (λ k. lies f g (get_or p.from k 0) (get_or p.len k 0) ≡ true) n (lie-each n h.0) h.1 i (omega arith)
 
-  pub one-strays : (n i : ℕ) → i < n → lies f g (get_or p.from i 0) (get_or p.len i 0) ≡ false → all-lie n f g p ≡ false
-  one-strays n i l e = go (all-lie n f g p) refl
+  pub one-strays : (n i : ℕ) → i < n → lies f g (get_or p.from i 0) (get_or p.len i 0) ≡ false → all_lie n f g p ≡ false
+  one-strays n i l e = go (all_lie n f g p) refl
     where
-      go : (t : Bool) → all-lie n f g p ≡ t → t ≡ false
+      go : (t : Bool) → all_lie n f g p ≡ t → t ≡ false
       go true h = absurd (true≢false (sym (lie-each n h i l) ∙ e))
       go false h = refl
 

@@ -79,13 +79,13 @@ lies f g from len =
     eqb len 0 || (leb len max_entry && (leb (from + len) f || (leb f from && leb (from + len) (f + g))))
 
 -- shares 1 to n lie so
-unfoldable pub all-lie : ℕ → ℕ → ℕ → Places → Bool
-all-lie zero f g places = true
-all-lie (suc n) f g places = all-lie n f g places && lies f g (get_or places.from n 0) (get_or places.len n 0)
+unfoldable pub all_lie : ℕ → ℕ → ℕ → Places → Bool
+all_lie zero f g places = true
+all_lie (suc n) f g places = all_lie n f g places && lies f g (get_or places.from n 0) (get_or places.len n 0)
 
 -- the same as `rebuild_of`, of shares where they lie in x and in y behind it: cause 8 where one does not
 unfoldable pub rebuild_at_of : ℕ → ℕ → List ℕ → List ℕ → Places → List ℕ → Given
 rebuild_at_of n t x y places out =
     cond (not (eqb (group_cause n t) 0)) (gave (Refused (group_cause n t)) out)
-    (cond (not (all-lie n (length x) (length y) places)) (gave (Refused 8) out)
+    (cond (not (all_lie n (length x) (length y) places)) (gave (Refused 8) out)
     (answered (recovered (n - t) (present 1 (parts_at n (x ++ y) places))) out))

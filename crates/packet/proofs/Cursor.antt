@@ -33,7 +33,7 @@ use denote.Triple.Statement.{Contract}
 use denote.Triple.Entry.{Vals, on_entry}
 use denote.Triple.Spec.{triple_of}
 use denote.Triple.Clauses.{ensured, lasts}
-use Rattle.packet.specs.Answer.{told_entry, entry-read}
+use Rattle.packet.specs.Answer.{told_entry, entry_read}
 use Rattle.packet.specs.declared.Reader.{Reader}
 use Rattle.packet.specs.declared.Entry.{Entry}
 use Rattle.packet.specs.contracts.Reader as T
@@ -58,7 +58,7 @@ module _ (κ : Lft) (d : Reader) (n : ℕ) where
   v = slice_val d.src.ref_ptr (length d.src.now)
 
   abbrev pub found : Entry
-  found = entry-read n d.src.now d.at
+  found = entry_read n d.src.now d.at
 
   abbrev pub ins : List Val × (List Val × Unit {0})
   ins = (mach ∷ [], (vint w64 n ∷ [], tt))

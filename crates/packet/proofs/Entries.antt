@@ -12,7 +12,7 @@ use Rattle.limits.proofs.Ranges.{parties-some}
 use Rattle.buffer.specs.Entries.{size, fills}
 use Rattle.buffer.proofs.Entries.{whole}
 use Rattle.packet.specs.Format.{read_of}
-use Rattle.packet.specs.Answer.{placed, read_at, ToldEntry, told_entry, next_at, entry-read}
+use Rattle.packet.specs.Answer.{placed, read_at, ToldEntry, told_entry, next_at, entry_read}
 use Rattle.packet.specs.Private.{body_at}
 use Rattle.packet.specs.declared.Entry.{Entry}
 use Rattle.packet.specs.declared.Packet.{Packet}
@@ -25,22 +25,22 @@ pub entry-one : {a b : Entry} → told_entry a ≡ told_entry b → a ≡ b
 entry-one e = ap (λ (t : ToldEntry). t.answer) e
 
 module _ (n : ℕ) (s : List ℕ) (at : ℕ) where
-  pub entry-parties : parties n ≡ false → entry-read n s at ≡ record { packet = Refused 1; next = at }
-  unfolding entry-read
+  pub entry-parties : parties n ≡ false → entry_read n s at ≡ record { packet = Refused 1; next = at }
+  unfolding entry_read
   entry-parties h = rw h
 
   module _ (low : 1 ≤ n) (high : n ≤ max_parties) where
-    pub entry-short : length s < next_at s at → entry-read n s at ≡ record { packet = Refused 8; next = at }
-    unfolding entry-read
+    pub entry-short : length s < next_at s at → entry_read n s at ≡ record { packet = Refused 8; next = at }
+    unfolding entry_read
     entry-short h = rw (parties-some n low high, lt-ltb (length s) (next_at s at) h)
 
     module _ (inside : next_at s at ≤ length s) where
-      pub entry_whole : entry-read n s at ≡ record { packet = read_at n (take (next_at s at) s) (at + 2); next = next_at s at }
-      unfolding entry-read
+      pub entry_whole : entry_read n s at ≡ record { packet = read_at n (take (next_at s at) s) (at + 2); next = next_at s at }
+      unfolding entry_read
       entry_whole = rw (parties-some n low high, le-ltb (length s) (next_at s at) inside)
 
       -- the entry's bytes, behind its length
-      pub entry-read : entry-read n s at ≡ record { packet = placed (at + 2) (read_of n (body_at at s)); next = next_at s at }
+      pub entry-read : entry_read n s at ≡ record { packet = placed (at + 2) (read_of n (body_at at s)); next = next_at s at }
       entry-read =
           entry_whole
           ∙ ap (λ (p : Packet). record { packet = p; next = next_at s at })
@@ -50,7 +50,7 @@ module _ (n : ℕ) (s : List ℕ) (at : ℕ) where
 -- an entry of an inbox, with m entries after it
 pub record Stands (n m at : ℕ) (s : List ℕ) : Type 0 where
   pub inside : next_at s at ≤ length s
-  pub read : entry-read n s at ≡ record { packet = placed (at + 2) (read_of n (body_at at s)); next = next_at s at }
+  pub read : entry_read n s at ≡ record { packet = placed (at + 2) (read_of n (body_at at s)); next = next_at s at }
   pub tail : fills m (drop (next_at s at) s) ≡ true
 
 pub entry-stands : (n m k at : ℕ) (s : List ℕ) → 1 ≤ n → n ≤ max_parties → k ≡ suc m → fills k (drop at s) ≡ true → Stands n m at s
@@ -64,7 +64,7 @@ pub record Reads (n at : ℕ) (s : List ℕ) (e : Entry) : Type 0 where
   pub packet-is : e.packet ≡ placed (at + 2) (read_of n (body_at at s))
   pub next-is : e.next ≡ next_at s at
 
-pub entry-reads : (n m at : ℕ) (s : List ℕ) → Stands n m at s → (e : Entry) → told_entry e ≡ told_entry (entry-read n s at) → Reads n at s e
+pub entry-reads : (n m at : ℕ) (s : List ℕ) → Stands n m at s → (e : Entry) → told_entry e ≡ told_entry (entry_read n s at) → Reads n at s e
 entry-reads n m at s h e q =
     let r = entry-one q ∙ h.read in
     record { packet-is = ap (λ (x : Entry). x.packet) r; next-is = ap (λ (x : Entry). x.next) r }

@@ -67,8 +67,8 @@ next_at s at = at + 2 + size (drop at s)
 
 -- the entry at a place of an inbox, among n parties: cause 1, then 8 where it runs short, and the place stays; else the packet that its bytes
 -- are, by its place in s, and the place behind it, also where the packet is unreadable: a step falls to the next sender
-unfoldable pub entry-read : ℕ → List ℕ → ℕ → Entry
-entry-read n s at =
+unfoldable pub entry_read : ℕ → List ℕ → ℕ → Entry
+entry_read n s at =
     cond (not (parties n)) (record { packet = packet.Refused 1; next = at })
     (cond (ltb (length s) (next_at s at)) (record { packet = packet.Refused 8; next = at })
     (record { packet = read_at n (take (next_at s at) s) (at + 2); next = next_at s at }))

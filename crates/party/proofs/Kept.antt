@@ -12,7 +12,7 @@ use Rattle.buffer.specs.Splice.{put_of}
 use Rattle.buffer.proofs.Splice.{put-fits, spliced-start}
 use Rattle.merkle.proofs.Descend.{drop-replicate}
 use Rattle.merkle.specs.Shares.{blank}
-use Rattle.party.specs.State.{padded, message_in, share_held, waiting, at_root, at_bit, at-first, at-second, at_end, Result, nothing, settled, outcome_of, result_bytes, result_in}
+use Rattle.party.specs.State.{padded, message_in, share_held, waiting, at_root, at_bit, at_first, at_second, at_end, Result, nothing, settled, outcome_of, result_bytes, result_in}
 use Rattle.party.specs.declared.Stage.{Stage}
 use Rattle.party.specs.declared.Stage.TheVariants.{Ended}
 use Rattle.commitment.specs.declared.Seat.{Seat}
@@ -80,14 +80,14 @@ module _ (s : Seat) (m z : List ℕ) where
   unfolding at_bit
   message-bit = take-padded max_message m
 
-  pub message-first : message_in (at-first s m z) ≡ m
-  unfolding at-first
+  pub message-first : message_in (at_first s m z) ≡ m
+  unfolding at_first
   message-first = take-padded max_message m
 
-  pub message-second : (x : List ℕ) (f : ℕ) → message_in (at-second s m z x f) ≡ m
-  unfolding at-second
+  pub message-second : (x : List ℕ) (f : ℕ) → message_in (at_second s m z x f) ≡ m
+  unfolding at_second
   message-second x f = take-padded max_message m
 
-  pub share-second : (x : List ℕ) (f : ℕ) → share_held (at-second s m z x f) ≡ x
-  unfolding at-second
+  pub share-second : (x : List ℕ) (f : ℕ) → share_held (at_second s m z x f) ≡ x
+  unfolding at_second
   share-second x f = take-padded max_share x

@@ -17,9 +17,9 @@ use Rattle.buffer.specs.declared.Written.TheVariants as goal
 use Rattle.buffer.proofs.Splice.{spliced-none}
 use Rattle.merkle.specs.Shares.{blank}
 use Rattle.commitment.specs.Rebuild.{under_root}
-use Rattle.party.specs.State.{seat_of, Result, nothing, settled, message_in, at_root, at-first, at-second, at_end, blank_state, message_root, happy}
+use Rattle.party.specs.State.{seat_of, Result, nothing, settled, message_in, at_root, at_first, at_second, at_end, blank_state, message_root, happy}
 use Rattle.party.specs.State.{result_from, result_at, result_in, has_ended}
-use Rattle.party.specs.Steps.{turn_of, open_cause, open_of, root_cause, with-root, agree_root_of, bit_cause, gives, refused, stepped, writes, outbox_of}
+use Rattle.party.specs.Steps.{turn_of, open_cause, open_of, root_cause, with_root, agree_root_of, bit_cause, gives, refused, stepped, writes, outbox_of}
 use Rattle.party.specs.Steps.{agree_bit_of, inbox_cause, faulty_shares, taken_by, share_taken, packet_taken, own_relay, relay_of, held_of, take_shares_of}
 use Rattle.party.specs.Steps.{rebuilt, recovered_by, relays_cause, faulty_relays, result_found, result_of, faulty_of, ending, take_relays_of}
 use Rattle.party.specs.Private.{after}
@@ -79,7 +79,7 @@ module _ (H : List ℕ → List ℕ) where
     unfolding agree_root_of
     root-refused h = rw (ne_eqb (root_cause x z) 0 h)
 
-    pub root-given : root_cause x z ≡ 0 → agree_root_of H x z ≡ gives (with-root x z) (answer.Happy (happy H (with-root x z))) []
+    pub root-given : root_cause x z ≡ 0 → agree_root_of H x z ≡ gives (with_root x z) (answer.Happy (happy H (with_root x z))) []
     unfolding agree_root_of
     root-given h = rw (eq-eqb (root_cause x z) 0 h)
 
@@ -91,7 +91,7 @@ module _ (H : List ℕ → List ℕ) where
 
     module _ (fine : bit_cause x bit ≡ 0) where
       bit-given : agree_bit_of H x bit out
-          ≡ writes x (cond (eqb bit 0) (at_end x.seat nothing 0) (at-first x.seat (message_in x) x.root))
+          ≡ writes x (cond (eqb bit 0) (at_end x.seat nothing 0) (at_first x.seat (message_in x) x.root))
           (outbox_of H x bit) out
       unfolding agree_bit_of
       bit-given = rw (eq-eqb (bit_cause x bit) 0 fine)
@@ -102,13 +102,13 @@ module _ (H : List ℕ → List ℕ) where
       pub bit-end : bit ≡ 0 → agree_bit_of H x bit out ≡ writes x (at_end x.seat nothing 0) (outbox_of H x 0) out
       bit-end e =
           subst (λ (b : ℕ). Sent b (cond (eqb b 0) (at_end x.seat nothing 0)
-          (at-first x.seat (message_in x) x.root))) e bit-given
+          (at_first x.seat (message_in x) x.root))) e bit-given
 
       pub bit-first : bit ≡ 1
-          → agree_bit_of H x bit out ≡ writes x (at-first x.seat (message_in x) x.root) (outbox_of H x 1) out
+          → agree_bit_of H x bit out ≡ writes x (at_first x.seat (message_in x) x.root) (outbox_of H x 1) out
       bit-first e =
           subst (λ (b : ℕ). Sent b (cond (eqb b 0) (at_end x.seat nothing 0)
-          (at-first x.seat (message_in x) x.root))) e bit-given
+          (at_first x.seat (message_in x) x.root))) e bit-given
 
   -- step 4, the first inbox
   module _ (x : Party) (inbox out : List ℕ) where
@@ -118,12 +118,12 @@ module _ (H : List ℕ → List ℕ) where
 
     module _ (fine : inbox_cause 4 x inbox ≡ 0) where
       pub shares-happy : happy H x ≡ true
-          → take_shares_of H x inbox out ≡ writes x (at-second x.seat (message_in x) x.root [] (faulty_shares H x inbox)) (own_relay H x) out
+          → take_shares_of H x inbox out ≡ writes x (at_second x.seat (message_in x) x.root [] (faulty_shares H x inbox)) (own_relay H x) out
       unfolding take_shares_of relay_of held_of
       shares-happy h = rw (eq-eqb (inbox_cause 4 x inbox) 0 fine, h)
 
       pub shares-taken : happy H x ≡ false → take_shares_of H x inbox out
-          ≡ writes x (at-second x.seat (message_in x) x.root (share_taken (taken_by H x inbox)) (faulty_shares H x inbox))
+          ≡ writes x (at_second x.seat (message_in x) x.root (share_taken (taken_by H x inbox)) (faulty_shares H x inbox))
           (packet_taken x (taken_by H x inbox)) out
       unfolding take_shares_of relay_of held_of
       shares-taken h = rw (eq-eqb (inbox_cause 4 x inbox) 0 fine, h)

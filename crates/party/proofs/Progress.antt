@@ -16,7 +16,7 @@ use Rattle.erasure.specs.Rebuild.{Recovered, present}
 use Rattle.erasure.specs.Rebuild as rebuild
 use Rattle.packet.proofs.Reading.{fields-of}
 use Rattle.packet.proofs.Class.{passing}
-use Rattle.party.specs.State.{Result, nothing, settled, result_bytes, message_in, at_root, at_bit, at-first, at-second, at_end, broken, happy}
+use Rattle.party.specs.State.{Result, nothing, settled, result_bytes, message_in, at_root, at_bit, at_first, at_second, at_end, broken, happy}
 use Rattle.party.specs.State.{result_at, has_ended, overlong}
 use Rattle.party.specs.Steps.{turn_of, open_of, bit_cause, inbox_cause, relays_cause, agree_root_of, outbox_of, agree_bit_of, Taken, missing, found, taken_by}
 use Rattle.party.specs.Steps.{share_taken, faulty_shares, relay_of, held_of, take_shares_of, gathered, recovered_by, rebuilt, result_found, held_or, result_of, faulty_of, ending, take_relays_of, writes, Stepped}
@@ -65,7 +65,7 @@ module _ (H : List ℕ → List ℕ) where
         let e = bit-fine x bit (state-fine 3 x whole turn) low in
         rw (eq-eqb (bit_cause x bit) 0 e)
         (room_for x
-        (cond (eqb bit 0) (at_end x.seat nothing 0) (at-first x.seat (message_in x) x.root))
+        (cond (eqb bit 0) (at_end x.seat nothing 0) (at_first x.seat (message_in x) x.root))
         (outbox_of H x bit) out room)
 
     -- step 4
@@ -75,7 +75,7 @@ module _ (H : List ℕ → List ℕ) where
     shares-accepted inbox out turn filled room =
         let e = inbox-fine 4 x inbox (state-fine 4 x whole turn) filled in
         rw (eq-eqb (inbox_cause 4 x inbox) 0 e)
-        (room_for x (at-second x.seat (message_in x) x.root (held_of H x inbox) (faulty_shares H x inbox)) (relay_of H x inbox) out room)
+        (room_for x (at_second x.seat (message_in x) x.root (held_of H x inbox) (faulty_shares H x inbox)) (relay_of H x inbox) out room)
 
     -- step 5; the inbox of a party that has ended may be any
     pub relays-accepted : (inbox out : List ℕ) → turn_of x.stage ≡ 5 → (has_ended x.stage ≡ false → fills x.seat.n inbox ≡ true)
@@ -99,13 +99,13 @@ module _ (s : Seat) (low : 1 ≤ s.n) (high : s.n ≤ max_parties) (faults : 2 *
     unfolding at_bit
     bit-whole z = broken-stage (at_bit s m z) (opened (length m) short) (omega arith) (holds-fine (at_bit s m z) (holds-empty s.n s.own))
 
-    pub first-whole : (z : List ℕ) → broken (at-first s m z) ≡ false
-    unfolding at-first
-    first-whole z = broken-stage (at-first s m z) (opened (length m) short) (omega arith) (holds-fine (at-first s m z) (holds-empty s.n s.own))
+    pub first-whole : (z : List ℕ) → broken (at_first s m z) ≡ false
+    unfolding at_first
+    first-whole z = broken-stage (at_first s m z) (opened (length m) short) (omega arith) (holds-fine (at_first s m z) (holds-empty s.n s.own))
 
-    pub second-whole : (z y : List ℕ) (f : ℕ) → length y ≤ max_share → Holds s.n s.own f → broken (at-second s m z y f) ≡ false
-    unfolding at-second
-    second-whole z y f few map = broken-stage (at-second s m z y f) (opened (length m) short) few (holds-fine (at-second s m z y f) map)
+    pub second-whole : (z y : List ℕ) (f : ℕ) → length y ≤ max_share → Holds s.n s.own f → broken (at_second s m z y f) ≡ false
+    unfolding at_second
+    second-whole z y f few map = broken-stage (at_second s m z y f) (opened (length m) short) few (holds-fine (at_second s m z y f) map)
 
   pub end_whole : (r : Result) (f : ℕ) → length (result_bytes r) ≤ max_message → Holds s.n s.own f → broken (at_end s r f) ≡ false
   unfolding at_end

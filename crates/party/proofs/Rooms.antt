@@ -24,7 +24,7 @@ use Rattle.commitment.specs.Rooms.{max_packet, max_outbox}
 use Rattle.commitment.specs.Private.{Coded}
 use Rattle.commitment.proofs.Shared.{shares-bound}
 use Rattle.commitment.proofs.Messages.{share-fits, path_to, path-count, path-each}
-use Rattle.party.specs.State.{at_bit, at-first, happy}
+use Rattle.party.specs.State.{at_bit, at_first, happy}
 use Rattle.party.specs.Steps.{packet_for, outbox_of, Taken, missing, found, taken_by, packet_taken, own_relay, relay_of}
 use Rattle.commitment.specs.declared.Seat.{Seat}
 use Rattle.party.proofs.Packets.{packet-bit, packet-first}
@@ -112,17 +112,17 @@ module _ (H : List ℕ → List ℕ) (wide : (w : List ℕ) → length (H w) ≡
       go false = all (replicate n []) (length-replicate {A = List ℕ} n []) (λ k l. omega (arith, none-there n k))
 
   -- the relay of step 4
-  pub relay-fits : 1 ≤ s.own → s.own ≤ n → (inbox : List ℕ) → length (relay_of H (at-first s m z) inbox) ≤ max_packet
-  unfolding relay_of at-first
-  relay-fits first last inbox = go (happy H (at-first s m z)) (taken_by H (at-first s m z) inbox) refl
+  pub relay-fits : 1 ≤ s.own → s.own ≤ n → (inbox : List ℕ) → length (relay_of H (at_first s m z) inbox) ≤ max_packet
+  unfolding relay_of at_first
+  relay-fits first last inbox = go (happy H (at_first s m z)) (taken_by H (at_first s m z) inbox) refl
     where
-      alone : (b : Bool) → length (cond b [] (packet_for H (at-first s m z) s.own)) ≤ max_packet
+      alone : (b : Bool) → length (cond b [] (packet_for H (at_first s m z) s.own)) ≤ max_packet
       alone true = omega arith
       alone false =
           subst (λ (w : List ℕ). length w ≤ max_packet) (sym (packet-first H s m z s.own)) (made-short s.own first last)
 
-      go : (b : Bool) (k : Taken) → taken_by H (at-first s m z) inbox ≡ k
-          → length (cond b (own_relay H (at-first s m z)) (packet_taken (at-first s m z) (taken_by H (at-first s m z) inbox))) ≤ max_packet
+      go : (b : Bool) (k : Taken) → taken_by H (at_first s m z) inbox ≡ k
+          → length (cond b (own_relay H (at_first s m z)) (packet_taken (at_first s m z) (taken_by H (at_first s m z) inbox))) ≤ max_packet
       go true k e = alone (eqb n 1)
       go false missing e = rw e (omega arith)
       go false (found y p) e =

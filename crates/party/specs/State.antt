@@ -54,11 +54,11 @@ at_root s m = waiting s Root m blank [] 0
 unfoldable pub at_bit : Seat → List ℕ → List ℕ → Party
 at_bit s m z = waiting s Bit m z [] 0
 
-unfoldable pub at-first : Seat → List ℕ → List ℕ → Party
-at-first s m z = waiting s First m z [] 0
+unfoldable pub at_first : Seat → List ℕ → List ℕ → Party
+at_first s m z = waiting s First m z [] 0
 
-unfoldable pub at-second : Seat → List ℕ → List ℕ → List ℕ → ℕ → Party
-at-second s m z x f = waiting s Second m z x f
+unfoldable pub at_second : Seat → List ℕ → List ℕ → List ℕ → ℕ → Party
+at_second s m z x f = waiting s Second m z x f
 
 -- a result: nothing, or a message (which may be empty)
 pub data Result : Type 0 where

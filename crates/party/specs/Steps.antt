@@ -15,7 +15,7 @@ use Rattle.packet.specs.Class.{Class, silent, faulty, valid, class_of}
 use Rattle.commitment.specs.Commitment.{packet_with}
 use Rattle.commitment.specs.Rebuild.{under_root}
 unfoldable pub use Rattle.commitment.specs.Commitment.{open_cause}
-use Rattle.party.specs.State.{seat_of, Result, nothing, settled, message_in, share_held, at_root, at_bit, at-first, at-second, at_end, blank_state, broken, message_root, happy}
+use Rattle.party.specs.State.{seat_of, Result, nothing, settled, message_in, share_held, at_root, at_bit, at_first, at_second, at_end, blank_state, broken, message_root, happy}
 use Rattle.party.specs.State.{result_in, has_ended}
 use Rattle.party.specs.declared.Stage.{Stage}
 use Rattle.party.specs.declared.Stage.TheVariants as stage
@@ -117,14 +117,14 @@ refused x k out = gives x (answer.Refused k) out
 unfoldable pub root_cause : Party → List ℕ → ℕ
 root_cause x z = cond (not (eqb (state_cause 2 x) 0)) (state_cause 2 x) (cond (not (eqb (length z) 32)) 7 0)
 
-abbrev pub with-root : Party → List ℕ → Party
-with-root x z = at_bit x.seat (message_in x) z
+abbrev pub with_root : Party → List ℕ → Party
+with_root x z = at_bit x.seat (message_in x) z
 
 module _ (H : List ℕ → List ℕ) where
   unfoldable pub agree_root_of : Party → List ℕ → Stepped
   agree_root_of x z =
       cond (not (eqb (root_cause x z) 0)) (refused x (root_cause x z) [])
-      (gives (with-root x z) (answer.Happy (happy H (with-root x z))) [])
+      (gives (with_root x z) (answer.Happy (happy H (with_root x z))) [])
 
 -- bs written at the start of the buffer, and the next state; cause 9 where the buffer is shorter
 abbrev pub writes : Party → Party → List ℕ → List ℕ → Stepped
@@ -152,7 +152,7 @@ module _ (H : List ℕ → List ℕ) where
   agree_bit_of x bit out =
       cond (not (eqb (bit_cause x bit) 0)) (refused x (bit_cause x bit) out)
       (writes x
-      (cond (eqb bit 0) (at_end x.seat nothing 0) (at-first x.seat (message_in x) x.root))
+      (cond (eqb bit 0) (at_end x.seat nothing 0) (at_first x.seat (message_in x) x.root))
       (outbox_of x bit) out)
 
 -- causes 5 and 6, then 8: the inbox's entries run short or leave bytes over
@@ -229,7 +229,7 @@ module _ (H : List ℕ → List ℕ) where
   unfoldable pub take_shares_of : Party → List ℕ → List ℕ → Stepped
   take_shares_of x inbox out =
       cond (not (eqb (inbox_cause 4 x inbox) 0)) (refused x (inbox_cause 4 x inbox) out)
-      (writes x (at-second x.seat (message_in x) x.root (held_of x inbox) (faulty_shares H x inbox)) (relay_of x inbox) out)
+      (writes x (at_second x.seat (message_in x) x.root (held_of x inbox) (faulty_shares H x inbox)) (relay_of x inbox) out)
 
 -- the share of a packet that passed
 abbrev pub share_from : Class → List ℕ

@@ -32,8 +32,8 @@ use Rattle.merkle.proofs.Judged.{same_true, same_refl}
 use Rattle.merkle.proofs.Trees.{length-root}
 use Rattle.packet.specs.Inbox.{inbox_of}
 use Rattle.packet.proofs.Inbox.{inbox-fills, inbox-bodies}
-use Rattle.party.specs.State.{seat_of, Result, nothing, result_bytes, at_root, at_bit, at-first, at-second, at_end, result_in, message_root, happy}
-use Rattle.party.specs.Steps.{turn_of, open_cause, with-root, Stepped, gives, outbox_of, held_of, relay_of, faulty_shares}
+use Rattle.party.specs.State.{seat_of, Result, nothing, result_bytes, at_root, at_bit, at_first, at_second, at_end, result_in, message_root, happy}
+use Rattle.party.specs.Steps.{turn_of, open_cause, with_root, Stepped, gives, outbox_of, held_of, relay_of, faulty_shares}
 use Rattle.party.specs.Steps as steps
 use Rattle.party.specs.declared.Party.{Party}
 use Rattle.party.specs.declared.Opened.{Opened}
@@ -198,7 +198,7 @@ module _ (H : List ℕ → List ℕ) (wide : (x : List ℕ) → length (H x) ≡
       go (on e) =
           subst (λ (b : Stepped). b.value ≤ 1)
           (sym (root-given H (opened H s p).state z (eqb-true (steps.root_cause (opened H s p).state z) 0 e)))
-          (bit-of (happy H (with-root (opened H s p).state z)))
+          (bit-of (happy H (with_root (opened H s p).state z)))
       go (off e) =
           subst (λ (b : Stepped). b.value ≤ 1)
           (sym (root-refused H (opened H s p).state z (eqb-false (steps.root_cause (opened H s p).state z) 0 e))) (omega arith)
@@ -223,7 +223,7 @@ module _ (H : List ℕ → List ℕ) (wide : (x : List ℕ) → length (H x) ≡
     X1 = at_bit (seat_of session n t p) m z
 
     abbrev X2 : Party
-    X2 = at-first (seat_of session n t p) m z
+    X2 = at_first (seat_of session n t p) m z
 
     open-cause : open_cause n t p (length m) ≡ 0
     open-cause = (opened-is-open H session n t p m (open-accepted H session n t p m c.low c.high c.faults one last c.short)).0
@@ -239,7 +239,7 @@ module _ (H : List ℕ → List ℕ) (wide : (x : List ℕ) → length (H x) ≡
     unfolding at_root
     turn-root = refl
 
-    with-root : with-root (at_root (seat_of session n t p) m) z ≡ X1
+    with-root : with_root (at_root (seat_of session n t p) m) z ≡ X1
     unfolding at_root
     with-root = ap (λ (b : List ℕ). at_bit (seat_of session n t p) b z) (message-root (seat_of session n t p) m z)
 
@@ -280,15 +280,15 @@ module _ (H : List ℕ → List ℕ) (wide : (x : List ℕ) → length (H x) ≡
         sym (ap (λ (x : Party). (steps.agree_bit_of H x bit room3).cause) state-2) ∙ cause-3 in
         ap (λ (x : Party). (steps.agree_bit_of H x bit room3).state) state-2
         ∙ ap (λ (r : Stepped). r.state) (did3 H X1 bit room3 e).2
-        ∙ ap (λ (b : List ℕ). cond (eqb bit 0) (at_end (seat_of session n t p) nothing 0) (at-first (seat_of session n t p) b z)) (message-bit (seat_of session n t p) m z)
+        ∙ ap (λ (b : List ℕ). cond (eqb bit 0) (at_end (seat_of session n t p) nothing 0) (at_first (seat_of session n t p) b z)) (message-bit (seat_of session n t p) m z)
 
     -- steps 4 and 5, on bit 1
     module _ (b1 : bit ≡ 1) where
       waits : (step3 H s p).state ≡ X2
       waits = state-3 ∙ ap (λ (b : Bool). cond b (at_end (seat_of session n t p) nothing 0) X2) (ne_eqb bit 0 (λ q. omega arith))
 
-      turn-first : turn_of (at-first (seat_of session n t p) m z).stage ≡ 4
-      unfolding at-first
+      turn-first : turn_of (at_first (seat_of session n t p) m z).stage ≡ 4
+      unfolding at_first
       turn-first = refl
 
       filled : (f : ℕ → List ℕ) → fills n (inbox_of (tabulate n f)) ≡ true
@@ -298,7 +298,7 @@ module _ (H : List ℕ → List ℕ) (wide : (x : List ℕ) → length (H x) ≡
       room4 = replicate max_outbox 0
 
       cause-4 : (step4 H s p).cause ≡ 0
-      unfolding step4 first_inbox inbox_to at-first
+      unfolding step4 first_inbox inbox_to at_first
       cause-4 =
           let fits : length (relay_of H X2 (first_inbox H s p)) ≤ length room4 =
           omega (arith, relay-fits H wide (seat_of session n t p) m z c one last (first_inbox H s p), length-replicate {A = ℕ} max_outbox 0) in
@@ -307,26 +307,26 @@ module _ (H : List ℕ → List ℕ) (wide : (x : List ℕ) → length (H x) ≡
           (filled (λ k. first_from p (k + 1))) fits
 
       abbrev X3 : Party
-      X3 = at-second (seat_of session n t p) m z (held_of H X2 (first_inbox H s p)) (faulty_shares H X2 (first_inbox H s p))
+      X3 = at_second (seat_of session n t p) m z (held_of H X2 (first_inbox H s p)) (faulty_shares H X2 (first_inbox H s p))
 
       state-4 : (step4 H s p).state ≡ X3
-      unfolding step4 made at-first
+      unfolding step4 made at_first
       state-4 =
           let e : (made H X2 (take_shares (first_inbox H s p) room4)).cause ≡ 0 =
           sym (ap (λ (x : Party). (steps.take_shares_of H x (first_inbox H s p) room4).cause) waits) ∙ cause-4 in
           ap (λ (x : Party). (steps.take_shares_of H x (first_inbox H s p) room4).state) waits
           ∙ ap (λ (r : Stepped). r.state) (did4 H X2 (first_inbox H s p) room4 e).1
-          ∙ ap (λ (b : List ℕ). at-second (seat_of session n t p) b z (held_of H X2 (first_inbox H s p)) (faulty_shares H X2 (first_inbox H s p))) (message-first (seat_of session n t p) m z)
+          ∙ ap (λ (b : List ℕ). at_second (seat_of session n t p) b z (held_of H X2 (first_inbox H s p)) (faulty_shares H X2 (first_inbox H s p))) (message-first (seat_of session n t p) m z)
 
       turn-second : turn_of X3.stage ≡ 5
-      unfolding at-second
+      unfolding at_second
       turn-second = refl
 
       abbrev room5 : List ℕ
       room5 = replicate max_message 0
 
       cause-5 : (step5 H s p).cause ≡ 0
-      unfolding step5 second_inbox inbox_to at-first at-second
+      unfolding step5 second_inbox inbox_to at_first at_second
       cause-5 =
           let w2 = first-whole (seat_of session n t p) c.low c.high c.faults one last m c.short z in
           let w = second-whole (seat_of session n t p) c.low c.high c.faults one last m c.short z (held_of H X2 (first_inbox H s p))

@@ -21,7 +21,7 @@ use Rattle.buffer.proofs.Splice.{length-spliced, take-spliced}
 use Rattle.buffer.proofs.Given.{written-done}
 use Rattle.merkle.specs.Shares.{same}
 use Rattle.party.specs.State.{happy}
-use Rattle.party.specs.Steps.{open_of, root_cause, with-root, gives, refused, agree_root_of}
+use Rattle.party.specs.Steps.{open_of, root_cause, with_root, gives, refused, agree_root_of}
 use Rattle.party.specs.declared.Party.{Party}
 use Rattle.party.specs.declared.Answer.TheVariants.{Happy}
 use Rattle.bitmap.specs.Bitmap.{names}
@@ -221,7 +221,7 @@ module _ (H : List ℕ → List ℕ) (s : List ℕ) where
       z = agreed_root H s
 
       go : (b : Bool)
-          → let r = cond b (refused x (root_cause x z) []) (gives (with-root x z) (Happy (happy H (with-root x z))) []) in
+          → let r = cond b (refused x (root_cause x z) []) (gives (with_root x z) (Happy (happy H (with_root x z))) []) in
           own_bit r.answer ≡ r.value
       go true = refl
       go false = refl

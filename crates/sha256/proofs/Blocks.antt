@@ -2,7 +2,7 @@
 use Rattle.std.proofs.Common.{◌≡◌, ℕ, zero, suc, ◌+◌, ◌-◌, ◌*◌, ◌/◌, ◌≤◌, List, ◌++◌, length, take, drop, replicate, sym, refl, ap, ◌∙◌, ap₂, append_assoc, add-zero, add-suc, mul-add, add-one, arith, length-append, length-drop, length-take-le, drop-drop, take_at, drop_at}
 use lib.ListN.{length-replicate}
 use lib.Seq.{take-append-le, drop-append-le}
-use Rattle.sha256.specs.Sha256.{zero-bits, big_endian, padding, block, compress, hash_value, digest_of}
+use Rattle.sha256.specs.Sha256.{zero_bits, big_endian, padding, block, compress, hash_value, digest_of}
 use Rattle.sha256.specs.Rest.{digest_from}
 
 -- a block more
@@ -29,10 +29,10 @@ split H l a (suc b) =
     (ap₂ compress (split H l a b)
     (ap (take 64) (ap (λ (n : ℕ). drop n l) (mul-add 64 a b) ∙ sym (drop-drop (64 * b) (64 * a) l))))
 
-pub length-padding : (n : ℕ) → length (padding n) ≡ 9 + zero-bits (8 * n) / 8
+pub length-padding : (n : ℕ) → length (padding n) ≡ 9 + zero_bits (8 * n) / 8
 unfolding padding big_endian
 length-padding n =
-    let z = zero-bits (8 * n) / 8 in
+    let z = zero_bits (8 * n) / 8 in
     ap suc (length-append (replicate z 0) (big_endian 8 (8 * n)) ∙ ap (λ (k : ℕ). k + 8) (length-replicate z 0)) ∙ omega arith
 
 -- the whole blocks of the end of a message, and then its padded rest

@@ -1,7 +1,7 @@
 -- What holds of every digest and of the padding, and what `hash` answers, for the crates above. Assumes nothing.
 use Rattle.std.proofs.Common.{◌≡◌, ℕ, zero, suc, ◌+◌, ◌*◌, ◌/◌, ◌%◌, ◌<◌, ◌≤◌, List, [], ◌∷◌, length, replicate, refl, ap, ◌∙◌, arith, length-append, le-ltb, lt-ltb}
 use Rattle.limits.specs.Limits.{max_hashed}
-use Rattle.sha256.specs.Sha256.{zero-bits, big_endian, padding, pad, initial, sums, compress, hash_value, digest_of, sha256, hash_of}
+use Rattle.sha256.specs.Sha256.{zero_bits, big_endian, padding, pad, initial, sums, compress, hash_value, digest_of, sha256, hash_of}
 use Rattle.sha256.proofs.Blocks.{length-padding}
 
 length-hash-value : (i : ℕ) (l : List ℕ) → length (hash_value initial i l) ≡ 8
@@ -22,7 +22,7 @@ sha256-length m =
     length-digest (hash_value initial n (pad m)) ∙ ap (λ (k : ℕ). 4 * k) (length-hash-value n (pad m))
 
 -- 5.1.1: the number of zero bits is the least that solves l + 1 + k ≡ 448 modulo 512
-pub zero-bits : (l : ℕ) → ((l + 1 + zero-bits l) % 512 ≡ 448) × (zero-bits l < 512)
+pub zero-bits : (l : ℕ) → ((l + 1 + zero_bits l) % 512 ≡ 448) × (zero_bits l < 512)
 zero-bits l = (omega arith, omega arith)
 
 -- a padded message is whole blocks

@@ -3,7 +3,7 @@ use Rattle.std.proofs.Common.{◌≡◌, ℕ, suc, ◌+◌, ◌-◌, ◌*◌, �
 use lib.ListN.{length-replicate, replicate-append-replicate}
 use lib.Seq.{set_at, append_snoc, take-append-add}
 use Rattle.limits.specs.Limits.{max_hashed}
-use Rattle.sha256.specs.Sha256.{zero-bits, big_endian, padding}
+use Rattle.sha256.specs.Sha256.{zero_bits, big_endian, padding}
 
 -- one byte more of the message
 pub copy_more : (s : List ℕ) (j k : ℕ) → j < length s
@@ -43,7 +43,7 @@ length-bytes n a b c h ea eb ec =
 
 -- where the length's three bytes stand, and how many zeros come before and after them
 places : (n r e : ℕ) → r ≡ n % 64 → e ≡ (n % 64 + 72) / 64 * 64
-    → (128 - r ≡ suc ((zero-bits (8 * n) / 8 + 5) + suc (suc (suc (128 - e))))) × (e ≡ r + suc (zero-bits (8 * n) / 8 + 5) + 3)
+    → (128 - r ≡ suc ((zero_bits (8 * n) / 8 + 5) + suc (suc (suc (128 - e))))) × (e ≡ r + suc (zero_bits (8 * n) / 8 + 5) + 3)
 places n r e h f = (omega arith, omega arith)
 
 marked : (s : List ℕ) (z k : ℕ)
@@ -68,7 +68,7 @@ pub pad-end : (s : List ℕ) (n e a b c : ℕ) → n ≤ max_hashed → length s
     ≡ s ++ padding n
 unfolding padding
 pad-end s n e a b c h l f ea eb ec =
-    let z = zero-bits (8 * n) / 8 in
+    let z = zero_bits (8 * n) / 8 in
     let w = places n (length s) e l f in
     let p = s ++ (0x80 ∷ replicate (z + 5) 0) in
     let q : length p ≡ length s + suc (z + 5) =

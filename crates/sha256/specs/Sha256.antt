@@ -53,8 +53,8 @@ K =
     ∷ 0x748f82ee ∷ 0x78a5636f ∷ 0x84c87814 ∷ 0x8cc70208 ∷ 0x90befffa ∷ 0xa4506ceb ∷ 0xbef9a3f7 ∷ 0xc67178f2 ∷ []
 
 -- 5.1.1: for a message of l bits k, the least number with l + 1 + k ≡ 448 modulo 512
-abbrev pub zero-bits : ℕ → ℕ
-zero-bits l = (447 + 512 - l % 512) % 512
+abbrev pub zero_bits : ℕ → ℕ
+zero_bits l = (447 + 512 - l % 512) % 512
 
 -- 3.1: a number as n bytes, the highest first
 unfoldable pub big_endian : ℕ → ℕ → List ℕ
@@ -63,7 +63,7 @@ big_endian (suc n) x = x / 2 ^ (8 * n) % 2 ^ 8 ∷ big_endian n x
 
 -- what follows a message of n bytes: the bit 1, k bits 0 and l in 64 bits; 0x80 is the bit 1 and seven of the k bits
 unfoldable pub padding : ℕ → List ℕ
-padding n = let l = 8 * n in 0x80 ∷ (replicate (zero-bits l / 8) 0 ++ big_endian 8 l)
+padding n = let l = 8 * n in 0x80 ∷ (replicate (zero_bits l / 8) 0 ++ big_endian 8 l)
 
 unfoldable pub pad : List ℕ → List ℕ
 pad message = message ++ padding (length message)

@@ -19,7 +19,7 @@ use Rattle.buffer.proofs.Splice.{length-spliced, spliced-start}
 use Rattle.buffer.proofs.Given.{written-done}
 use Rattle.buffer.proofs.Numbers.{number-back}
 use Rattle.merkle.specs.Shares.{blank}
-use Rattle.party.specs.State.{Result, nothing, settled, result_bytes, padded, at_root, at_bit, at-first, at-second, at_end}
+use Rattle.party.specs.State.{Result, nothing, settled, result_bytes, padded, at_root, at_bit, at_first, at_second, at_end}
 use Rattle.party.specs.declared.Outcome.TheVariants as outcome
 use Rattle.party.specs.declared.Stage.{Stage}
 use Rattle.party.specs.declared.Stage.TheVariants.{Root, Bit, First, Second, Ended}
@@ -207,12 +207,12 @@ module _ (s : Seat) (four : s.session < 2 ^ 32) (high : s.n ≤ max_parties) (fa
       unfolding at_bit
       bit-storable = formed Bit m z [] (length m) 0 (lit< tt) short root (omega arith) (omega arith) refl
 
-      pub first-storable : Storable (at-first s m z)
-      unfolding at-first
+      pub first-storable : Storable (at_first s m z)
+      unfolding at_first
       first-storable = formed First m z [] (length m) 0 (lit< tt) short root (omega arith) (omega arith) refl
 
-      pub second-storable : (y : List ℕ) (f : ℕ) → length y ≤ max_share → f < 2 ^ s.n → Storable (at-second s m z y f)
-      unfolding at-second
+      pub second-storable : (y : List ℕ) (f : ℕ) → length y ≤ max_share → f < 2 ^ s.n → Storable (at_second s m z y f)
+      unfolding at_second
       second-storable y f few named = formed Second m z y (length m) f (small f named) short root few (omega arith) refl
 
   pub end-storable : (r : Result) (f : ℕ) → length (result_bytes r) ≤ max_message → f < 2 ^ s.n → Storable (at_end s r f)

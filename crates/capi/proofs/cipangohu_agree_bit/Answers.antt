@@ -14,5 +14,5 @@ finish-requires c = step_small sha256 sha256-length _ (agree_bit _ _) _ _ c.agre
 pub returns : goal.returns
 unfolding made
 returns c = let a = c.args in
-    step-told sha256 a.state.now _ c.agree_bit-reply.new.1.1.0 _ c.read.result (agree_bit a.bit a.out.now)
+    step-told sha256 a.state.now _ c.agree_bit-reply.new.out _ c.read.result (agree_bit a.bit a.out.now)
     _ c.read.ensures c.agree_bit-reply.ensures c.finish.ensures

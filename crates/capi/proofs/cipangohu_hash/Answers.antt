@@ -46,6 +46,6 @@ number_of-requires c = subst (λ (y : Given). y.value < 2 ^ 32) (sym c.give-answ
 pub returns : goal.returns
 returns c = let d = D c.before.before.before.before in
     let a = (Entry d).args in
-    c.number_of.ensures c.give-answer.new.1.0
+    c.number_of.ensures c.give-answer.new.out
     ∙ ap filled (c.give-answer.ensures ∙ ap (λ (h : Hashed). written h.digest a.out.now) d.hash-hashed.ensures)
     ∙ sym (hash-given a.message.now a.out.now (sym (ap (λ (h : Hashed). h.cause) d.hash-hashed.ensures) ∙ c.if-cause-ne0.false))

@@ -41,7 +41,7 @@ First o = o.before.before.before.before
 abbrev r : After-open_by_sender-len → Begun
 r o = let a = (Entry (First o)).args in open_by_sender_of sha256 a.session a.n a.t a.own a.sender a.bytes.now a.out.now
 
-gives : (o : After-open_by_sender-len) → begun o.open_by_sender-len.result o.open_by_sender-len.new.1.1.1.1.1.1.0 ≡ r o
+gives : (o : After-open_by_sender-len) → begun o.open_by_sender-len.result o.open_by_sender-len.new.out ≡ r o
 gives o = o.open_by_sender-len.ensures
 
 small : (o : After-open_by_sender-len) → o.open_by_sender-len.result.len ≤ max_message_packet

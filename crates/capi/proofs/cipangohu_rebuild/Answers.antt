@@ -12,4 +12,4 @@ number_of-requires c = subst (λ (g : Given). g.value < 2 ^ 32) (sym c.rebuild-a
 
 pub returns : goal.returns
 unfolding rebuild_call
-returns c = c.number_of.ensures c.rebuild-answer.new.1.1.1.0 ∙ ap filled c.rebuild-answer.ensures
+returns c = c.number_of.ensures c.rebuild-answer.new.out ∙ ap filled c.rebuild-answer.ensures

@@ -13,4 +13,4 @@ number_of-requires c = subst (λ (g : Given). g.value < 2 ^ 32) (sym c.rebuild_w
 
 pub returns : goal.returns
 unfolding rebuild_with_root_call
-returns c = c.number_of.ensures c.rebuild_with_root-answer.new.1.1.1.1.1.0 ∙ ap filled c.rebuild_with_root-answer.ensures
+returns c = c.number_of.ensures c.rebuild_with_root-answer.new.out ∙ ap filled c.rebuild_with_root-answer.ensures

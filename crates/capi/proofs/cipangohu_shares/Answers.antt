@@ -12,4 +12,4 @@ number_of-requires c = subst (λ (g : Given). g.value < 2 ^ 32) (sym c.encode-an
 
 pub returns : goal.returns
 unfolding shares_call
-returns c = c.number_of.ensures c.encode-answer.new.1.1.1.0 ∙ ap filled c.encode-answer.ensures
+returns c = c.number_of.ensures c.encode-answer.new.out ∙ ap filled c.encode-answer.ensures

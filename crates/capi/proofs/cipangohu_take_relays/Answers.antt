@@ -14,5 +14,5 @@ finish-requires c = step_small sha256 sha256-length _ (take_relays _ _) _ _ c.ta
 pub returns : goal.returns
 unfolding made
 returns c = let a = c.args in
-    step-told sha256 a.state.now _ c.take_relays-reply.new.1.1.0 _ c.read.result (take_relays a.inbox.now a.out.now)
+    step-told sha256 a.state.now _ c.take_relays-reply.new.out _ c.read.result (take_relays a.inbox.now a.out.now)
     _ c.read.ensures c.take_relays-reply.ensures c.finish.ensures

@@ -17,7 +17,7 @@ pub loop-j-init : goal.loop-j-init
 loop-j-init c = (omega arith, sym (length_none c.args.n c.args.own c.args.share))
 
 -- the entries so far, with the next
-next : (c : After-entry_len-len invariant-loop-j decreases-loop-j) → c.loop-j.len + c.entry_len-len.result ≡ outbox_length (c.loop-j.j + 1) c.args.n c.args.own c.args.share
+next : (c : After-entry_len-len) → c.loop-j.len + c.entry_len-len.result ≡ outbox_length (c.loop-j.j + 1) c.args.n c.args.own c.args.share
 next c =
     let a = c.args in
     ap₂ (λ (k m : ℕ). k + m) c.loop-j.invariant.1 c.entry_len-len.ensures

@@ -55,7 +55,7 @@ Entry d = d.before.before.before.before.before.before.before.before.before
 
 -- the buffer after rebuilding, and what the answer says
 abbrev O : After-rebuild-answer → List ℕ
-O d = d.rebuild-answer.new.1.1.1.0
+O d = d.rebuild-answer.new.out
 
 told : (d : After-rebuild-answer) → gave d.rebuild-answer.result (O d) ≡ answered (Found (Entry d)) d.blank_message-message.result
 told d =

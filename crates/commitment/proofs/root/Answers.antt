@@ -31,7 +31,7 @@ fine e = sym e.open_cause-cause.ensures ∙ e.if-cause-ne0.false
 
 -- the array with the shares has as many elements as before
 abbrev Shares : After-code-size → List ℕ
-Shares q = q.code-size.new.1.1.1.0
+Shares q = q.code-size.new.out
 
 long : (q : After-code-size) → length (Shares q) ≡ max_shares
 long q = q.code-size.auto.1.1.1.0 ∙ q.blank-bytes.ensures

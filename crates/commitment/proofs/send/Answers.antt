@@ -78,7 +78,7 @@ within e = let a = (Entry e.before).args in open-coded a.seat.n a.seat.t a.seat.
 
 -- the array with the shares, which has as many elements as before, and the shares in it
 abbrev Array : After-code-size → List ℕ
-Array q = q.code-size.new.1.1.1.0
+Array q = q.code-size.new.out
 
 long : (q : After-code-size) → length (Array q) ≡ max_shares
 long q = q.code-size.auto.1.1.1.0 ∙ q.blank-bytes.ensures

@@ -53,7 +53,7 @@ Entry w = w.before.before.before.before.before.before.before.before.before.befor
 
 -- what the packet writer gave
 wrote : (w : After-write_entry) → let st = Entry w in
-    gave w.write_entry.result w.write_entry.new.1.1.1.1.1.0
+    gave w.write_entry.result w.write_entry.new.out
     ≡ gave (Done (length (bytes st))) (spliced st.args.out.now 0 (bytes st))
 wrote w =
     let a = (Entry w).args in

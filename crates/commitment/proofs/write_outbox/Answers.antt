@@ -38,21 +38,21 @@ loop-j-init c =
     )
 
 -- the function's entry, the next entry, its share within the shares, and its room
-abbrev Entry : In-loop-j invariant-loop-j decreases-loop-j → Start invariant-loop-j decreases-loop-j
+abbrev Entry : In-loop-j → Start
 Entry i = i.before.before.before.before
 
-abbrev entry : In-loop-j invariant-loop-j decreases-loop-j → List ℕ
+abbrev entry : In-loop-j → List ℕ
 entry i =
     let a = (Entry i).args in
     entry_for sha256 a.n a.own a.len a.shares.now a.leaves.now (i.loop-j.j + 1)
 
-inside : (i : In-loop-j invariant-loop-j decreases-loop-j) → let a = (Entry i).args in
+inside : (i : In-loop-j) → let a = (Entry i).args in
     (i.loop-j.j + 1 - 1) * a.len + a.len ≤ length a.shares.now
 inside i =
     let a = (Entry i).args in
     omega (arith, share-inside a.n (i.loop-j.j + 1) a.len (omega arith) (omega arith))
 
-room : (i : In-loop-j invariant-loop-j decreases-loop-j) → i.loop-j.at + length (entry i) ≤ length i.loop-j.out
+room : (i : In-loop-j) → i.loop-j.at + length (entry i) ≤ length i.loop-j.out
 room i =
     let st = Entry i in
     let a = st.args in
@@ -86,7 +86,7 @@ pub slice_bounds-write_entry-end-in-loop-j : goal.slice_bounds-write_entry-end-i
 slice_bounds-write_entry-end-in-loop-j c = omega (arith, room c.before.before)
 
 -- the share handed over is the one that lies there
-same-entry : (i : In-loop-j invariant-loop-j decreases-loop-j) → let a = (Entry i).args in let j = i.loop-j.j + 1 in let from = (j - 1) * a.len in
+same-entry : (i : In-loop-j) → let a = (Entry i).args in let j = i.loop-j.j + 1 in let from = (j - 1) * a.len in
     entry_with sha256 a.n a.own a.leaves.now j (take (from + a.len - from) (drop from a.shares.now)) ≡ entry i
 same-entry i =
     let a = (Entry i).args in
@@ -111,12 +111,12 @@ write_entry-at-requires c =
     )
 
 -- how many bytes it has
-wrote : (w : After-write_entry-at invariant-loop-j decreases-loop-j) → w.write_entry-at.result ≡ length (entry w.before.before.before)
+wrote : (w : After-write_entry-at) → w.write_entry-at.result ≡ length (entry w.before.before.before)
 wrote w = w.write_entry-at.ensures.0 ∙ ap length (same-entry w.before.before.before)
 
 pub overflow_add-at : goal.overflow_add-at
 overflow_add-at c =
-    omega (arith, wrote c.before.before.before, room c.before.before.before.before.before.before, c.loop-j.invariant.2, (Entry c.before.before.before.before.before.before).well-formed)
+    omega (arith, wrote c.before.before.before, room c.before.before.before.before.before.before, c.loop-j.invariant.2, (Entry c.before.before.before.before.before.before).well_formed)
 
 pub loop-j-preserved : goal.loop-j-preserved
 loop-j-preserved c =

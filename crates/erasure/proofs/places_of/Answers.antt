@@ -26,20 +26,20 @@ abbrev held : List ℕ → List ℕ → Places
 held from len = record { from = from; len = len }
 
 -- the names of the source, in a turn
-abbrev S : In-loop-j invariant-loop-j decreases-loop-j → List ℕ
+abbrev S : In-loop-j → List ℕ
 S c = c.args.entries.now
 
-abbrev N : In-loop-j invariant-loop-j decreases-loop-j → ℕ
+abbrev N : In-loop-j → ℕ
 N c = c.args.n
 
-abbrev At : In-loop-j invariant-loop-j decreases-loop-j → ℕ
+abbrev At : In-loop-j → ℕ
 At c = c.loop-j.at
 
-abbrev J : In-loop-j invariant-loop-j decreases-loop-j → ℕ
+abbrev J : In-loop-j → ℕ
 J c = c.loop-j.j
 
 -- the entry is whole
-entry : (c : In-loop-j invariant-loop-j decreases-loop-j) → Whole (N c - (J c + 1)) (N c - J c) (At c) (S c) (omega arith)
+entry : (c : In-loop-j) → Whole (N c - (J c + 1)) (N c - J c) (At c) (S c) (omega arith)
 entry c = whole _ _ _ _ _ c.loop-j.invariant.4
 
 pub loop-j-init : goal.loop-j-init

@@ -20,7 +20,7 @@ use Rattle.erasure.proofs.times_factor.Goals as goal
 abbrev Start : Type 0
 Start = lts.Start tie.the-claims reads.Pre reads.Post goal.the-invariant-loop-k goal.the-decreases-loop-k
 
-long : (c : Start invariant-loop-k decreases-loop-k) → length c.args.w ≡ max_parties
+long : (c : Start) → length c.args.w ≡ max_parties
 long c = search rules
 
 pub slice_bounds-mul_row-end : goal.slice_bounds-mul_row-end

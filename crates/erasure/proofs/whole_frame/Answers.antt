@@ -42,13 +42,13 @@ loop-m-init c =
     (omega arith, length-replicate {A = ℕ} (max_share + max_parties) 0, λ k i h g. all-zero (max_share + max_parties) (k * a.s + i))
 
 -- where the share in_one
-abbrev Turn : After-at-1 invariant-loop-m decreases-loop-m → At-loop-m invariant-loop-m decreases-loop-m
+abbrev Turn : After-at-1 → At-loop-m
 Turn d = d.before.before.before
 
-abbrev Entry : After-at-1 invariant-loop-m decreases-loop-m → Start invariant-loop-m decreases-loop-m
+abbrev Entry : After-at-1 → Start
 Entry d = (Turn d).before.before.before
 
-in_one : (d : After-at-1 invariant-loop-m decreases-loop-m)
+in_one : (d : After-at-1)
     → let a = (Entry d).args in InOne (length a.first.now) (length a.second.now) (get_or a.from.now (Turn d).loop-m.m 0) a.s
 in_one d = (Entry d).requires.2 (Turn d).loop-m.m d.loop-m-test.true
 

@@ -22,10 +22,10 @@ use Rattle.erasure.proofs.write_column.Goals as goal
 abbrev Start : Type 0
 Start = lts.Start tie.the-claims reads.Pre reads.Post goal.the-invariant-loop-k goal.the-decreases-loop-k
 
-long : (c : Start invariant-loop-k decreases-loop-k) → length c.args.w ≡ max_parties
+long : (c : Start) → length c.args.w ≡ max_parties
 long c = search rules
 
-small : (c : Start invariant-loop-k decreases-loop-k) (i : ℕ) → Fits w8 (get_or c.args.w i 0)
+small : (c : Start) (i : ℕ) → Fits w8 (get_or c.args.w i 0)
 small c i = search rules
 
 pub slice_bounds-mul_row-end : goal.slice_bounds-mul_row-end
@@ -39,7 +39,7 @@ pub loop-k-preserved : goal.loop-k-preserved
 loop-k-preserved c =
     let l = c.loop-k in
     let a = c.args in
-    let column = c.mul_row.new.1.0 ++ drop a.b a.w in
+    let column = c.mul_row.new.row ++ drop a.b a.w in
     let y = get_or column l.k 0 in (
       omega arith,
       length-set l.next (cell l.k a.m) y ∙ l.invariant.1,

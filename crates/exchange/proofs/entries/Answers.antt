@@ -37,14 +37,14 @@ abbrev F : Mail → List ℕ → List ℕ → List ℕ → ℕ → ℕ → List 
 F m slots lens blocks i k = sent_by m slots lens blocks i (k + 1)
 
 -- the function's entry, from a turn, and the packets there
-abbrev Entry : At-loop-p invariant-loop-p decreases-loop-p → Start invariant-loop-p decreases-loop-p
+abbrev Entry : At-loop-p → Start
 Entry l = l.before.before.before.before.before
 
-abbrev G : At-loop-p invariant-loop-p decreases-loop-p → ℕ → List ℕ
+abbrev G : At-loop-p → ℕ → List ℕ
 G l = let a = (Entry l).args in F a.mail a.slots.now a.lens.now a.blocks.now a.i
 
 -- there is room for the entry of a turn, and all offsets are small
-fits : (d : In-loop-p invariant-loop-p decreases-loop-p) → d.loop-p.at + (2 + length (G d.before d.loop-p.p)) ≤ max_inbox (Entry d.before).args.mail.n (Entry d.before).args.mail.size
+fits : (d : In-loop-p) → d.loop-p.at + (2 + length (G d.before d.loop-p.p)) ≤ max_inbox (Entry d.before).args.mail.n (Entry d.before).args.mail.size
 fits d =
     let st = Entry d.before in
     let a = st.args in
@@ -55,10 +55,10 @@ fits d =
       st.requires.0.planned,
     )
 
-room : (d : In-loop-p invariant-loop-p decreases-loop-p) → d.loop-p.at + (2 + length (G d.before d.loop-p.p)) ≤ length d.loop-p.out
+room : (d : In-loop-p) → d.loop-p.at + (2 + length (G d.before d.loop-p.p)) ≤ length d.loop-p.out
 room d = omega (arith, fits d, d.loop-p.invariant.2, (Entry d.before).requires.1)
 
-small : (st : Start invariant-loop-p decreases-loop-p) → st.args.mail.n * (st.args.mail.size + 2) ≤ max_parties * (max_entry + 2)
+small : (st : Start) → st.args.mail.n * (st.args.mail.size + 2) ≤ max_parties * (max_entry + 2)
 small st =
     let h : st.args.mail.size + 2 ≤ max_entry + 2 = omega (arith, st.requires.0.short) in
     mul-le-mul {n₂ = max_parties} st.requires.0.few h

@@ -17,10 +17,10 @@ use Rattle.merkle.proofs.fold_path.Goals as goal
 abbrev Start : Type 0
 Start = lts.Start tie.the-claims reads.Pre reads.Post goal.the-invariant-loop-d goal.the-decreases-loop-d
 
-right-long : (c : Start invariant-loop-d decreases-loop-d) → length c.args.way.right ≡ max_path
+right-long : (c : Start) → length c.args.way.right ≡ max_path
 right-long c = search rules
 
-path-long : (c : Start invariant-loop-d decreases-loop-d) → length c.args.path ≡ max_path
+path-long : (c : Start) → length c.args.path ≡ max_path
 path-long c = search rules
 
 pub loop-d-init : goal.loop-d-init

@@ -28,38 +28,38 @@ abbrev In-loop-j : Type 0
 In-loop-j = lts.In-loop tie.the-claims reads.Pre reads.Post goal.the-invariant-loop-j goal.the-decreases-loop-j
 
 -- the function's entry, from where the shares are found to be even
-abbrev Entry : Else-shares_cause-ne0 invariant-loop-j decreases-loop-j → Start invariant-loop-j decreases-loop-j
+abbrev Entry : Else-shares_cause-ne0 → Start
 Entry e = e.before.before.before
 
 -- the shares, and the length of one
-abbrev All : Else-shares_cause-ne0 invariant-loop-j decreases-loop-j → List ℕ
+abbrev All : Else-shares_cause-ne0 → List ℕ
 All e = (Entry e).args.shares.now
 
-abbrev S : Else-shares_cause-ne0 invariant-loop-j decreases-loop-j → ℕ
+abbrev S : Else-shares_cause-ne0 → ℕ
 S e = length (All e) / (Entry e).args.n
 
-fine : (e : Else-shares_cause-ne0 invariant-loop-j decreases-loop-j) → shares_cause (Entry e).args.session (Entry e).args.n (length (All e)) ≡ 0
+fine : (e : Else-shares_cause-ne0) → shares_cause (Entry e).args.session (Entry e).args.n (length (All e)) ≡ 0
 fine e = sym e.shares_cause.ensures ∙ e.if-shares_cause-ne0.false
 
-even : (e : Else-shares_cause-ne0 invariant-loop-j decreases-loop-j) → Even (Entry e).args.session (Entry e).args.n (length (All e))
+even : (e : Else-shares_cause-ne0) → Even (Entry e).args.session (Entry e).args.n (length (All e))
 even e = even-of _ _ _ (fine e)
 
 -- the next share lies within the shares
-inside : (c : In-loop-j invariant-loop-j decreases-loop-j) → c.loop-j.at + S c.before.before ≤ length (All c.before.before)
+inside : (c : In-loop-j) → c.loop-j.at + S c.before.before ≤ length (All c.before.before)
 inside c =
     let l = c.loop-j in
     let n = (Entry c.before.before).args.n in
     omega (arith, l.invariant.1, row_inside n l.j (S c.before.before) c.loop-j-test.true, even-whole _ n (length (All c.before.before)) (even c.before.before))
 
 -- which share it is, and its length
-part : (c : In-loop-j invariant-loop-j decreases-loop-j) → let l = c.loop-j in
+part : (c : In-loop-j) → let l = c.loop-j in
     take (l.at + S c.before.before - l.at) (drop l.at (All c.before.before)) ≡ share_at (S c.before.before) (All c.before.before) l.j
 part c =
     let l = c.loop-j in
     let long : l.at + S c.before.before - l.at ≡ S c.before.before = omega arith in
     ap₂ (λ (k m : ℕ). take k (drop m (All c.before.before))) long l.invariant.1
 
-part_length : (c : In-loop-j invariant-loop-j decreases-loop-j) → let l = c.loop-j in
+part_length : (c : In-loop-j) → let l = c.loop-j in
     length (take (l.at + S c.before.before - l.at) (drop l.at (All c.before.before))) ≡ S c.before.before
 part_length c =
     let l = c.loop-j in

@@ -20,13 +20,13 @@ abbrev After-halve-halves : Type 0
 After-halve-halves = lts.After-halve tie.the-claims reads.Pre reads.Post goal.the-invariant-loop-width goal.the-decreases-loop-width
 
 -- the step of a turn
-step : (c : After-halve-halves invariant-loop-width decreases-loop-width)
+step : (c : After-halve-halves)
     → Down c.loop-width.first c.loop-width.width c.loop-width.at c.halve-halves.result
 step c =
     let l = c.loop-width in
     down l.first l.width l.at (omega arith) l.invariant.2 c.halve-halves.result c.halve-halves.ensures.0 c.halve-halves.ensures.1
 
-shorter : (c : After-halve-halves invariant-loop-width decreases-loop-width)
+shorter : (c : After-halve-halves)
     → length (sides (shape c.loop-width.width) c.loop-width.at)
     ≡ length (sides (shape c.halve-halves.result.width) c.halve-halves.result.at) + 1
 shorter c = down-length _ _ _ c.halve-halves.result (step c)

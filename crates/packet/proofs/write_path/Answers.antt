@@ -22,11 +22,11 @@ use Rattle.packet.proofs.write_path.Goals as goal
 abbrev Start : Type 0
 Start = lts.Start tie.the-claims reads.Pre reads.Post goal.the-invariant-loop-i goal.the-decreases-loop-i
 
-long : (c : Start invariant-loop-i decreases-loop-i) → length c.args.path ≡ max_path
+long : (c : Start) → length c.args.path ≡ max_path
 long c = search rules
 
-wide : (c : Start invariant-loop-i decreases-loop-i) → Wide 32 c.args.path
-wide c = array-wide 32 max_path c.args.path _ c.well-formed.0
+wide : (c : Start) → Wide 32 c.args.path
+wide c = array-wide 32 max_path c.args.path _ c.well_formed.0
 
 pub loop-i-init : goal.loop-i-init
 loop-i-init c =

@@ -42,51 +42,51 @@ abbrev After-mark-faulty : Type 0
 After-mark-faulty = lts.After-mark tie.the-claims reads.Pre reads.Post goal.the-invariant-loop-j goal.the-decreases-loop-j
 
 -- the names of the source, in a turn
-abbrev Start : In-loop-j invariant-loop-j decreases-loop-j → Start invariant-loop-j decreases-loop-j
+abbrev Start : In-loop-j → Start
 Start c = c.before.before.before
 
-abbrev S : In-loop-j invariant-loop-j decreases-loop-j → List ℕ
+abbrev S : In-loop-j → List ℕ
 S c = (Start c).args.inbox.now
 
-abbrev Z : In-loop-j invariant-loop-j decreases-loop-j → List ℕ
+abbrev Z : In-loop-j → List ℕ
 Z c = (Start c).args.root.now
 
-abbrev Session : In-loop-j invariant-loop-j decreases-loop-j → ℕ
+abbrev Session : In-loop-j → ℕ
 Session c = (Start c).args.session
 
-abbrev N : In-loop-j invariant-loop-j decreases-loop-j → ℕ
+abbrev N : In-loop-j → ℕ
 N c = (Start c).args.n
 
-abbrev Own : In-loop-j invariant-loop-j decreases-loop-j → ℕ
+abbrev Own : In-loop-j → ℕ
 Own c = (Start c).args.own
 
-abbrev At : In-loop-j invariant-loop-j decreases-loop-j → ℕ
+abbrev At : In-loop-j → ℕ
 At c = c.loop-j.at
 
-abbrev J : In-loop-j invariant-loop-j decreases-loop-j → ℕ
+abbrev J : In-loop-j → ℕ
 J c = c.loop-j.j
 
 -- the entry of a turn, and what was read of it
-stands : (c : In-loop-j invariant-loop-j decreases-loop-j) → Stands (N c) (N c - (J c + 1)) (At c) (S c)
+stands : (c : In-loop-j) → Stands (N c) (N c - (J c + 1)) (At c) (S c)
 stands c =
     let p = (Start c).requires in
     entry-stands (N c) (N c - (J c + 1)) (N c - J c) (At c) (S c) p.0 p.1 (omega arith) c.loop-j.invariant.2
 
-read : (r : After-read_entry-packet invariant-loop-j decreases-loop-j) → Reads (N r.before) (At r.before) (S r.before) r.read_entry-packet.result
+read : (r : After-read_entry-packet) → Reads (N r.before) (At r.before) (S r.before) r.read_entry-packet.result
 read r = entry-reads (N r.before) (N r.before - (J r.before + 1)) (At r.before) (S r.before) (stands r.before) r.read_entry-packet.result r.read_entry-packet.ensures
 
-room : (d : In-loop-j invariant-loop-j decreases-loop-j) → At d + 2 + size (drop (At d) (S d)) ≤ length (S d)
+room : (d : In-loop-j) → At d + 2 + size (drop (At d) (S d)) ≤ length (S d)
 room d = (stands d).inside
 
 -- there is room in the map
-small : (d : In-loop-j invariant-loop-j decreases-loop-j) → let l = d.loop-j in (l.faulty < l.bit) × (2 * l.bit ≤ 2 ^ max_parties)
+small : (d : In-loop-j) → let l = d.loop-j in (l.faulty < l.bit) × (2 * l.bit ≤ 2 ^ max_parties)
 small d =
     let l = d.loop-j in
     marking-room sha256 (Session d) (N d) (Own d) (Z d) (S d) (λ p. Own d) (λ p. false) (J d) (At d) l.faulty l.bit l.invariant.3 (omega arith)
     (Start d).requires.1
 
 -- what was found of another sender's packet
-found : (k : After-find-finding invariant-loop-j decreases-loop-j) → FindingIs k.find-finding.result (class_of sha256 (Session k.before.before.before) (N k.before.before.before) (Own k.before.before.before) (Z k.before.before.before) (body_at (At k.before.before.before) (S k.before.before.before))) (S k.before.before.before)
+found : (k : After-find-finding) → FindingIs k.find-finding.result (class_of sha256 (Session k.before.before.before) (N k.before.before.before) (Own k.before.before.before) (Z k.before.before.before) (body_at (At k.before.before.before) (S k.before.before.before))) (S k.before.before.before)
 found k =
     let p = (Start k.before.before.before).requires in
     subst (λ (f : Finding). FindingIs f (class_of sha256 (Session k.before.before.before) (N k.before.before.before) (Own k.before.before.before) (Z k.before.before.before) (body_at (At k.before.before.before) (S k.before.before.before))) (S k.before.before.before)) (sym k.find-finding.ensures)
@@ -120,7 +120,7 @@ loop-j-preserved-then-j-own c =
     )
 
 -- what is added to the map
-added : (m : After-mark-faulty invariant-loop-j decreases-loop-j) → m.mark-faulty.result ≤ m.loop-j.bit
+added : (m : After-mark-faulty) → m.mark-faulty.result ≤ m.loop-j.bit
 added m = go (found_faulty m.find-finding.result) m.mark-faulty.ensures
   where
     go : (t : Bool) → m.mark-faulty.result ≡ cond t m.loop-j.bit 0

@@ -24,14 +24,14 @@ abbrev After-party_entry-book : Type 0
 After-party_entry-book = lts.After-party_entry tie.the-claims reads.Pre reads.Post goal.the-invariant-loop-p goal.the-decreases-loop-p
 
 -- a party's book, and the test of it
-abbrev Book : Start invariant-loop-p decreases-loop-p → ℕ → List ℕ
+abbrev Book : Start → ℕ → List ℕ
 Book st q = let a = st.args in party_entry a.n a.map q (drop a.from a.s.now)
 
-abbrev Test : Start invariant-loop-p decreases-loop-p → ℕ → Bool
+abbrev Test : Start → ℕ → Bool
 Test st q = leb (length (Book st q)) max_message
 
 -- the length that is tested
-measured : (c : After-party_entry-book invariant-loop-p decreases-loop-p) → let r = c.party_entry-book.result in
+measured : (c : After-party_entry-book) → let r = c.party_entry-book.result in
     length (Book c.before.before.before.before c.loop-p.p) ≡ r.end - r.from
 measured c =
     let s = c.args.s.now in

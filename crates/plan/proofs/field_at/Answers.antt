@@ -15,10 +15,10 @@ use Rattle.plan.proofs.field_at.Goals as goal
 abbrev In-loop-j : Type 0
 In-loop-j = lts.In-loop tie.the-claims reads.Pre reads.Post goal.the-invariant-loop-j goal.the-decreases-loop-j
 
-abbrev Options : In-loop-j invariant-loop-j decreases-loop-j → ℕ
+abbrev Options : In-loop-j → ℕ
 Options c = c.args.options
 
-abbrev J : In-loop-j invariant-loop-j decreases-loop-j → ℕ
+abbrev J : In-loop-j → ℕ
 J c = c.loop-j.j
 
 pub loop-j-init : goal.loop-j-init

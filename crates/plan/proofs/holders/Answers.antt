@@ -8,12 +8,11 @@ use Rattle.limits.specs.Limits.{max_parties}
 use Rattle.bitmap.proofs.Maps.{doubled, only-small}
 use Rattle.plan.proofs.holders.Lts as lts
 use Rattle.plan.proofs.holders.Reads as reads
-use Rattle.plan.proofs.holders.Tie as tie
 use Rattle.plan.proofs.holders.Goals as goal
 
 -- Places of the code that the helpers below speak of.
 abbrev In-loop-p : Type 0
-In-loop-p = lts.In-loop tie.the-claims reads.Pre reads.Post goal.the-invariant-loop-p goal.the-decreases-loop-p
+In-loop-p = lts.In-loop reads.Pre reads.Post goal.the-invariant-loop-p goal.the-decreases-loop-p
 
 last : (number p : ℕ) → (number < 1 → p ≡ 1) → (1 ≤ number → p ≤ number) → number ≤ p → p - 1 ≡ number - 1
 last number p a b h = elim (dec_lt number 1) [
@@ -22,7 +21,7 @@ last number p a b h = elim (dec_lt number 1) [
 ]
 
 -- the party that the map names is no higher than the greatest number of parties
-few : (c : In-loop-p invariant-loop-p decreases-loop-p) → c.loop-p.p ≤ max_parties
+few : (c : In-loop-p) → c.loop-p.p ≤ max_parties
 few c =
     omega (arith, c.requires (not-false c.args.source.good c.if-not-source-2.false))
 

@@ -28,26 +28,26 @@ abbrev After-skip_block : Type 0
 After-skip_block = lts.After-skip_block tie.the-claims reads.Pre reads.Post goal.the-invariant-loop-p goal.the-decreases-loop-p
 
 -- the names of the source, in a turn
-abbrev Entry : In-loop-p invariant-loop-p decreases-loop-p → Start invariant-loop-p decreases-loop-p
+abbrev Entry : In-loop-p → Start
 Entry c = c.before.before.before
 
-abbrev S : In-loop-p invariant-loop-p decreases-loop-p → List ℕ
+abbrev S : In-loop-p → List ℕ
 S c = (Entry c).args.s.now
 
-abbrev X : In-loop-p invariant-loop-p decreases-loop-p → List ℕ
+abbrev X : In-loop-p → List ℕ
 X c = drop (Entry c).args.from (S c)
 
-abbrev Takes : Start invariant-loop-p decreases-loop-p → ℕ → Bool
+abbrev Takes : Start → ℕ → Bool
 Takes st p = not (names st.args.good p)
 
-abbrev Step : Start invariant-loop-p decreases-loop-p → List ℕ → Option (List ℕ)
+abbrev Step : Start → List ℕ → Option (List ℕ)
 Step st = skip_block st.args.n st.args.good
 
-abbrev P : In-loop-p invariant-loop-p decreases-loop-p → ℕ
+abbrev P : In-loop-p → ℕ
 P c = c.loop-p.p
 
 -- a step, by the answer for it
-answered : (c : After-skip_block invariant-loop-p decreases-loop-p) → (q : Offset) → c.skip_block.result ≡ q
+answered : (c : After-skip_block) → (q : Offset) → c.skip_block.result ≡ q
     → Ends q (skip_blocks (P c.before.before.before + 1) (Entry c.before.before.before).args.n (Entry c.before.before.before).args.good (X c.before.before.before)) (S c.before.before.before)
 answered c q e =
     let l = c.loop-p in

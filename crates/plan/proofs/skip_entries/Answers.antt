@@ -28,20 +28,20 @@ abbrev After-skip_entry : Type 0
 After-skip_entry = lts.After-skip_entry tie.the-claims reads.Pre reads.Post goal.the-invariant-loop-p goal.the-decreases-loop-p
 
 -- the names of the source, in a turn
-abbrev Entry : In-loop-p invariant-loop-p decreases-loop-p → Start invariant-loop-p decreases-loop-p
+abbrev Entry : In-loop-p → Start
 Entry c = c.before.before.before
 
-abbrev S : In-loop-p invariant-loop-p decreases-loop-p → List ℕ
+abbrev S : In-loop-p → List ℕ
 S c = (Entry c).args.s.now
 
-abbrev X : In-loop-p invariant-loop-p decreases-loop-p → List ℕ
+abbrev X : In-loop-p → List ℕ
 X c = drop (Entry c).args.from (S c)
 
-abbrev P : In-loop-p invariant-loop-p decreases-loop-p → ℕ
+abbrev P : In-loop-p → ℕ
 P c = c.loop-p.p
 
 -- a step, by the answer for it
-answered : (c : After-skip_entry invariant-loop-p decreases-loop-p) → (q : Offset) → c.skip_entry.result ≡ q
+answered : (c : After-skip_entry) → (q : Offset) → c.skip_entry.result ≡ q
     → Ends q (skip_entries (P c.before.before.before + 1) (Entry c.before.before.before).args.map (X c.before.before.before)) (S c.before.before.before)
 answered c q e =
     let l = c.loop-p in

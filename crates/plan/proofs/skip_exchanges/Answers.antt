@@ -27,23 +27,23 @@ abbrev After-skip_blocks : Type 0
 After-skip_blocks = lts.After-skip_blocks tie.the-claims reads.Pre reads.Post goal.the-invariant-loop-k goal.the-decreases-loop-k
 
 -- the names of the source, in a turn
-abbrev Entry : In-loop-k invariant-loop-k decreases-loop-k → Start invariant-loop-k decreases-loop-k
+abbrev Entry : In-loop-k → Start
 Entry c = c.before.before.before
 
-abbrev S : In-loop-k invariant-loop-k decreases-loop-k → List ℕ
+abbrev S : In-loop-k → List ℕ
 S c = (Entry c).args.s.now
 
-abbrev X : In-loop-k invariant-loop-k decreases-loop-k → List ℕ
+abbrev X : In-loop-k → List ℕ
 X c = drop (Entry c).args.from (S c)
 
-abbrev Step : Start invariant-loop-k decreases-loop-k → List ℕ → Option (List ℕ)
+abbrev Step : Start → List ℕ → Option (List ℕ)
 Step st = skip_exchange st.args.n st.args.good
 
-abbrev K : In-loop-k invariant-loop-k decreases-loop-k → ℕ
+abbrev K : In-loop-k → ℕ
 K c = c.loop-k.k
 
 -- a step, by the answer for it
-answered : (c : After-skip_blocks invariant-loop-k decreases-loop-k) → (q : Offset) → c.skip_blocks.result ≡ q
+answered : (c : After-skip_blocks) → (q : Offset) → c.skip_blocks.result ≡ q
     → Ends q (skip_exchanges (K c.before + 1) (Entry c.before).args.n (Entry c.before).args.good (X c.before)) (S c.before)
 answered c q e =
     let l = c.loop-k in

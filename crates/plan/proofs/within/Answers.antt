@@ -18,7 +18,7 @@ abbrev Start : Type 0
 Start = lts.Start tie.the-claims reads.Pre reads.Post goal.the-invariant-loop-p goal.the-decreases-loop-p
 
 -- the test of a party
-abbrev Test : Start invariant-loop-p decreases-loop-p → ℕ → Bool
+abbrev Test : Start → ℕ → Bool
 Test st p = cond (names st.args.receivers p) (names st.args.good p) true
 
 pub loop-p-init : goal.loop-p-init

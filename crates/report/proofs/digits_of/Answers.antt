@@ -9,18 +9,17 @@ use Rattle.report.specs.Output.{digits}
 use Rattle.report.proofs.Decimals.{room-left, tenth-fits, digit-put, last-put}
 use Rattle.report.proofs.digits_of.Lts as lts
 use Rattle.report.proofs.digits_of.Reads as reads
-use Rattle.report.proofs.digits_of.Tie as tie
 use Rattle.report.proofs.digits_of.Goals as goal
 
 -- Places of the code that the helpers below speak of.
 abbrev In-loop-left : Type 0
-In-loop-left = lts.In-loop tie.the-claims reads.Pre reads.Post goal.the-invariant-loop-left goal.the-decreases-loop-left
+In-loop-left = lts.In-loop reads.Pre reads.Post goal.the-invariant-loop-left goal.the-decreases-loop-left
 
 pub loop-left-init : goal.loop-left-init
 loop-left-init c = (omega arith, refl, omega arith, sym (append-nil (digits 20 c.args.x)))
 
 -- there is room for a digit before
-some : (c : In-loop-left invariant-loop-left decreases-loop-left) → 1 ≤ c.loop-left.from
+some : (c : In-loop-left) → 1 ≤ c.loop-left.from
 some c = let l = c.loop-left in room-left l.from l.left c.loop-left-test.true l.invariant.2
 
 pub overflow_sub-from-in-loop-left : goal.overflow_sub-from-in-loop-left

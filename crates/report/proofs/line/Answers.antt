@@ -28,7 +28,7 @@ abbrev Text : After-put_result-end → List ℕ
 Text w = let a = (Entry w).args in decimal a.number ++ ending a.some a.message.now
 
 -- the line stands at the start of the text
-begins : (w : After-put_result-end) → take w.put_result-end.result w.put_result-end.new.1.1.0 ≡ Text w
+begins : (w : After-put_result-end) → take w.put_result-end.result w.put_result-end.new.text ≡ Text w
 begins w =
     let a = (Entry w).args in
     let d : List ℕ = w.blank_line-text.result in
@@ -49,7 +49,7 @@ returns-then-message-gt-MAX_MESSAGE c =
 
 pub slice_bounds-give-end : goal.slice_bounds-give-end
 slice_bounds-give-end c =
-    sym (length-take-le c.put_result-end.result c.put_result-end.new.1.1.0 (omega arith))
+    sym (length-take-le c.put_result-end.result c.put_result-end.new.text (omega arith))
 
 pub returns : goal.returns
 returns c =

@@ -33,7 +33,7 @@ Text q = (Word q ++ decimal (Entry q).args.x) ++ (newline ∷ [])
 
 -- the line stands at the start of the text
 begins : (q : After-put-2)
-    → take (q.put_decimal-at.result + 1) q.put-2.new.0 ≡ Text q
+    → take (q.put_decimal-at.result + 1) q.put-2.new.dst ≡ Text q
 begins q =
     let word = Word q in
     let x = (Entry q).args.x in
@@ -50,7 +50,7 @@ begins q =
 
 pub slice_bounds-give-end : goal.slice_bounds-give-end
 slice_bounds-give-end c =
-    sym (length-take-le (c.put_decimal-at.result + 1) c.put-2.new.0 (omega arith))
+    sym (length-take-le (c.put_decimal-at.result + 1) c.put-2.new.dst (omega arith))
 
 pub returns : goal.returns
 returns c =

@@ -40,4 +40,4 @@ returns c =
     let t = book-told (S c.before.before.before.before.before.before.before.before.before) a.parts (plan c.before.before.before.before.before.before.before.before.before) a.q a.out.now c.requires.1 c.book.result _
     (c.book.ensures ∙ ap (λ (l : List ℕ). book_given a.parts.n a.parts.holders a.q l a.out.now) all) in
     let v = c.value_of.ensures in
-    (omega (arith, v, t.0), ap (λ (k : ℕ). take k c.book.new.1.1.1.1.0) v ∙ t.1)
+    (omega (arith, v, t.0), ap (λ (k : ℕ). take k c.book.new.out) v ∙ t.1)

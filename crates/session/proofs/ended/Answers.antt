@@ -34,7 +34,7 @@ slice_bounds-room-end c = c.inbox-len.ensures.0
 
 pub slice_bounds-take_relays-end : goal.slice_bounds-take_relays-end
 slice_bounds-take_relays-end c =
-    sym (length-take-le c.inbox-len.result c.inbox-len.new.1.1.1.1.1.1.0 c.inbox-len.ensures.0)
+    sym (length-take-le c.inbox-len.result c.inbox-len.new.out c.inbox-len.ensures.0)
 
 pub shape_of-out : goal.shape_of-out
 shape_of-out c = c.take_relays.auto.1.1.0

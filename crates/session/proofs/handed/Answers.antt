@@ -75,5 +75,5 @@ returns c =
     (c.block.ensures ∙ ap (λ (l : List ℕ). block_given a.parts.n a.q l a.out.now) all) in
     let v = c.value_of.ensures in (
       omega (arith, v, t.0),
-      ap (λ (i : ℕ). take i c.block.new.1.1.1.0) v ∙ t.1 ∙ sym (handed-bad (S st) st.requires.0.taken sha256 a.q (λ q. c.if-q-sender.false (q ∙ sym (number st))) bad),
+      ap (λ (i : ℕ). take i c.block.new.out) v ∙ t.1 ∙ sym (handed-bad (S st) st.requires.0.taken sha256 a.q (λ q. c.if-q-sender.false (q ∙ sym (number st))) bad),
     )

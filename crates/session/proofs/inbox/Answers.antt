@@ -89,7 +89,7 @@ returns c =
     let e = c.value_of.ensures in
     let slots : ℕ → List ℕ = slot_of max_outbox a.slots.now a.lens.now in (
       omega (arith, e, w.0),
-      ap (λ (y : ℕ). take y c.fill.new.1.1.1.1.1.0) e ∙ w.1
+      ap (λ (y : ℕ). take y c.fill.new.out) e ∙ w.1
           ∙ ap₂ (λ (n g : ℕ). inbox_to n g (whole_in a.e) slots (Blocks c.before.before.before.before.before.before.before) a.i) k.n-is k.good-is
           ∙ ap (λ (y : List ℕ). inbox_to (n_in s) (good_in s) (whole_in a.e) slots y a.i) (blocks c.before.before.before.before.before.before.before),
     )

@@ -37,7 +37,7 @@ named : (k : After-names) → let st = Entry k in k.names.result ≡ has_sender 
 named k = let st = Entry k in option-named (S st) st.args.parts (plan st) sender_option k.names.result k.names.ensures
 
 -- the book has room
-inside : (b : After-book-len) → b.book-len.result ≤ length b.book-len.new.1.1.1.0
+inside : (b : After-book-len) → b.book-len.result ≤ length b.book-len.new.out
 inside b = omega (arith, b.book-len.ensures.0, b.book-len.auto.1.1.1.0, length-replicate {A = ℕ} max_message 0)
 
 pub opened_by_sender-requires : goal.opened_by_sender-requires

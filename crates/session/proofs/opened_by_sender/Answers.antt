@@ -35,9 +35,9 @@ returns c =
     let k = plan c.before.before.before.before.before.before.before.before.before.before.before in
     let room = replicate {A = ℕ} max_message_packet 0 in
     ap (λ (r : Begun). r.opened) c.open_by_sender-begun.ensures
-    ∙ ap (λ (i : ℕ). (open_by_sender_of sha256 i a.parts.n a.parts.t a.q a.parts.sender (take c.handed-len.result c.handed-len.new.1.1.1.0) room).opened)
+    ∙ ap (λ (i : ℕ). (open_by_sender_of sha256 i a.parts.n a.parts.t a.q a.parts.sender (take c.handed-len.result c.handed-len.new.out) room).opened)
     k.session-is
-    ∙ ap₂ (λ (n t : ℕ). (open_by_sender_of sha256 (session_of (S c.before.before.before.before.before.before.before.before.before.before.before)) n t a.q a.parts.sender (take c.handed-len.result c.handed-len.new.1.1.1.0) room).opened)
+    ∙ ap₂ (λ (n t : ℕ). (open_by_sender_of sha256 (session_of (S c.before.before.before.before.before.before.before.before.before.before.before)) n t a.q a.parts.sender (take c.handed-len.result c.handed-len.new.out) room).opened)
     k.n-is k.t-is
     ∙ ap₂ (λ (q : ℕ) (l : List ℕ). (open_by_sender_of sha256 (session_of (S c.before.before.before.before.before.before.before.before.before.before.before)) (n_in (S c.before.before.before.before.before.before.before.before.before.before.before)) (t_in (S c.before.before.before.before.before.before.before.before.before.before.before)) a.q q l room).opened)
     (sender-number (S c.before.before.before.before.before.before.before.before.before.before.before) a.parts k c.requires.1) c.handed-len.ensures.1

@@ -17,10 +17,10 @@ abbrev At-loop-p : Type 0
 At-loop-p = lts.At-loop tie.the-claims reads.Pre reads.Post goal.the-invariant-loop-p goal.the-decreases-loop-p
 
 -- the names of the source
-abbrev N : At-loop-p invariant-loop-p decreases-loop-p → ℕ
+abbrev N : At-loop-p → ℕ
 N l = l.args.n
 
-abbrev Outbox : At-loop-p invariant-loop-p decreases-loop-p → List ℕ
+abbrev Outbox : At-loop-p → List ℕ
 Outbox l = l.args.outbox.now
 
 pub loop-p-init : goal.loop-p-init

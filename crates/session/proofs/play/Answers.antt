@@ -61,12 +61,12 @@ blank : length (replicate {A = ℕ} (max_parties * max_outbox) 0) ≡ max_partie
 blank = length-replicate {A = ℕ} (max_parties * max_outbox) 0
 
 -- the outboxes, and the text with the lines
-outboxes : (d : After-round-dealt) → Dealt (Entry (Votes d)).args.bytes.now d.round-dealt.new.1.1.1.1.1.0 d.round-dealt.new.1.1.1.1.1.1.0
+outboxes : (d : After-round-dealt) → Dealt (Entry (Votes d)).args.bytes.now d.round-dealt.new.next d.round-dealt.new.sizes
 unfolding step_for
 outboxes d = let y = d.round-dealt.ensures in record { boxes-long = y.2; lens-long = y.3; slots = y.1 }
 
 abbrev O : After-put_lines-at → List ℕ
-O k = k.put_lines-at.new.1.1.1.1.1.0
+O k = k.put_lines-at.new.text
 
 long : (k : After-put_lines-at) → length (O k) ≡ max_text
 long k = k.put_lines-at.auto.1.1.1.1.1.0 ∙ (Entry (Votes (Deals (Relays k)))).requires.3
@@ -75,7 +75,7 @@ long k = k.put_lines-at.auto.1.1.1.1.1.0 ∙ (Entry (Votes (Deals (Relays k)))).
 last : (c : After-value_of) → let p = Lines c.before.before.before.before.before.before in
     let w = sent_line c.sent_all-sent.result in
     (c.value_of.result ≤ max_line) × (c.value_of.result ≡ length w)
-    × (take p.put_lines-at.result (O p) ++ (c.sent_line.new.1.0
+    × (take p.put_lines-at.result (O p) ++ (c.sent_line.new.out
     ++ drop (length (O p) - p.put_lines-at.result) (drop p.put_lines-at.result (O p))) ≡ spliced (O p) p.put_lines-at.result w)
 last c =
     let p = Lines c.before.before.before.before.before.before in

@@ -32,7 +32,7 @@ abbrev Entry : After-result_of-result → Start
 Entry k = k.before.before.before.before.before.before
 
 abbrev O : After-result_of-result → List ℕ
-O k = k.result_of-result.new.1.1.1.1.1.1.0
+O k = k.result_of-result.new.out
 
 abbrev Len : In-Message-2 → ℕ
 Len k = k.result-1.given.0.0

@@ -35,33 +35,33 @@ abbrev After-names : Type 0
 After-names = lts.After-names tie.the-claims reads.Pre reads.Post goal.the-invariant-loop-p goal.the-decreases-loop-p
 
 -- the names of the source
-abbrev Entry : At-loop-p invariant-loop-p decreases-loop-p → Start invariant-loop-p decreases-loop-p
+abbrev Entry : At-loop-p → Start
 Entry l = l.before.before.before.before.before
 
-abbrev S : Start invariant-loop-p decreases-loop-p → List ℕ
+abbrev S : Start → List ℕ
 S st = st.args.bytes.now
 
-abbrev N : Start invariant-loop-p decreases-loop-p → ℕ
+abbrev N : Start → ℕ
 N st = st.args.turn.parts.n
 
-abbrev P : At-loop-p invariant-loop-p decreases-loop-p → ℕ
+abbrev P : At-loop-p → ℕ
 P l = l.loop-p.p
 
-plan : (st : Start invariant-loop-p decreases-loop-p) → Known (S st) st.args.turn.parts
+plan : (st : Start) → Known (S st) st.args.turn.parts
 plan st = known (S st) st.args.turn.parts st.requires.0.ready
 
-few : (d : In-loop-p invariant-loop-p decreases-loop-p) → P d.before < max_parties
+few : (d : In-loop-p) → P d.before < max_parties
 few d = let k = plan (Entry d.before) in omega (arith, d.loop-p-test.true, k.n-is, k.high)
 
 -- whether the party of this turn is good
-named : (c : After-names invariant-loop-p decreases-loop-p) (b : Bool) → c.names.result ≡ b
+named : (c : After-names) (b : Bool) → c.names.result ≡ b
     → is_good (S (Entry c.before.before.before)) (P c.before.before.before + 1) ≡ b
 named c b h =
     let st = Entry c.before.before.before in
     sym (good-named (S st) st.args.turn.parts (plan st) (P c.before.before.before + 1) c.names.result c.names.ensures) ∙ h
 
 -- a line has room
-room : (d : In-loop-p invariant-loop-p decreases-loop-p) → d.loop-p.at + max_line ≤ length d.loop-p.text
+room : (d : In-loop-p) → d.loop-p.at + max_line ≤ length d.loop-p.text
 room d =
     let st = Entry d.before in
     omega (arith, d.loop-p.invariant.1, d.loop-p.invariant.2, d.loop-p-test.true, (plan st).n-is, (plan st).high, st.requires.2)

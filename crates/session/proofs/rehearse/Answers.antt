@@ -70,7 +70,7 @@ abbrev Lawful : After-play-len → Else-unlawful
 Lawful k = k.before.before.before
 
 abbrev O : After-play-len → List ℕ
-O k = k.play-len.new.1.1.1.1.0
+O k = k.play-len.new.text
 
 pub returns-then-cause-ne0 : goal.returns-then-cause-ne0
 returns-then-cause-ne0 c =

@@ -47,23 +47,23 @@ abbrev A : Turn → List ℕ → ℕ → Party
 A turn s p = (step_for turn.e s p).state
 
 -- the function's entry, from a turn
-abbrev Entry : At-loop-p invariant-loop-p decreases-loop-p → Start invariant-loop-p decreases-loop-p
+abbrev Entry : At-loop-p → Start
 Entry l = l.before.before.before.before.before.before
 
-abbrev S : Start invariant-loop-p decreases-loop-p → List ℕ
+abbrev S : Start → List ℕ
 S st = st.args.bytes.now
 
-long : (st : Start invariant-loop-p decreases-loop-p) → length st.args.before ≡ max_parties
+long : (st : Start) → length st.args.before ≡ max_parties
 long st = search rules
 
-plan : (st : Start invariant-loop-p decreases-loop-p) → Known (S st) st.args.turn.parts
+plan : (st : Start) → Known (S st) st.args.turn.parts
 plan st = known (S st) st.args.turn.parts st.requires.0.ready
 
-few : (d : In-loop-p invariant-loop-p decreases-loop-p) → d.loop-p.p < max_parties
+few : (d : In-loop-p) → d.loop-p.p < max_parties
 few d = let k = plan (Entry d.before) in omega (arith, d.loop-p-test.true, k.n-is, k.high)
 
 -- the slot of a turn lies within the slots
-inside : (d : In-loop-p invariant-loop-p decreases-loop-p) → (d.loop-p.p * max_outbox + max_outbox ≤ length d.loop-p.next) × (d.loop-p.p < length d.loop-p.sizes)
+inside : (d : In-loop-p) → (d.loop-p.p * max_outbox + max_outbox ≤ length d.loop-p.next) × (d.loop-p.p < length d.loop-p.sizes)
 inside d =
     let st = Entry d.before in
     let i = d.loop-p.invariant in (
@@ -72,7 +72,7 @@ inside d =
     )
 
 -- whether the party of a turn is good
-tells : (g : After-names invariant-loop-p decreases-loop-p) (b : Bool) → g.names.result ≡ b
+tells : (g : After-names) (b : Bool) → g.names.result ≡ b
     → is_good (S (Entry g.before.before)) (g.loop-p.p + 1) ≡ b
 tells g b h =
     let st = Entry g.before.before in

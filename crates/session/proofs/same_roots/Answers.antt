@@ -33,36 +33,36 @@ abbrev Then-names : Type 0
 Then-names = lts.Then1 tie.the-claims reads.Pre reads.Post goal.the-invariant-loop-p goal.the-decreases-loop-p
 
 -- the names of the source
-abbrev S : Start invariant-loop-p decreases-loop-p → List ℕ
+abbrev S : Start → List ℕ
 S st = st.args.bytes.now
 
-abbrev W : Start invariant-loop-p decreases-loop-p → List ℕ
+abbrev W : Start → List ℕ
 W st = st.args.w.now
 
-abbrev N : Start invariant-loop-p decreases-loop-p → ℕ
+abbrev N : Start → ℕ
 N st = st.args.parts.n
 
-abbrev P : At-loop-p invariant-loop-p decreases-loop-p → ℕ
+abbrev P : At-loop-p → ℕ
 P c = c.loop-p.p
 
-abbrev Entry : At-loop-p invariant-loop-p decreases-loop-p → Start invariant-loop-p decreases-loop-p
+abbrev Entry : At-loop-p → Start
 Entry c = c.before.before
 
-plan : (st : Start invariant-loop-p decreases-loop-p) → Known (S st) st.args.parts
+plan : (st : Start) → Known (S st) st.args.parts
 plan st = known (S st) st.args.parts st.requires
 
 -- whether the party of this turn is good
-named : (c : After-names invariant-loop-p decreases-loop-p) (b : Bool) → c.names.result ≡ b
+named : (c : After-names) (b : Bool) → c.names.result ≡ b
     → is_good (S (Entry c.before.before)) (P c.before.before + 1) ≡ b
 named c b h =
     let st = Entry c.before.before in
     sym (good-named (S st) st.args.parts (plan st) (P c.before.before + 1) c.names.result c.names.ensures) ∙ h
 
 -- the call of its comparison, and what it told
-abbrev Asked : After-same invariant-loop-p decreases-loop-p → Then-names invariant-loop-p decreases-loop-p
+abbrev Asked : After-same → Then-names
 Asked d = d.before.before.before.before.before
 
-compared : (d : After-same invariant-loop-p decreases-loop-p) → d.same.result ≡ same (opened sha256 (S (Entry (Asked d).before.before.before)) (P (Asked d).before.before.before + 1)).root (W (Entry (Asked d).before.before.before))
+compared : (d : After-same) → d.same.result ≡ same (opened sha256 (S (Entry (Asked d).before.before.before)) (P (Asked d).before.before.before + 1)).root (W (Entry (Asked d).before.before.before))
 compared d =
     same-is d.opened.result.root (W (Entry (Asked d).before.before.before)) d.same.result d.same.ensures.0 d.same.ensures.1
     ∙ ap (λ (x : Opened). same x.root (W (Entry (Asked d).before.before.before))) d.opened.ensures

@@ -36,7 +36,7 @@ plan : (st : Start) → Known (S st) st.args.parts
 plan st = known (S st) st.args.parts st.requires.0
 
 -- the book has room
-inside : (b : After-book-len) → b.book-len.result ≤ length b.book-len.new.1.1.1.0
+inside : (b : After-book-len) → b.book-len.result ≤ length b.book-len.new.out
 inside b = omega (arith, b.book-len.ensures.0, b.book-len.auto.1.1.1.0, length-replicate {A = ℕ} max_message 0)
 
 -- the call of the opening: what it gave is the definition's
@@ -50,7 +50,7 @@ abbrev Zeros : List ℕ
 Zeros = replicate max_message_packet 0
 
 gives : (o : After-open_by_sender-begun) → let st = Entry o in let q = sender_in (S st) in
-    begun o.open_by_sender-begun.result o.open_by_sender-begun.new.1.1.1.1.1.1.0 ≡ open_by_sender_of sha256 (session_of (S st)) (n_in (S st)) (t_in (S st)) q q (book_of (S st) q) Zeros
+    begun o.open_by_sender-begun.result o.open_by_sender-begun.new.out ≡ open_by_sender_of sha256 (session_of (S st)) (n_in (S st)) (t_in (S st)) q q (book_of (S st) q) Zeros
 gives o =
     let b = Booked o in
     let st = Entry o in
@@ -65,7 +65,7 @@ gives o =
 
 wrote : (o : After-open_by_sender-begun)
     → (o.open_by_sender-begun.result.len ≤ max_message_packet)
-    × (take o.open_by_sender-begun.result.len o.open_by_sender-begun.new.1.1.1.1.1.1.0 ≡ sender_wrote sha256 (S (Entry o)))
+    × (take o.open_by_sender-begun.result.len o.open_by_sender-begun.new.out ≡ sender_wrote sha256 (S (Entry o)))
 unfolding sender_wrote opened_by_sender
 wrote o =
     let st = Entry o in
@@ -78,7 +78,7 @@ wrote o =
       ap (λ (r : Begun). take r.value r.buffer) (gives o),
     )
 
-fits : (o : After-open_by_sender-begun) → o.open_by_sender-begun.result.len ≤ length o.open_by_sender-begun.new.1.1.1.1.1.1.0
+fits : (o : After-open_by_sender-begun) → o.open_by_sender-begun.result.len ≤ length o.open_by_sender-begun.new.out
 fits o = omega (arith, (wrote o).0, o.open_by_sender-begun.auto.1.1.1.1.1.1.0, length-replicate {A = ℕ} max_message_packet 0)
 
 pub slice_bounds-open_by_sender-end : goal.slice_bounds-open_by_sender-end
@@ -94,7 +94,7 @@ pub returns : goal.returns
 returns c =
     let st = Entry c.before.before.before.before.before.before.before in
     let l = c.open_by_sender-begun.result.len in
-    let x = take l c.open_by_sender-begun.new.1.1.1.1.1.1.0 in
+    let x = take l c.open_by_sender-begun.new.out in
     let size : length x ≡ l = length-take-le l _ (fits c.before.before.before.before.before.before.before) in (
       (wrote c.before.before.before.before.before.before.before).0,
       ap₂ take (sym size) (c.put.ensures.1 ∙ put-fits st.args.out.now 0 x (omega (arith, size, (wrote c.before.before.before.before.before.before.before).0, st.requires.2)))

@@ -46,7 +46,7 @@ inbox-len-requires c =
 
 pub slice_bounds-take_shares-end : goal.slice_bounds-take_shares-end
 slice_bounds-take_shares-end c =
-    sym (length-take-le c.inbox-len.result c.inbox-len.new.1.1.1.1.1.1.0 c.inbox-len.ensures.0)
+    sym (length-take-le c.inbox-len.result c.inbox-len.new.out c.inbox-len.ensures.0)
 
 pub returns : goal.returns
 unfolding first_inbox step4

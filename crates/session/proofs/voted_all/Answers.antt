@@ -32,20 +32,20 @@ abbrev After-names : Type 0
 After-names = lts.After-names tie.the-claims reads.Pre reads.Post goal.the-invariant-loop-p goal.the-decreases-loop-p
 
 -- the function's entry
-abbrev Entry : At-loop-p invariant-loop-p decreases-loop-p → Start invariant-loop-p decreases-loop-p
+abbrev Entry : At-loop-p → Start
 Entry l = l.before.before.before.before
 
-abbrev S : Start invariant-loop-p decreases-loop-p → List ℕ
+abbrev S : Start → List ℕ
 S st = st.args.bytes.now
 
-plan : (st : Start invariant-loop-p decreases-loop-p) → Known (S st) st.args.parts
+plan : (st : Start) → Known (S st) st.args.parts
 plan st = known (S st) st.args.parts st.requires.0
 
-few : (d : In-loop-p invariant-loop-p decreases-loop-p) → d.loop-p.p < max_parties
+few : (d : In-loop-p) → d.loop-p.p < max_parties
 few d = let k = plan (Entry d.before) in omega (arith, d.loop-p-test.true, k.n-is, k.high)
 
 -- whether the party of a turn is good
-tells : (g : After-names invariant-loop-p decreases-loop-p) (b : Bool) → g.names.result ≡ b
+tells : (g : After-names) (b : Bool) → g.names.result ≡ b
     → is_good (S (Entry g.before.before)) (g.loop-p.p + 1) ≡ b
 tells g b h =
     let st = Entry g.before.before in

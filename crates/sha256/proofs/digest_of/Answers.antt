@@ -61,14 +61,14 @@ pub loop-i-preserved : goal.loop-i-preserved
 loop-i-preserved c =
     let l = c.loop-i in
     let h = c.args.h in
-    let n : length h ≡ 8 = good_length (e_int w32) 8 h _ c.well-formed.0 in
+    let n : length h ≡ 8 = good_length (e_int w32) 8 h _ c.well_formed.0 in
     (omega arith, simp length-set l.invariant.1, digest-more l.digest h l.i (omega arith) (omega arith) l.invariant.2)
 
 pub returns : goal.returns
 returns c =
     let l = c.loop-i in
     let h = c.args.h in
-    let n : length h ≡ 8 = good_length (e_int w32) 8 h _ c.well-formed.0 in
+    let n : length h ≡ 8 = good_length (e_int w32) 8 h _ c.well_formed.0 in
     let e : l.i ≡ 8 = omega arith in
     sym (take_all 32 l.digest (omega arith)) ∙ ap (λ (m : ℕ). take (4 * m) l.digest) (sym e) ∙ l.invariant.2
     ∙ ap (λ (m : ℕ). digest_of (take m h)) e ∙ ap digest_of (take_all 8 h (omega arith))

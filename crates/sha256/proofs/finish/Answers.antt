@@ -9,7 +9,7 @@ use Rattle.sha256.proofs.finish.Goals as goal
 pub slice_bounds-hash_value-end : goal.slice_bounds-hash_value-end
 slice_bounds-hash_value-end c =
     let p = c.pad-tail in
-    let n : length p.result ≡ 128 = good_length (e_int w8) 128 p.result _ p.type-inv in
+    let n : length p.result ≡ 128 = good_length (e_int w8) 128 p.result _ p.type_inv in
     sym (length-take-le _ p.result (omega arith))
 
 pub returns : goal.returns

@@ -32,7 +32,7 @@ abbrev Size : After-first_block-first → ℕ
 Size b = let a = (Entry b).args in a.k + length a.rest.now
 
 block-long : (b : After-first_block-first) → length b.first_block-first.result ≡ 64
-block-long b = good_length (e_int w8) 64 b.first_block-first.result _ b.first_block-first.type-inv
+block-long b = good_length (e_int w8) 64 b.first_block-first.result _ b.first_block-first.type_inv
 
 -- where there is no whole block, it is all of the message
 short : (t : Then-n-lt64) → let a = (Entry t.before).args in

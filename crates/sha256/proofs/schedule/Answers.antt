@@ -9,7 +9,7 @@ pub parse-w-requires : goal.parse-w-requires
 parse-w-requires c = omega arith
 
 pub loop-t-init : goal.loop-t-init
-loop-t-init c = (omega arith, omega arith, good_length (e_int w32) 64 c.parse-w.result _ c.parse-w.type-inv, c.parse-w.ensures)
+loop-t-init c = (omega arith, omega arith, good_length (e_int w32) 64 c.parse-w.result _ c.parse-w.type_inv, c.parse-w.ensures)
 
 pub overflow_sub-t : goal.overflow_sub-t
 overflow_sub-t c = omega arith

@@ -9,7 +9,7 @@ use lib.ListN.{length, replicate}
 use Rattle.sha256.specs.Sha256.{sha256}
 use Rattle.limits.specs.Limits.{max_message}
 use Rattle.commitment.specs.Commitment.{mail_with}
-use Rattle.party.specs.State.{nothing, message_in, at-first}
+use Rattle.party.specs.State.{nothing, message_in, at_first}
 use Rattle.party.specs.Steps.{stepped, state_cause, refused, writes, outbox_of, agree_bit_of}
 use Rattle.party.specs.Private.{Fit}
 use Rattle.party.specs.declared.Party.{Party}
@@ -94,7 +94,7 @@ abbrev Sends : After-waiting-next → After-send-happy
 Sends v = v.before.before.before
 
 abbrev Left : After-waiting-next → List ℕ
-Left v = (Sends v).send-happy.new.1.1.0
+Left v = (Sends v).send-happy.new.out
 
 abbrev One : After-waiting-next → Else-bit-eq0
 One v = (Sends v).before.before.before
@@ -104,8 +104,8 @@ waiting-next-requires c = (fit c.before.before.before.before.before.before.befor
 
 -- the state that waits for the first inbox
 next : (v : After-waiting-next) → let x = (Entry (One v).before.before).args.self in
-    v.waiting-next.result ≡ at-first x.seat (message_in x) x.root
-unfolding at-first
+    v.waiting-next.result ≡ at_first x.seat (message_in x) x.root
+unfolding at_first
 next v =
     let x = (Entry (One v).before.before).args.self in
     v.waiting-next.ensures
@@ -114,7 +114,7 @@ next v =
 
 -- what follows on bit 1
 first : (o : Else-bit-eq0) → let a = (Entry o.before.before).args in
-    writes a.self (at-first a.self.seat (message_in a.self) a.self.root) (outbox_of sha256 a.self 1)
+    writes a.self (at_first a.self.seat (message_in a.self) a.self.root) (outbox_of sha256 a.self 1)
     a.out.now
     ≡ agree_bit_of sha256 a.self a.bit a.out.now
 first o =

@@ -7,7 +7,7 @@ use native.Mathlib.Omega.{arith}
 use lib.ListN.{length}
 use Rattle.limits.specs.Limits.{max_message}
 use Rattle.party.specs.State.{message_in, happy, at_bit}
-use Rattle.party.specs.Steps.{stepped, state_cause, refused, with-root, Stepped, gives}
+use Rattle.party.specs.Steps.{stepped, state_cause, refused, with_root, Stepped, gives}
 use Rattle.party.specs.Private.{Fit}
 use Rattle.party.specs.declared.Party.{Party}
 use Rattle.party.specs.declared.Stage.TheVariants.{Bit}
@@ -83,7 +83,7 @@ unfolding at_bit
 returns c =
     let x = c.args.self in
     let z = c.args.root.now in
-    let state : c.waiting-state.result ≡ with-root x z = c.waiting-state.ensures
+    let state : c.waiting-state.result ≡ with_root x z = c.waiting-state.ensures
     ∙ waiting_kept x.seat Bit _ (message_in x) _ z _ [] x.len 0 0 refl
     (sym (length-message x (omega (arith, (fit c.before.before.before.before.before.before.before).short, long c.before.before.before.before.before.before.before.before.before.before)))) (c.put.ensures.1 ∙ put_whole 32 z c.if-root-ne32.false) refl refl in
     ap₂ {C = Stepped} (λ (y : Party) (h : Bool). gives y (Happy h) []) state (c.happy.ensures ∙ ap (happy sha256) state)

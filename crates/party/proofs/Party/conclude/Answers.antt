@@ -107,7 +107,7 @@ rebuilding d =
 
 -- the entries, the buffer after rebuilding, and what the answer says
 abbrev O : After-rebuild_at → List ℕ
-O d = d.rebuild_at.new.1.1.1.1.1.0
+O d = d.rebuild_at.new.out
 
 abbrev Zeros : List ℕ
 Zeros = replicate max_message 0

@@ -54,67 +54,67 @@ abbrev In-Valid : Type 0
 In-Valid = lts.After-known_told tie.the-claims reads.Pre reads.Post goal.the-invariant-loop-j goal.the-decreases-loop-j
 
 -- the names of the source, in a turn
-abbrev Start : In-loop-j invariant-loop-j decreases-loop-j → Start invariant-loop-j decreases-loop-j
+abbrev Start : In-loop-j → Start
 Start c = c.before.before.before.before.before
 
-abbrev X : In-loop-j invariant-loop-j decreases-loop-j → Party
+abbrev X : In-loop-j → Party
 X c = (Start c).args.self
 
-abbrev S : In-loop-j invariant-loop-j decreases-loop-j → List ℕ
+abbrev S : In-loop-j → List ℕ
 S c = (Start c).args.inbox.now
 
-abbrev Session : In-loop-j invariant-loop-j decreases-loop-j → ℕ
+abbrev Session : In-loop-j → ℕ
 Session c = (X c).seat.session
 
-abbrev N : In-loop-j invariant-loop-j decreases-loop-j → ℕ
+abbrev N : In-loop-j → ℕ
 N c = (X c).seat.n
 
-abbrev Own : In-loop-j invariant-loop-j decreases-loop-j → ℕ
+abbrev Own : In-loop-j → ℕ
 Own c = (X c).seat.own
 
-abbrev Z : In-loop-j invariant-loop-j decreases-loop-j → List ℕ
+abbrev Z : In-loop-j → List ℕ
 Z c = (X c).root
 
-abbrev Y : In-loop-j invariant-loop-j decreases-loop-j → List ℕ
+abbrev Y : In-loop-j → List ℕ
 Y c = share_held (X c)
 
-abbrev At : In-loop-j invariant-loop-j decreases-loop-j → ℕ
+abbrev At : In-loop-j → ℕ
 At c = c.loop-j.at
 
-abbrev J : In-loop-j invariant-loop-j decreases-loop-j → ℕ
+abbrev J : In-loop-j → ℕ
 J c = c.loop-j.j
 
-share-long : (st : Start invariant-loop-j decreases-loop-j) → length st.args.self.share ≡ max_share
+share-long : (st : Start) → length st.args.self.share ≡ max_share
 share-long st = search rules
 
-root-long : (st : Start invariant-loop-j decreases-loop-j) → length st.args.self.root ≡ 32
+root-long : (st : Start) → length st.args.self.root ≡ 32
 root-long st = search rules
 
-held : (c : In-loop-j invariant-loop-j decreases-loop-j) → length (Y c) ≡ (X c).held
+held : (c : In-loop-j) → length (Y c) ≡ (X c).held
 held c = length-take-le (X c).held (X c).share (omega (arith, share-long (Start c), (Start c).requires.0.few))
 
 -- the entry of a turn, and what was read of it
-stands : (c : In-loop-j invariant-loop-j decreases-loop-j) → Stands (N c) (N c - (J c + 1)) (At c) (S c)
+stands : (c : In-loop-j) → Stands (N c) (N c - (J c + 1)) (At c) (S c)
 stands c =
     let f = (Start c).requires.0 in
     entry-stands (N c) (N c - (J c + 1)) (N c - J c) (At c) (S c) f.low f.high (omega arith) c.loop-j.invariant.0.filled
 
-read : (r : After-read_entry-packet invariant-loop-j decreases-loop-j) → Reads (N r.before) (At r.before) (S r.before) r.read_entry-packet.result
+read : (r : After-read_entry-packet) → Reads (N r.before) (At r.before) (S r.before) r.read_entry-packet.result
 read r = entry-reads (N r.before) (N r.before - (J r.before + 1)) (At r.before) (S r.before) (stands r.before) r.read_entry-packet.result r.read_entry-packet.ensures
 
-room : (d : In-loop-j invariant-loop-j decreases-loop-j) → At d + 2 + size (drop (At d) (S d)) ≤ length (S d)
+room : (d : In-loop-j) → At d + 2 + size (drop (At d) (S d)) ≤ length (S d)
 room d = (stands d).inside
 
 -- the map before, and the marks so far
-abbrev Before : In-loop-j invariant-loop-j decreases-loop-j → ℕ → Bool
+abbrev Before : In-loop-j → ℕ → Bool
 Before d = λ p. names (X d).faulty p
 
-marks : (d : In-loop-j invariant-loop-j decreases-loop-j) → let l = d.loop-j in
+marks : (d : In-loop-j) → let l = d.loop-j in
     Marking sha256 (Session d) (N d) (Own d) (Z d) (S d) (λ p. p) (Before d) (J d) (At d) l.faulty l.bit
 marks d = d.loop-j.invariant.1
 
 -- there is room in the map
-small : (d : In-loop-j invariant-loop-j decreases-loop-j) → let l = d.loop-j in (l.faulty < l.bit) × (2 * l.bit ≤ 2 ^ max_parties)
+small : (d : In-loop-j) → let l = d.loop-j in (l.faulty < l.bit) × (2 * l.bit ≤ 2 ^ max_parties)
 small d =
     let l = d.loop-j in
     marking-room sha256 (Session d) (N d) (Own d) (Z d) (S d) (λ p. p) (Before d) (J d) (At d) l.faulty l.bit (marks d) (omega arith)
@@ -131,7 +131,7 @@ loop-j-init c =
 pub overflow_mul-bit : goal.overflow_mul-bit
 overflow_mul-bit c = omega (arith, small c.before.before)
 
-few : (d : In-loop-j invariant-loop-j decreases-loop-j) → J d + 1 ≤ max_parties
+few : (d : In-loop-j) → J d + 1 ≤ max_parties
 few d = omega (arith, (Start d).requires.0.high)
 
 pub offset_bounds-from-i : goal.offset_bounds-from-i
@@ -166,22 +166,22 @@ loop-j-preserved-then-j-own c =
     )
 
 -- a turn that looks at another sender's packet: where it began, what was found, and what is marked
-abbrev K : After-mark-faulty invariant-loop-j decreases-loop-j → After-find-finding invariant-loop-j decreases-loop-j
+abbrev K : After-mark-faulty → After-find-finding
 K m = m.before.before
 
-abbrev E : After-mark-faulty invariant-loop-j decreases-loop-j → Else-j-own invariant-loop-j decreases-loop-j
+abbrev E : After-mark-faulty → Else-j-own
 E m = (K m).before.before
 
-abbrev R : After-mark-faulty invariant-loop-j decreases-loop-j → After-read_entry-packet invariant-loop-j decreases-loop-j
+abbrev R : After-mark-faulty → After-read_entry-packet
 R m = (E m).before
 
-abbrev D : After-mark-faulty invariant-loop-j decreases-loop-j → In-loop-j invariant-loop-j decreases-loop-j
+abbrev D : After-mark-faulty → In-loop-j
 D m = (R m).before
 
-abbrev C : In-loop-j invariant-loop-j decreases-loop-j → Class
+abbrev C : In-loop-j → Class
 C d = class_of sha256 (Session d) (N d) (J d + 1) (Z d) (body_at (At d) (S d))
 
-found : (m : After-mark-faulty invariant-loop-j decreases-loop-j) → FindingIs (K m).find-finding.result (C (D m)) (S (D m))
+found : (m : After-mark-faulty) → FindingIs (K m).find-finding.result (C (D m)) (S (D m))
 found m =
     let r = R m in
     let d = D m in
@@ -190,18 +190,18 @@ found m =
     (finding-is sha256 (Session d) (N d) (J d + 1) (Z d) (S d) (At d + 2) (size (drop (At d) (S d))) (room d) r.read_entry-packet.result.packet (read r).packet-is
     f.low f.high (omega arith) (omega arith) (root-long (Start d)))
 
-is-marked : (m : After-mark-faulty invariant-loop-j decreases-loop-j) → let d = D m in
+is-marked : (m : After-mark-faulty) → let d = D m in
     m.mark-faulty.result ≡ cond (Before d (J d + 1) || found_faulty (K m).find-finding.result) d.loop-j.bit 0
 is-marked m = m.mark-faulty.ensures ∙ ap (λ (t : Bool). cond (t || found_faulty (K m).find-finding.result) (D m).loop-j.bit 0) m.names.ensures
 
-added : (m : After-mark-faulty invariant-loop-j decreases-loop-j) → m.mark-faulty.result ≤ (D m).loop-j.bit
+added : (m : After-mark-faulty) → m.mark-faulty.result ≤ (D m).loop-j.bit
 added m = let d = D m in go (Before d (J d + 1) || found_faulty (K m).find-finding.result) (is-marked m)
   where
     go : (t : Bool) → m.mark-faulty.result ≡ cond t (D m).loop-j.bit 0 → m.mark-faulty.result ≤ (D m).loop-j.bit
     go true e = omega (arith, e)
     go false e = omega (arith, e)
 
-marks-more : (m : After-mark-faulty invariant-loop-j decreases-loop-j) → let d = D m in let l = d.loop-j in
+marks-more : (m : After-mark-faulty) → let d = D m in let l = d.loop-j in
     Marking sha256 (Session d) (N d) (Own d) (Z d) (S d) (λ p. p) (Before d) (J d + 1) (next_at (S d) (At d)) (l.faulty + m.mark-faulty.result) (2 * l.bit)
 marks-more m =
     let d = D m in
@@ -225,7 +225,7 @@ loop-j-preserved-in_default c =
     )
 
 -- where a valid share was found
-abbrev M : In-Valid invariant-loop-j decreases-loop-j → After-mark-faulty invariant-loop-j decreases-loop-j
+abbrev M : In-Valid → After-mark-faulty
 M k = k.before.before.before
 
 pub offset_bounds-from-i-in-loop-j : goal.offset_bounds-from-i-in-loop-j

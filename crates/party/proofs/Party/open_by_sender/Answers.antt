@@ -101,7 +101,7 @@ returns-in_default c =
     let r = c.write_message-answer.result in
     let y = answer-short a.bytes.now a.out.now (short e (sends c.before.before.before.before.before.before.before).0) r _ c.write_message-answer.ensures
     (λ k q. not_done r k q c.in_default.keys2) in
-    ap (λ (x : OpenedBySender). begun x c.write_message-answer.new.1.0) c.begun-in_default.ensures
+    ap (λ (x : OpenedBySender). begun x c.write_message-answer.new.out) c.begun-in_default.ensures
     ∙ ap₂ {C = Begun} (λ (k : ℕ) (o : List ℕ). record { opened = c.refused_opening-in_default.result; value = k; buffer = o })
     (c.value_of-len.ensures ∙ y.1 ∙ sym (size c.before.before.before.before.before.before.before)) y.2
     ∙ ap {B = Begun} (λ (x : Opened). record { opened = x; value = length (packet_by a.n a.own a.sender a.bytes.now); buffer = a.out.now })
@@ -115,7 +115,7 @@ returns c =
     let r = c.write_message-answer.result in
     let p = packet_by a.n a.own a.sender a.bytes.now in
     let y = answer-done a.bytes.now a.out.now (short e (sends c.before.before.before.before.before.before.before.before).0) r _ c.write_message-answer.ensures _ c.enum_told-1.given.1 in
-    ap (λ (x : OpenedBySender). begun x c.write_message-answer.new.1.0) c.begun-2.ensures
+    ap (λ (x : OpenedBySender). begun x c.write_message-answer.new.out) c.begun-2.ensures
     ∙ ap₂ {C = Begun} (λ (k : ℕ) (o : List ℕ). record { opened = c.open-2.result; value = k; buffer = o })
     (c.value_of-len.ensures ∙ y.1 ∙ sym (size c.before.before.before.before.before.before.before.before)) (y.2 ∙ ap (spliced a.out.now 0) (sym (sends c.before.before.before.before.before.before.before.before).1))
     ∙ ap {B = Begun} (λ (x : Opened). record { opened = x; value = length p; buffer = spliced a.out.now 0 p })

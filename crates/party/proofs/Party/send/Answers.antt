@@ -67,6 +67,6 @@ returns c =
     let out = a.out.now in
     let bs = mail_with sha256 x.seat.session a.relays x.seat.n x.seat.t x.seat.own m in
     let fine = fit-open x c.requires (length m) (omega (arith, kept c.before.before.before.before.before.before.before.before.before.before.before, c.requires.short)) in
-    told (same (message_root sha256 x.seat.session x.seat.n x.seat.t m) x.root) (sent c.send.result c.send.new.1.1.1.1.0) bs out
+    told (same (message_root sha256 x.seat.session x.seat.n x.seat.t m) x.root) (sent c.send.result c.send.new.out) bs out
     (λ h. c.send.ensures ∙ send-own sha256 x.seat.session x.seat.n x.seat.t x.seat.own m a.relays x.root out fine h)
     (λ h. c.send.ensures ∙ send-other sha256 x.seat.session x.seat.n x.seat.t x.seat.own m a.relays x.root out fine h)

@@ -16,7 +16,7 @@ use Rattle.packet.specs.Format.{hashes, packet_of}
 use Rattle.packet.specs.Answer.{write_of}
 use Rattle.packet.proofs.Path.{padded as path-padded, path-there, length-hashes}
 use Rattle.commitment.specs.Commitment.{mail_with}
-use Rattle.party.specs.State.{message_in, at-second}
+use Rattle.party.specs.State.{message_in, at_second}
 use Rattle.party.specs.Steps.{inbox_cause, faulty_shares, Taken, taken_by, share_taken, packet_taken, Stepped, gives, stepped, refused}
 use Rattle.party.specs.Steps.{writes, take_shares_of}
 use Rattle.party.specs.Private.{Fit, TakenIs}
@@ -91,7 +91,7 @@ T st = taken_by sha256 (X st) (S st)
 
 -- the state at the next stage, with a share
 abbrev Next : Start → List ℕ → Party
-Next st y = let x = X st in at-second x.seat (message_in x) x.root y (faulty_shares sha256 x (S st))
+Next st y = let x = X st in at_second x.seat (message_in x) x.root y (faulty_shares sha256 x (S st))
 
 fine : (e : Else-cause-ne0) → inbox_cause 4 (X (Entry e)) (S (Entry e)) ≡ 0
 fine e = sym e.inbox_cause-cause.ensures ∙ e.if-cause-ne0.false
@@ -113,7 +113,7 @@ abbrev Sends : After-waiting-next → After-send-happy
 Sends v = v.before.before.before
 
 abbrev Left : After-waiting-next → List ℕ
-Left v = (Sends v).send-happy.new.1.1.0
+Left v = (Sends v).send-happy.new.out
 
 abbrev Judges : After-waiting-next → After-judge_shares-taken
 Judges v = (Sends v).before.before
@@ -128,13 +128,13 @@ map v = (Judges v).judge_shares-taken.ensures.1
 
 -- the state that waits for the second inbox without a share
 next : (v : After-waiting-next) → v.waiting-next.result ≡ Next (Entry (Fine v)) []
-unfolding at-second
+unfolding at_second
 next v =
     let e = Fine v in
     let x = X (Entry e) in
     v.waiting-next.ensures
     ∙ waiting_kept x.seat Second _ (message_in x) _ x.root _ [] x.len 0 _ refl (sym (held e)) refl refl refl
-    ∙ ap (at-second x.seat (message_in x) x.root []) (map v)
+    ∙ ap (at_second x.seat (message_in x) x.root []) (map v)
 
 -- a party that is not happy: the buffer is as it was, and what is sent goes by what was taken
 abbrev Waits : Else-happy → After-waiting-next
@@ -212,7 +212,7 @@ abbrev K : After-put → In-At-2
 K p = (Path p).before.before
 
 abbrev O : After-write-answer → List ℕ
-O w = w.write-answer.new.1.1.1.1.1.0
+O w = w.write-answer.new.out
 
 asked : (w : After-write-answer) → let k = K (P (W w)) in let st = Entry (E (D k)) in
     gave w.write-answer.result (O w)
@@ -248,7 +248,7 @@ wrote w =
 
 -- the state that waits for the second inbox with the share
 holds : (v : After-waiting-holding) → let k = K (P v) in v.waiting-holding.result ≡ Next (Entry (E (D k))) (Y k)
-unfolding at-second
+unfolding at_second
 holds v =
     let p = P v in
     let k = K p in
@@ -257,7 +257,7 @@ holds v =
     ∙ waiting_kept x.seat Second _ (message_in x) _ x.root _ (Y k) x.len (L k) _ refl (sym (held (E (D k)))) refl
     (p.put.ensures.1 ∙ ap (put_of (replicate max_share 0) 0) (part k) ∙ put-padded max_share (Y k) (omega (arith, size k, (got k).most)))
     (sym (size k))
-    ∙ ap (at-second x.seat (message_in x) x.root (Y k)) (map (Waits (D k)))
+    ∙ ap (at_second x.seat (message_in x) x.root (Y k)) (map (Waits (D k)))
 
 pub returns-then-cause-ne0 : goal.returns-then-cause-ne0
 returns-then-cause-ne0 c =
@@ -300,7 +300,7 @@ returns-in_default c =
 
 pub overflow_add-end : goal.overflow_add-end
 overflow_add-end c =
-    omega (arith, (got c.before.before).inside, (Entry (E (D c.before.before))).well-formed.1.0.0)
+    omega (arith, (got c.before.before).inside, (Entry (E (D c.before.before))).well_formed.1.0.0)
 
 pub slice_bounds-put-end-2 : goal.slice_bounds-put-end-2
 slice_bounds-put-end-2 c = omega (arith, (got c.before.before.before.before).inside)
