@@ -11,10 +11,10 @@ abbrev number : Checked → ℕ
 number r = check_answer (checked r).cause (checked r).passed
 
 pub returns-in-Refused : goal.returns-in-Refused
-returns-in-Refused c = c.pack.ensures ∙ sym (ap number c.answer-1.given.1)
+returns-in-Refused c = c.pack.ensures ∙ sym (ap number c.in-Refused.is)
 
 pub returns-in-No : goal.returns-in-No
-returns-in-No c = c.pack-in-No.ensures ∙ sym (ap number c.enum_told-1.given.1)
+returns-in-No c = c.pack-in-No.ensures ∙ sym (ap number c.in-No.is)
 
 pub returns-in-Yes : goal.returns-in-Yes
-returns-in-Yes c = c.pack-in-Yes.ensures ∙ sym (ap number c.enum_told-in-Yes-1.given.1)
+returns-in-Yes c = c.pack-in-Yes.ensures ∙ sym (ap number c.in-Yes.is)

@@ -18,8 +18,8 @@ use Rattle.capi.proofs.cipangohu_read_message.Goals as goal
 abbrev After-read_message : Type 0
 After-read_message = lts.After-read_message tie.the-claims reads.Pre reads.Post
 
-abbrev In-Message-2 : Type 0
-In-Message-2 = lts.After-len tie.the-claims reads.Pre reads.Post
+abbrev In-Message : Type 0
+In-Message = lts.Past-After-known_told2 tie.the-claims reads.Pre reads.Post
 
 abbrev P : After-read_message → List ℕ
 P r = r.args.packet.now
@@ -33,25 +33,25 @@ unfolding read_message_call
 told r x e = ap message_answer (sym e ∙ answer r)
 
 -- a message that was read is no longer than any
-short : (k : In-Message-2) → k.len-1.given.0.0 ≤ max_message
+short : (k : In-Message) → k.in-Message.len ≤ max_message
 short k =
-    let m = placed-message (read_message (P k.before.before)) k.len-1.given.0.0 (sym (answer k.before.before) ∙ k.len-1.given.1) in
-    omega (arith, m.2, read_length (P k.before.before) m.0 m.1)
+    let m = placed-message (read_message (P k.before)) k.in-Message.len (sym (answer k.before) ∙ k.in-Message.is) in
+    omega (arith, m.2, read_length (P k.before) m.0 m.1)
 
 pub overflow_add-len : goal.overflow_add-len
-overflow_add-len c = omega (arith, short c.before.before)
+overflow_add-len c = omega (arith, short c.before)
 
 pub pack-requires-in-Message : goal.pack-requires-in-Message
-pack-requires-in-Message c = omega (arith, short c.before.before)
+pack-requires-in-Message c = omega (arith, short c.before)
 
 pub returns-in-Refused : goal.returns-in-Refused
 returns-in-Refused c =
-    c.pack.ensures ∙ told c.before.before.before.before.before (whole.Refused c.cause-1.given.0.0) c.cause-1.given.1
+    c.pack.ensures ∙ told c.before.before.before (whole.Refused c.in-Refused.cause) c.in-Refused.is
 
 pub returns-in-Silence : goal.returns-in-Silence
 returns-in-Silence c =
-    c.pack-in-Silence.ensures ∙ told c.before.before.before.before whole.Silence c.enum_told-1.given.1
+    c.pack-in-Silence.ensures ∙ told c.before.before.before whole.Silence c.in-Silence.is
 
 pub returns-in-Message : goal.returns-in-Message
 returns-in-Message c =
-    c.pack-in-Message.ensures ∙ told c.before.before.before.before.before (whole.Message c.len-1.given.0.0) c.len-1.given.1
+    c.pack-in-Message.ensures ∙ told c.before.before.before (whole.Message c.in-Message.len) c.in-Message.is

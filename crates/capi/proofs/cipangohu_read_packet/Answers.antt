@@ -10,11 +10,11 @@ use Rattle.capi.proofs.cipangohu_read_packet.Tie as tie
 use Rattle.capi.proofs.cipangohu_read_packet.Goals as goal
 
 -- Places of the code that the helpers below speak of.
-abbrev In-Share-2 : Type 0
-In-Share-2 = lts.After-reading2 tie.the-claims reads.Pre reads.Post
+abbrev In-Share : Type 0
+In-Share = lts.Past-After-known_told2 tie.the-claims reads.Pre reads.Post
 
 -- a share's parts are within their limits
-parts : (k : In-Share-2) → Parts k.reading-in-Share-1.given.0.0 k.reading-in-Share-1.given.0.1.1.0 k.reading-in-Share-1.given.0.1.1.1.0
+parts : (k : In-Share) → Parts k.in-Share.number k.in-Share.len k.in-Share.count
 parts k =
     let a = k.args in
     let g = k.reading-in-Share-1.given in
@@ -22,28 +22,28 @@ parts k =
 
 pub returns-in-Refused : goal.returns-in-Refused
 unfolding read_packet_call
-returns-in-Refused c = c.pack.ensures ∙ sym (ap read_answer (sym (told-one c.read_at-reading.ensures) ∙ c.reading-1.given.1))
+returns-in-Refused c = c.pack.ensures ∙ sym (ap read_answer (sym (told-one c.read_at-reading.ensures) ∙ c.in-Refused.is))
 
 pub returns-in_default-reading : goal.returns-in_default-reading
 unfolding read_packet_call
 returns-in_default-reading c = c.pack-in_default-reading.ensures
-    ∙ sym (ap read_answer (sym (told-one c.read_at-reading.ensures)) ∙ read-silent c.read_at-reading.result c.in_default.keys2 c.in_default-reading.keys2)
+    ∙ sym (ap read_answer (sym (told-one c.read_at-reading.ensures)) ∙ read-silent c.read_at-reading.result c.in_default.in_default-own.keys2 c.in_default-reading.in_default-reading-own.keys2)
 
 pub overflow_mul-count : goal.overflow_mul-count
-overflow_mul-count c = omega (arith, parts c.before.before)
+overflow_mul-count c = omega (arith, parts c.before)
 
 pub overflow_mul-number : goal.overflow_mul-number
-overflow_mul-number c = omega (arith, parts c.before.before)
+overflow_mul-number c = omega (arith, parts c.before)
 
 pub overflow_add-count : goal.overflow_add-count
-overflow_add-count c = omega (arith, parts c.before.before)
+overflow_add-count c = omega (arith, parts c.before)
 
 pub overflow_add-count-2 : goal.overflow_add-count-2
-overflow_add-count-2 c = omega (arith, parts c.before.before)
+overflow_add-count-2 c = omega (arith, parts c.before)
 
 pub pack-requires-2 : goal.pack-requires-2
-pack-requires-2 c = omega (arith, parts c.before.before)
+pack-requires-2 c = omega (arith, parts c.before)
 
 pub returns : goal.returns
 unfolding read_packet_call
-returns c = c.pack-2.ensures ∙ sym (ap read_answer (sym (told-one c.read_at-reading.ensures) ∙ c.reading-in-Share-1.given.1))
+returns c = c.pack-2.ensures ∙ sym (ap read_answer (sym (told-one c.read_at-reading.ensures) ∙ c.in-Share.is))

@@ -4,4 +4,4 @@ use Rattle.merkle.specs.Answer.{check_cause}
 use Rattle.capi.proofs.denied.Goals as goal
 
 pub returns-in-Refused : goal.returns-in-Refused
-returns-in-Refused c = (sym (ap check_cause c.answer-1.given.1), refl)
+returns-in-Refused c = (sym (ap check_cause c.in-Refused.is), refl)

@@ -12,28 +12,28 @@ use Rattle.capi.proofs.length_answer.Tie as tie
 use Rattle.capi.proofs.length_answer.Goals as goal
 
 -- Places of the code that the helpers below speak of.
-abbrev In-Message-2 : Type 0
-In-Message-2 = lts.After-outcome tie.the-claims reads.Pre reads.Post
+abbrev In-Message : Type 0
+In-Message = lts.Past-After-known_told2 tie.the-claims reads.Pre reads.Post
 
 abbrev Start : Type 0
 Start = lts.Start tie.the-claims reads.Pre reads.Post
 
 -- an end with a message, once both are known
-abbrev Entry : In-Message-2 → Start
-Entry u = u.before.before.before.before.before
+abbrev Entry : In-Message → Start
+Entry u = u.before.before
 
-settled : (u : In-Message-2) → (Entry u).args.stage ≡ Ended (outcome.Message u.outcome-1.given.0.0)
-settled u = u.stage-1.given.1 ∙ ap Ended u.outcome-1.given.1
+settled : (u : In-Message) → (Entry u).args.stage ≡ Ended (outcome.Message u.in-Message.len)
+settled u = u.in-Ended.is ∙ ap Ended u.in-Message.is
 
 pub returns-in_default : goal.returns-in_default
-returns-in_default c = c.pack.ensures ∙ sym (waits c.args.stage c.in_default.keys2)
+returns-in_default c = c.pack.ensures ∙ sym (waits c.args.stage c.in_default.in_default-own.keys2)
 
 pub returns-in_default-outcome : goal.returns-in_default-outcome
 returns-in_default-outcome c = c.pack-in_default-outcome.ensures
-    ∙ sym (ap length_answer c.stage-1.given.1 ∙ ap (λ (o : Outcome). length_answer (Ended o)) c.enum_told-1.given.1)
+    ∙ sym (ap length_answer c.in-Ended.is ∙ ap (λ (o : Outcome). length_answer (Ended o)) c.in_default-outcome.is)
 
 pub pack-requires-2 : goal.pack-requires-2
-pack-requires-2 c = omega (arith, length-fits _ c.outcome-1.given.0.0 (Entry c.before).requires (settled c.before))
+pack-requires-2 c = omega (arith, length-fits _ c.in-Message.len (Entry c).requires (settled c))
 
 pub returns : goal.returns
-returns c = c.pack-2.ensures ∙ sym (ap length_answer (settled c.before.before))
+returns c = c.pack-2.ensures ∙ sym (ap length_answer (settled c.before))

@@ -12,7 +12,7 @@ abbrev shows : Answer → ℕ
 shows a = value_shown (result_given a []) (faulty_given a) (value_of a)
 
 pub returns-in-Nothing : goal.returns-in-Nothing
-returns-in-Nothing c = sym (ap shows c.answer-in-Nothing-1.given.1)
+returns-in-Nothing c = sym (ap shows c.in-Nothing.is)
 
 pub returns-in-Message : goal.returns-in-Message
-returns-in-Message c = sym (ap shows c.answer-in-Message-1.given.1)
+returns-in-Message c = sym (ap shows c.in-Message.is)

@@ -45,18 +45,18 @@ answer d = ap (λ (g : Given). g.answer) (d.encode.ensures ∙ all (Entry d))
 
 pub returns-in_default : goal.returns-in_default
 returns-in_default c =
-    absurd (not_done c.encode.result (length (S (Entry c.before.before.before.before))) (answer c.before.before.before.before) c.in_default.keys2)
+    absurd (not_done c.encode.result (length (S (Entry c.before.before.before.before))) (answer c.before.before.before.before) c.in_default.in_default-own.keys2)
 
 pub returns : goal.returns
 returns c =
-    let s = Entry c.before.before.before.before.before.before in
+    let s = Entry c.before.before.before.before in
     let n = s.args.n in
     let each = share_length (n - s.args.t) (length (M s)) in
-    let size : c.size-1.given.0.0 ≡ length (S s) = cc (c.size-1.given.1, answer c.before.before.before.before.before.before) in
-    let whole : c.size-1.given.0.0 ≡ n * each = size ∙ length-shares n (n - s.args.t) (M s) in
-    let one = one_of n each c.size-1.given.0.0 s.requires.0.low whole in (
+    let size : c.in-Done.size ≡ length (S s) = cc (c.in-Done.is, answer c.before.before.before.before) in
+    let whole : c.in-Done.size ≡ n * each = size ∙ length-shares n (n - s.args.t) (M s) in
+    let one = one_of n each c.in-Done.size s.requires.0.low whole in (
       omega (arith, whole, shares-bound n s.args.t (length (M s)) s.requires.0.faults s.requires.0.high s.requires.0.short),
-      ap (λ (g : Given). take c.size-1.given.0.0 g.buffer) (c.encode.ensures ∙ all s)
+      ap (λ (g : Given). take c.in-Done.size g.buffer) (c.encode.ensures ∙ all s)
           ∙ ap (λ (k : ℕ). take k (spliced (Room s) 0 (S s))) size ∙ take-spliced (Room s) (S s),
       one,
       whole ∙ ap (λ (k : ℕ). n * k) (sym one),

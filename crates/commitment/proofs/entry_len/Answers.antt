@@ -16,7 +16,7 @@ use Rattle.commitment.proofs.entry_len.Goals as goal
 
 -- Places of the code that the helpers below speak of.
 abbrev In-Hashes : Type 0
-In-Hashes = lts.After-known_told tie.the-claims reads.Pre reads.Post
+In-Hashes = lts.Past-After-known_told tie.the-claims reads.Pre reads.Post
 
 abbrev Start : Type 0
 Start = lts.Start tie.the-claims reads.Pre reads.Post
@@ -28,17 +28,17 @@ returns-then-j-own c =
 
 pub returns-in_default : goal.returns-in_default
 returns-in_default c =
-    absurd (never-refused _ _ (omega arith) (omega arith) (omega arith) (omega arith) _ c.path_length.ensures _ c.enum_told-1.given.1)
+    absurd (never-refused _ _ (omega arith) (omega arith) (omega arith) (omega arith) _ c.path_length.ensures _ c.in_default.is)
 
 -- the function's entry, from where the path's length is known
 abbrev Entry : In-Hashes → Start
-Entry q = q.before.before.before.before.before
+Entry q = q.before.before.before
 
 hashes : (q : In-Hashes) → let a = (Entry q).args in
-    (q.count-1.given.0.0 ≡ length (sides_of a.n a.j)) × (length (sides_of a.n a.j) ≤ max_path)
+    (q.in-Hashes.count ≡ length (sides_of a.n a.j)) × (length (sides_of a.n a.j) ≤ max_path)
 hashes q =
     let a = (Entry q).args in
-    let h = count-hashes _ _ (omega arith) (omega arith) _ q.path_length.ensures _ q.count-1.given.1 in
+    let h = count-hashes _ _ (omega arith) (omega arith) _ q.path_length.ensures _ q.in-Hashes.is in
     (h.2, sides-fit a.n (a.j - 1) (omega arith) (omega arith))
 
 pub overflow_mul-result : goal.overflow_mul-result

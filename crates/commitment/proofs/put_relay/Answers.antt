@@ -44,11 +44,11 @@ returns-then-n-eq1 c =
 
 pub returns-in_default : goal.returns-in_default
 returns-in_default c =
-    absurd (never-refused _ _ (omega arith) (omega arith) (omega arith) (omega arith) _ c.path_length.ensures _ c.enum_told-1.given.1)
+    absurd (never-refused _ _ (omega arith) (omega arith) (omega arith) (omega arith) _ c.path_length.ensures _ c.in_default.is)
 
 -- the function's entry, and the own share within the shares
 abbrev Entry : After-path_in-path → Start
-Entry p = p.before.before.before.before.before.before.before.before
+Entry p = p.before.before.before.before.before.before
 
 inside : (p : After-path_in-path) → let a = (Entry p).args in (a.seat.own - 1) * a.len + a.len ≤ length a.shares.now
 inside p = let a = (Entry p).args in omega (arith, share-inside a.seat.n a.seat.own a.len (omega arith) (omega arith))
@@ -67,8 +67,8 @@ returns c =
     let st = Entry c.before.before.before.before.before.before in
     let a = st.args in
     let out = a.out.now in
-    let count = c.count-1.given.0.0 in
-    let h = count-hashes a.seat.n a.seat.own (omega arith) (omega arith) _ c.path_length.ensures count c.count-1.given.1 in
+    let count = c.in-Hashes.count in
+    let h = count-hashes a.seat.n a.seat.own (omega arith) (omega arith) _ c.path_length.ensures count c.in-Hashes.is in
     let from = (a.seat.own - 1) * a.len in
     let share = take a.len (drop from a.shares.now) in
     let way = path_of sha256 a.seat.n a.seat.own a.leaves.now in

@@ -37,8 +37,8 @@ Else-cause-ne0 = lts.Else1 tie.the-claims reads.Pre reads.Post
 abbrev After-rebuild-answer : Type 0
 After-rebuild-answer = lts.After-rebuild tie.the-claims reads.Pre reads.Post
 
-abbrev In-Done-2 : Type 0
-In-Done-2 = lts.After-answer tie.the-claims reads.Pre reads.Post
+abbrev In-Done : Type 0
+In-Done = lts.Past-After-known_told tie.the-claims reads.Pre reads.Post
 
 abbrev After-same : Type 0
 After-same = lts.After-same tie.the-claims reads.Pre reads.Post
@@ -62,14 +62,14 @@ told d =
     let st = Entry d in
     d.rebuild-answer.ensures ∙ rebuild-entries st.args.n st.args.t st.args.entries.now _ (fine d.before.before.before.before)
 
-found : (k : In-Done-2) → let l = k.answer-1.given.0.0 in
-    (Found (Entry k.before.before.before) ≡ message (take l (O k.before.before.before))) × (l ≤ max_message) × (l ≤ length (O k.before.before.before))
+found : (k : In-Done) → let l = k.in-Done.len in
+    (Found (Entry k.before.before) ≡ message (take l (O k.before.before))) × (l ≤ max_message) × (l ≤ length (O k.before.before))
 found k =
-    answer-found (O k.before.before.before) k.blank_message-message.result k.rebuild-answer.result k.blank_message-message.ensures (Found (Entry k.before.before.before))
-    (short-entries _ _ _) (told k.before.before.before) k.answer-1.given.0.0 k.answer-1.given.1
+    answer-found (O k.before.before) k.blank_message-message.result k.rebuild-answer.result k.blank_message-message.ensures (Found (Entry k.before.before))
+    (short-entries _ _ _) (told k.before.before) k.in-Done.len k.in-Done.is
 
-exact : (k : In-Done-2) → let l = k.answer-1.given.0.0 in length (take l (O k.before.before.before)) ≡ l
-exact k = length-take-le k.answer-1.given.0.0 (O k.before.before.before) (found k).2
+exact : (k : In-Done) → let l = k.in-Done.len in length (take l (O k.before.before)) ≡ l
+exact k = length-take-le k.in-Done.len (O k.before.before) (found k).2
 
 -- what the form with a root makes of what was found
 rooted : (d : After-rebuild-answer) → let a = (Entry d).args in rebuild_with_root_of sha256 a.session a.n a.t a.given.now a.entries.now a.out.now
@@ -79,30 +79,30 @@ rooted d =
     with-root-entries a.n a.t a.entries.now a.out.now sha256 a.session a.given.now (fine d.before.before.before.before) d.if-given-ne32.false
 
 -- the two roots are compared byte by byte
-abbrev Coded : After-same → In-Done-2
-Coded c = c.before.before.before.before.before.before
+abbrev Coded : After-same → In-Done
+Coded c = c.before.before.before.before.before
 
 abbrev Message : After-same → List ℕ
-Message c = take (Coded c).answer-1.given.0.0 (O (Coded c).before.before.before)
+Message c = take (Coded c).in-Done.len (O (Coded c).before.before)
 
-compared : (c : After-same) → let a = (Entry (Coded c).before.before.before).args in
+compared : (c : After-same) → let a = (Entry (Coded c).before.before).args in
     c.same.result ≡ same (message_root sha256 a.session a.n a.t (Message c)) a.given.now
 compared c =
     let k = Coded c in
-    let a = (Entry k.before.before.before).args in
-    let g = fine k.before.before.before.before.before.before.before in
+    let a = (Entry k.before.before).args in
+    let g = fine k.before.before.before.before.before.before in
     same-is c.root.result.root a.given.now c.same.result c.same.ensures.0 c.same.ensures.1
     ∙ ap (λ (o : Rooted). same o.root a.given.now)
     (c.root.ensures ∙ rooted-given sha256 a.session a.n a.t 1 (Message c)
     (open-fine a.n a.t 1 (length (Message c)) g (omega arith) (group_of a.n a.t g).low (omega (arith, exact k, (found k).1))))
 
 -- so what was found is taken, or it is cause 15
-judged : (c : After-same) → let a = (Entry (Coded c).before.before.before).args in
+judged : (c : After-same) → let a = (Entry (Coded c).before.before).args in
     rebuild_with_root_of sha256 a.session a.n a.t a.given.now a.entries.now a.out.now
     ≡ answered (cond c.same.result (message (Message c)) (cause 15)) a.out.now
 judged c =
-    let a = (Entry (Coded c).before.before.before).args in
-    rooted (Coded c).before.before.before ∙ ap (λ (f : Recovered). answered (under_root sha256 a.session a.n a.t a.given.now f) a.out.now) (found (Coded c)).0
+    let a = (Entry (Coded c).before.before).args in
+    rooted (Coded c).before.before ∙ ap (λ (f : Recovered). answered (under_root sha256 a.session a.n a.t a.given.now f) a.out.now) (found (Coded c)).0
     ∙ ap (λ (b : Bool). answered (cond b (message (Message c)) (cause 15)) a.out.now) (sym (compared c))
 
 pub returns-then-cause-ne0 : goal.returns-then-cause-ne0
@@ -121,15 +121,15 @@ pub returns-in_default : goal.returns-in_default
 returns-in_default c =
     let a = (Entry c.before.before.before).args in
     let k = answer-cause (O c.before.before.before) c.blank_message-message.result c.rebuild-answer.result c.blank_message-message.ensures (Found (Entry c.before.before.before))
-    (short-entries _ _ _) (told c.before.before.before) c.in_default.keys2 in
+    (short-entries _ _ _) (told c.before.before.before) c.in_default.in_default-own.keys2 in
     ap (λ (r : Written). gave r a.out.now) k.2
     ∙ sym (rooted c.before.before.before ∙ ap (λ (f : Recovered). answered (under_root sha256 a.session a.n a.t a.given.now f) a.out.now) k.1)
 
 pub slice_bounds-message-end : goal.slice_bounds-message-end
-slice_bounds-message-end c = (found c.before.before).2
+slice_bounds-message-end c = (found c.before).2
 
 pub slice_bounds-root-end : goal.slice_bounds-root-end
-slice_bounds-root-end c = sym (exact c.before.before.before)
+slice_bounds-root-end c = sym (exact c.before.before)
 
 pub slice_bounds-message-end-then-same : goal.slice_bounds-message-end-then-same
 slice_bounds-message-end-then-same c = (found (Coded c.before.before)).2
@@ -139,11 +139,11 @@ slice_bounds-give-end c = sym (exact (Coded c.before.before.before))
 
 pub returns-then-same : goal.returns-then-same
 returns-then-same c =
-    let a = (Entry (Coded c.before.before.before.before.before.before.before).before.before.before).args in
+    let a = (Entry (Coded c.before.before.before.before.before.before.before).before.before).args in
     c.give.ensures
     ∙ sym (judged c.before.before.before.before.before.before.before ∙ ap (λ (b : Bool). answered (cond b (message (Message c.before.before.before.before.before.before.before)) (cause 15)) a.out.now) c.if-same.true)
 
 pub returns : goal.returns
 returns c =
-    let a = (Entry (Coded c.before.before).before.before.before).args in
+    let a = (Entry (Coded c.before.before).before.before).args in
     sym (judged c.before.before ∙ ap (λ (b : Bool). answered (cond b (message (Message c.before.before)) (cause 15)) a.out.now) c.if-same.false)

@@ -45,11 +45,11 @@ returns-then-j-own c =
 
 pub returns-in_default : goal.returns-in_default
 returns-in_default c =
-    absurd (never-refused _ _ (omega arith) (omega arith) (omega arith) (omega arith) _ c.path_length.ensures _ c.enum_told-1.given.1)
+    absurd (never-refused _ _ (omega arith) (omega arith) (omega arith) (omega arith) _ c.path_length.ensures _ c.in_default.is)
 
 -- the function's entry, from where the packet writer has answered
 abbrev Entry : After-write_entry → Start
-Entry w = w.before.before.before.before.before.before.before.before.before.before
+Entry w = w.before.before.before.before.before.before.before.before
 
 -- what the packet writer gave
 wrote : (w : After-write_entry) → let st = Entry w in
@@ -57,8 +57,8 @@ wrote : (w : After-write_entry) → let st = Entry w in
     ≡ gave (Done (length (bytes st))) (spliced st.args.out.now 0 (bytes st))
 wrote w =
     let a = (Entry w).args in
-    let count = w.count-1.given.0.0 in
-    let h = count-hashes a.n a.j (omega arith) (omega arith) _ w.path_length.ensures count w.count-1.given.1 in
+    let count = w.in-Hashes.count in
+    let h = count-hashes a.n a.j (omega arith) (omega arith) _ w.path_length.ensures count w.in-Hashes.is in
     w.write_entry.ensures
     ∙ ap (λ (l : List (List ℕ)). write_entry_of a.n a.j a.share.now l count a.out.now)
     (w.path_in-path.ensures ∙ ap (path_in a.n a.j a.leaves.now) (Entry w).requires.6 ∙ path-read sha256 a.n a.j a.leaves.now)
@@ -67,10 +67,10 @@ wrote w =
 
 pub returns-in_default-write_entry : goal.returns-in_default-write_entry
 returns-in_default-write_entry c =
-    absurd (not_done c.write_entry.result (length (bytes (Entry c.before.before.before.before))) (ap (λ (g : Given). g.answer) (wrote c.before.before.before.before)) c.in_default-write_entry.keys2)
+    absurd (not_done c.write_entry.result (length (bytes (Entry c.before.before.before.before))) (ap (λ (g : Given). g.answer) (wrote c.before.before.before.before)) c.in_default-write_entry.in_default-write_entry-own.keys2)
 
 pub returns : goal.returns
 returns c = (
-  ap value_of (sym c.size-1.given.1 ∙ ap (λ (g : Given). g.answer) (wrote c.before.before.before.before.before.before)),
-  ap (λ (g : Given). g.buffer) (wrote c.before.before.before.before.before.before),
+  ap value_of (sym c.in-Done.is ∙ ap (λ (g : Given). g.answer) (wrote c.before.before.before.before)),
+  ap (λ (g : Given). g.buffer) (wrote c.before.before.before.before),
 )

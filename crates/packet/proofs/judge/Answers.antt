@@ -70,28 +70,28 @@ returns-then-root-ne32 c =
     ap verdict (sym (judge-root sha256 _ _ _ _ _ _ w.0 w.1 p.0 p.1 c.if-root-ne32.true))
 
 pub returns-in-Silence : goal.returns-in-Silence
-returns-in-Silence c = given c.before.before.before _ (ap (On c.before.before.before) c.enum_told-1.given.1)
+returns-in-Silence c = given c.before.before _ (ap (On c.before.before) c.in-Silence.is)
 
 pub returns-in_default-packet : goal.returns-in_default-packet
 returns-in_default-packet c =
     let a = (Entry c.before.before.before).args in
-    given c.before.before.before _ (on-refused sha256 a.session a.n a.j a.root.now a.s.now (X c.before.before.before) c.in_default.keys2 c.in_default-packet.keys2)
+    given c.before.before.before _ (on-refused sha256 a.session a.n a.j a.root.now a.s.now (X c.before.before.before) c.in_default.in_default-own.keys2 c.in_default-packet.in_default-packet-own.keys2)
 
 pub returns-then-number-j : goal.returns-then-number-j
 returns-then-number-j c =
-    let a = (Entry c.before.before.before.before.before.before).args in
+    let a = (Entry c.before.before.before.before).args in
     let g = c.packet-1.given.0 in
-    given c.before.before.before.before.before.before _ (ap (On c.before.before.before.before.before.before) c.packet-1.given.1
+    given c.before.before.before.before _ (ap (On c.before.before.before.before) c.in-Share.is
     ∙ on-other sha256 a.session a.n a.j a.root.now a.s.now g.1.0 g.1.1.0 g.1.1.1.0 g.0 c.if-number-j.true)
 
 pub judge_share-requires : goal.judge_share-requires
 judge_share-requires c =
-    let w = range c.before.before.before.before.before.before.before.before.before in
-    let p = place c.before.before.before.before.before.before.before in
+    let w = range c.before.before.before.before.before.before.before in
+    let p = place c.before.before.before.before.before in
     (w.0, w.1, p.0, p.1, c.if-root-ne32.false)
 
 pub returns : goal.returns
 returns c =
     let g = c.packet-1.given.0 in
-    given c.before.before.before.before.before.before.before _ (ap (On c.before.before.before.before.before.before.before) c.packet-1.given.1
-    ∙ ap (λ (i : ℕ). On c.before.before.before.before.before.before.before (Share i g.1.0 g.1.1.0 g.1.1.1.0)) c.if-number-j.false ∙ sym c.judge_share.ensures)
+    given c.before.before.before.before.before _ (ap (On c.before.before.before.before.before) c.in-Share.is
+    ∙ ap (λ (i : ℕ). On c.before.before.before.before.before (Share i g.1.0 g.1.1.0 g.1.1.1.0)) c.if-number-j.false ∙ sym c.judge_share.ensures)

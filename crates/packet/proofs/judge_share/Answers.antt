@@ -114,12 +114,12 @@ returns-then-s-from-2 c =
 
 pub returns-in-Yes : goal.returns-in-Yes
 returns-in-Yes c =
-    let a = (Entry c.before.before.before).args in
+    let a = (Entry c.before.before).args in
     sym (on-valid sha256 a.session a.n a.j a.root.now a.s.now a.place.from a.place.len a.place.count (omega arith) (omega arith)
-    (told-true c.check.result (Leads c.before.before.before) (answer c.before.before.before) c.enum_told-1.given.1))
+    (told-true c.check.result (Leads c.before.before) (answer c.before.before) c.in-Yes.is))
 
 pub returns : goal.returns
 returns c =
     let a = (Entry c.before.before).args in
     sym (on-failed sha256 a.session a.n a.j a.root.now a.s.now a.place.from a.place.len a.place.count
-    (told-false c.check.result (Leads c.before.before) (answer c.before.before) c.in_default.keys2))
+    (told-false c.check.result (Leads c.before.before) (answer c.before.before) c.in_default.in_default-own.keys2))

@@ -28,8 +28,8 @@ Start = lts.Start tie.the-claims reads.Pre reads.Post
 abbrev After-path_length : Type 0
 After-path_length = lts.After-path_length tie.the-claims reads.Pre reads.Post
 
-abbrev In-Hashes-2 : Type 0
-In-Hashes-2 = lts.After-count tie.the-claims reads.Pre reads.Post
+abbrev In-Hashes : Type 0
+In-Hashes = lts.Past-After-known_told tie.the-claims reads.Pre reads.Post
 
 -- the function's entry, from where the share's length is known
 abbrev Entry : After-size_at-stated → Start
@@ -53,17 +53,17 @@ stated d = let a = (Entry d).args in length_at a.s.now a.at ∙ sym d.size_at-st
 abbrev D : After-path_length → After-size_at-stated
 D a = a.before.before.before
 
-counted : (k : In-Hashes-2) → let d = D k.before.before in
+counted : (k : In-Hashes) → let d = D k.before in
     (1 ≤ d.wide-number.result) × (d.wide-number.result ≤ (Entry d).args.n)
-    × (k.count-1.given.0.0 ≡ length (sides_of (Entry d).args.n d.wide-number.result))
+    × (k.in-Hashes.count ≡ length (sides_of (Entry d).args.n d.wide-number.result))
 counted k =
-    let d = D k.before.before in
+    let d = D k.before in
     let st = Entry d in
-    count-hashes st.args.n d.wide-number.result st.requires.0 st.requires.1 _ k.path_length.ensures _ k.count-1.given.1
+    count-hashes st.args.n d.wide-number.result st.requires.0 st.requires.1 _ k.path_length.ensures _ k.in-Hashes.is
 
-few : (k : In-Hashes-2) → k.count-1.given.0.0 ≤ max_path
+few : (k : In-Hashes) → k.in-Hashes.count ≤ max_path
 few k =
-    let d = D k.before.before in
+    let d = D k.before in
     let st = Entry d in
     let h = counted k in
     omega (arith, h, sides-fit st.args.n (d.wide-number.result - 1) st.requires.1 (omega (arith, h)))
@@ -84,33 +84,33 @@ returns-then-stated-gt-MAX_SHARE c =
 
 pub returns-in_default : goal.returns-in_default
 returns-in_default c =
-    let d = D c.before.before.before in
+    let d = D c.before.before in
     let st = Entry d in
     let none : numbered st.args.n d.wide-number.result ≡ false =
-    count-refused st.args.n d.wide-number.result st.requires.0 st.requires.1 _ c.path_length.ensures _ c.enum_told-1.given.1 in
+    count-refused st.args.n d.wide-number.result st.requires.0 st.requires.1 _ c.path_length.ensures _ c.in_default.is in
     sym (ap (placed st.args.at) (share-unnumbered st.args.n (P st) (ap (numbered st.args.n) (number d) ∙ none)))
 
 pub overflow_mul-count : goal.overflow_mul-count
-overflow_mul-count c = let h = few c.before.before in search rules
+overflow_mul-count c = let h = few c.before in search rules
 
 pub overflow_add-stated-2 : goal.overflow_add-stated-2
-overflow_add-stated-2 c = let h = few c.before.before in search rules
+overflow_add-stated-2 c = let h = few c.before in search rules
 
 pub returns-then-size-stated : goal.returns-then-size-stated
 returns-then-size-stated c =
-    let d = D c.before.before.before.before.before in
+    let d = D c.before.before.before in
     let st = Entry d in
-    let h = counted c.before.before.before in
-    let e : count_in st.args.n (P st) ≡ c.count-1.given.0.0 =
+    let h = counted c.before.before in
+    let e : count_in st.args.n (P st) ≡ c.in-Hashes.count =
     ap (λ (j : ℕ). length (sides_of st.args.n j)) (number d) ∙ sym h.2 in
     sym (ap (placed st.args.at) (share-misfit st.args.n (P st)
     (λ q. c.if-size-stated.true (sym (long st) ∙ q ∙ ap₂ (λ (x y : ℕ). 4 + x + 32 * y) (stated d) e))))
 
 pub returns : goal.returns
 returns c =
-    let d = D c.before.before.before.before.before in
+    let d = D c.before.before.before in
     let st = Entry d in
-    let h = counted c.before.before.before in
-    sym (placed-told st.args.n (P st) st.args.at d.wide-number.result d.size_at-stated.result c.count-1.given.0.0
+    let h = counted c.before.before in
+    sym (placed-told st.args.n (P st) st.args.at d.wide-number.result d.size_at-stated.result c.in-Hashes.count
     (number d) (stated d) (sym h.2) (omega (arith, long st)) h.0 h.1 (omega arith) (omega arith)
     (long st ∙ c.if-size-stated.false))

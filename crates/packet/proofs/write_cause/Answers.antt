@@ -19,7 +19,7 @@ abbrev Else-not-parties : Type 0
 Else-not-parties = lts.Else1 tie.the-claims reads.Pre reads.Post
 
 abbrev In-Hashes : Type 0
-In-Hashes = lts.After-known_told tie.the-claims reads.Pre reads.Post
+In-Hashes = lts.Past-After-known_told tie.the-claims reads.Pre reads.Post
 
 -- n is within its range
 range : (e : Else-not-parties) → let a = e.args in (1 ≤ a.n) × (a.n ≤ max_parties)
@@ -30,19 +30,19 @@ returns-then-not-parties c = sym (cause-parties _ _ _ _ (denied c.parties.ensure
 
 pub returns-in_default : goal.returns-in_default
 returns-in_default c =
-    let r = range c.before.before.before in
+    let r = range c.before.before in
     sym (cause-number _ _ _ _ r.0 r.1
-    (count-refused _ _ r.0 r.1 _ c.path_length.ensures _ c.enum_told-1.given.1))
+    (count-refused _ _ r.0 r.1 _ c.path_length.ensures _ c.in_default.is))
 
 -- where n is found to be within its range, from where the path's length is known
 abbrev Ranged : In-Hashes → Else-not-parties
-Ranged q = q.before.before.before.before
+Ranged q = q.before.before
 
 number : (q : In-Hashes) → let a = (Ranged q).args in
-    (1 ≤ a.number) × (a.number ≤ a.n) × (q.right-1.given.0.0 ≡ length (sides_of a.n a.number))
+    (1 ≤ a.number) × (a.number ≤ a.n) × (q.in-Hashes.right ≡ length (sides_of a.n a.number))
 number q =
     let r = range (Ranged q) in
-    count-hashes _ _ r.0 r.1 _ q.path_length.ensures _ q.right-1.given.1
+    count-hashes _ _ r.0 r.1 _ q.path_length.ensures _ q.in-Hashes.is
 
 pub returns-then-len-lt1 : goal.returns-then-len-lt1
 returns-then-len-lt1 c =

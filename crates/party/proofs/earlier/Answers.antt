@@ -7,8 +7,8 @@ use Rattle.party.proofs.earlier.Goals as goal
 pub returns-in-At : goal.returns-in-At
 returns-in-At c =
     let a = c.args in
-    sym (ap (λ (t : Placed). earlier_of t a.finding) c.taken-1.given.1)
+    sym (ap (λ (t : Placed). earlier_of t a.finding) c.in-At.is)
 
 pub returns-in-Valid : goal.returns-in-Valid
 returns-in-Valid c =
-    sym (ap₂ earlier_of c.enum_told-1.given.1 c.finding-1.given.1)
+    sym (ap₂ earlier_of c.in-Nowhere.is c.in-Valid.is)

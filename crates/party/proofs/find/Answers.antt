@@ -23,13 +23,13 @@ told j r e =
     ap {B = Finding} (λ (v : Judged). finding_of v a.packet) (sym e ∙ verdict-one j.judge.ensures)
 
 pub returns-in-Refused : goal.returns-in-Refused
-returns-in-Refused c = told c.before.before.before _ c.enum_told-1.given.1
+returns-in-Refused c = told c.before.before _ c.in-Refused.is
 
 pub returns-in-Silent : goal.returns-in-Silent
-returns-in-Silent c = told c.before.before.before _ c.enum_told-in-Silent-1.given.1
+returns-in-Silent c = told c.before.before _ c.in-Silent.is
 
 pub returns-in-Faulty : goal.returns-in-Faulty
-returns-in-Faulty c = told c.before.before.before _ c.enum_told-in-Faulty-1.given.1
+returns-in-Faulty c = told c.before.before _ c.in-Faulty.is
 
 pub returns-in-Valid : goal.returns-in-Valid
-returns-in-Valid c = c.place_of.ensures ∙ told c.before.before.before.before _ c.enum_told-in-Valid-1.given.1
+returns-in-Valid c = c.place_of.ensures ∙ told c.before.before.before _ c.in-Valid.is

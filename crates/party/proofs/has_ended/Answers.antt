@@ -4,4 +4,4 @@ use Rattle.party.proofs.Stages.{waits}
 use Rattle.party.proofs.has_ended.Goals as goal
 
 pub returns-in_default : goal.returns-in_default
-returns-in_default c = sym (waits c.args.stage c.in_default.keys2)
+returns-in_default c = sym (waits c.args.stage c.in_default.in_default-own.keys2)

@@ -4,7 +4,7 @@ use Rattle.party.proofs.Stages.{waits, waits-short}
 use Rattle.party.proofs.overlong.Goals as goal
 
 pub returns-in_default : goal.returns-in_default
-returns-in_default c = let s = c.args.stage in sym (waits-short s (waits s c.in_default.keys2))
+returns-in_default c = let s = c.args.stage in sym (waits-short s (waits s c.in_default.in_default-own.keys2))
 
 pub returns : goal.returns
 returns c = cc

@@ -4,4 +4,4 @@ use Rattle.party.specs.Private.{place_of}
 use Rattle.party.proofs.place_of.Goals as goal
 
 pub returns-in-Share : goal.returns-in-Share
-returns-in-Share c = sym (ap place_of c.packet-1.given.1)
+returns-in-Share c = sym (ap place_of c.in-Share.is)

@@ -35,8 +35,8 @@ After-holders-holders = lts.After-holders tie.the-claims reads.Pre reads.Post
 abbrev After-sender_of-source : Type 0
 After-sender_of-source = lts.After-sender_of tie.the-claims reads.Pre reads.Post
 
-abbrev In-At-2 : Type 0
-In-At-2 = lts.After-packets tie.the-claims reads.Pre reads.Post
+abbrev In-At : Type 0
+In-At = lts.Past-After-known_told tie.the-claims reads.Pre reads.Post
 
 abbrev After-places : Type 0
 After-places = lts.After-places tie.the-claims reads.Pre reads.Post
@@ -79,29 +79,29 @@ few : (c : After-size_at-good) → n_in (S c) ≤ max_parties
 few c = (group_of (n_in (S c)) (t_in (S c)) (Entry c).requires.group).high
 
 -- what was found behind the books
-abbrev Held : In-At-2 → After-holders-holders
-Held k = k.before.before.before
+abbrev Held : In-At → After-holders-holders
+Held k = k.before.before
 
 found : (c : After-places) (q : Behind) → c.places.result ≡ q → LaidAt q (S (Sized c.before))
 found c q e = subst (λ (r : Behind). LaidAt r (S (Sized c.before))) e c.places.ensures
 
-laid : (k : In-At-2) → let s = S (Sized (Held k)) in
-    (laid_out s ≡ true) × (k.packets-1.given.0.0 ≡ length s - length (behind_books s)) × (k.packets-1.given.0.1.0 ≡ exchange_at 0 s)
-laid k = found k.before.before (behind.At k.packets-1.given.0.0 k.packets-1.given.0.1.0) k.packets-1.given.1
+laid : (k : In-At) → let s = S (Sized (Held k)) in
+    (laid_out s ≡ true) × (k.in-At.packets ≡ length s - length (behind_books s)) × (k.in-At.exchanges ≡ exchange_at 0 s)
+laid k = found k.before (behind.At k.in-At.packets k.in-At.exchanges) k.in-At.is
 
 -- the tests of the sender and of the books
-known : (c : After-stray) → let h = Held c.before.before in let s = S (Sized h) in
+known : (c : After-stray) → let h = Held c.before in let s = S (Sized h) in
     c.stray.result ≡ (has_sender s && not (numbered (n_in s) (sender_in s)))
 known c =
-    let h = Held c.before.before in
+    let h = Held c.before in
     let z = Sized h in
     let x = h.sender_of-source.result in
     c.stray.ensures ∙ ap (λ (n : ℕ). x.given && not (numbered n x.number)) (Entry z).requires.n-is ∙ stray-source (S z) x (source_is h.before)
 
-fits : (c : After-books_fit) → let h = Held c.before.before.before.before in let s = S (Sized h) in
+fits : (c : After-books_fit) → let h = Held c.before.before.before in let s = S (Sized h) in
     c.books_fit.result ≡ books_fit (n_in s) (holders s) (books_in s)
 fits c =
-    let h = Held c.before.before.before.before in
+    let h = Held c.before.before.before in
     let z = Sized h in
     let p = (Entry z).requires in
     c.books_fit.ensures
@@ -124,35 +124,35 @@ places-requires c =
 
 pub returns-in_default : goal.returns-in_default
 returns-in_default c =
-    let z = Sized c.before.before.before.before.before in
+    let z = Sized c.before.before.before.before in
     let p = (Entry z).requires in
     c.refused.ensures
-    ∙ sym (plan-bad (S z) (omega (arith, p.header.room)) p.group p.short (found c.before.before.before.before behind.Nowhere c.enum_told-1.given.1))
+    ∙ sym (plan-bad (S z) (omega (arith, p.header.room)) p.group p.short (found c.before.before.before behind.Nowhere c.in_default.is))
 
 pub returns-then-stray : goal.returns-then-stray
 returns-then-stray c =
-    let z = Sized (Held c.before.before.before.before.before) in
+    let z = Sized (Held c.before.before.before.before) in
     let p = (Entry z).requires in
     c.refused-then-stray.ensures
-    ∙ sym (plan-sender (S z) (omega (arith, p.header.room)) p.group p.short (laid c.before.before.before.before.before).0 (sym (known c.before.before.before) ∙ c.if-stray.true))
+    ∙ sym (plan-sender (S z) (omega (arith, p.header.room)) p.group p.short (laid c.before.before.before.before).0 (sym (known c.before.before.before) ∙ c.if-stray.true))
 
 pub returns-then-not-books_fit : goal.returns-then-not-books_fit
 returns-then-not-books_fit c =
-    let z = Sized (Held c.before.before.before.before.before.before.before) in
+    let z = Sized (Held c.before.before.before.before.before.before) in
     let p = (Entry z).requires in
     c.refused-then-not-books_fit.ensures
-    ∙ sym (plan-long (S z) (omega (arith, p.header.room)) p.group p.short (laid c.before.before.before.before.before.before.before).0 (sym (known c.before.before.before.before.before) ∙ c.if-stray.false)
+    ∙ sym (plan-long (S z) (omega (arith, p.header.room)) p.group p.short (laid c.before.before.before.before.before.before).0 (sym (known c.before.before.before.before.before) ∙ c.if-stray.false)
     (denied (fits c.before.before.before) c.if-not-books_fit.true-raw))
 
 pub session_of-requires : goal.session_of-requires
-session_of-requires c = options-is (Sized (Held c.before.before.before.before.before.before))
+session_of-requires c = options-is (Sized (Held c.before.before.before.before.before))
 
 pub returns : goal.returns
 returns c =
-    let h = Held c.before.before.before.before.before.before.before in
+    let h = Held c.before.before.before.before.before.before in
     let z = Sized h in
     let p = (Entry z).requires in
-    let y = laid c.before.before.before.before.before.before.before in
+    let y = laid c.before.before.before.before.before.before in
     plan-taken (S z) (omega (arith, p.header.room)) p.group p.short y.0 (sym (known c.before.before.before.before.before) ∙ c.if-stray.false)
     (sym (fits c.before.before.before) ∙ not-false c.books_fit.result c.if-not-books_fit.false-raw) _ refl (record {
       n-is = p.n-is;

@@ -25,14 +25,14 @@ After-skip_entries = lts.After-skip_entries tie.the-claims reads.Pre reads.Post
 abbrev Start : Type 0
 Start = lts.Start tie.the-claims reads.Pre reads.Post
 
-abbrev In-At-2 : Type 0
-In-At-2 = lts.After-packets tie.the-claims reads.Pre reads.Post
+abbrev In-At : Type 0
+In-At = lts.Past-After-known_told tie.the-claims reads.Pre reads.Post
 
-abbrev In-At-skip_sender-2 : Type 0
-In-At-skip_sender-2 = lts.After-exchanges tie.the-claims reads.Pre reads.Post
+abbrev In-At-skip_sender : Type 0
+In-At-skip_sender = lts.Past-After-known_told2 tie.the-claims reads.Pre reads.Post
 
-abbrev In-At-skip_exchanges-2 : Type 0
-In-At-skip_exchanges-2 = lts.After-end tie.the-claims reads.Pre reads.Post
+abbrev In-At-skip_exchanges : Type 0
+In-At-skip_exchanges = lts.Past-After-known_told3 tie.the-claims reads.Pre reads.Post
 
 abbrev After-skip_sender : Type 0
 After-skip_sender = lts.After-skip_sender tie.the-claims reads.Pre reads.Post
@@ -47,23 +47,23 @@ Entry c = c.before.before
 abbrev S : After-skip_entries → List ℕ
 S c = (Entry c).args.plan.now
 
-abbrev Held : In-At-2 → After-skip_entries
-Held k = k.before.before
+abbrev Held : In-At → After-skip_entries
+Held k = k.before
 
-abbrev Packets : In-At-2 → ℕ
-Packets k = k.packets-1.given.0.0
+abbrev Packets : In-At → ℕ
+Packets k = k.in-At.packets
 
-abbrev Behind : In-At-skip_sender-2 → In-At-2
-Behind k = k.before.before.before.before
+abbrev Behind : In-At-skip_sender → In-At
+Behind k = k.before.before
 
-abbrev First : In-At-skip_sender-2 → ℕ
-First k = k.exchanges-1.given.0.0
+abbrev First : In-At-skip_sender → ℕ
+First k = k.in-At-skip_sender.exchanges
 
-abbrev Firsts : In-At-skip_exchanges-2 → In-At-skip_sender-2
-Firsts k = k.before.before.before.before
+abbrev Firsts : In-At-skip_exchanges → In-At-skip_sender
+Firsts k = k.before.before
 
-abbrev End : In-At-skip_exchanges-2 → ℕ
-End k = k.end-1.given.0.0
+abbrev End : In-At-skip_exchanges → ℕ
+End k = k.in-At-skip_exchanges.end
 
 -- the answers of the walks
 entries-are : (c : After-skip_entries) (q : Offset) → c.skip_entries.result ≡ q
@@ -74,38 +74,38 @@ entries-are c q e =
     (ap₂ (λ (n k : ℕ). skip_entries n (Entry c).args.map (drop k (S c))) p.1 p.0.there
     ∙ ap (λ (h : ℕ). skip_entries (n_in (S c)) h (books_in (S c))) p.3) c.skip_entries.ensures
 
-packets-at : (k : In-At-2) → let s = S (Held k) in
+packets-at : (k : In-At) → let s = S (Held k) in
     (skip_entries (n_in s) (holders s) (books_in s) ≡ some (drop (Packets k) s)) × (Packets k ≤ length s)
-packets-at k = entries-are (Held k) (At (Packets k)) k.packets-1.given.1
+packets-at k = entries-are (Held k) (At (Packets k)) k.in-At.is
 
-sender-is : (c : After-skip_sender) → let s = S (Held c.before.before) in (q : Offset) → c.skip_sender.result ≡ q
-    → Ends q (skip_sender s (drop (Packets c.before.before) s)) s
+sender-is : (c : After-skip_sender) → let s = S (Held c.before) in (q : Offset) → c.skip_sender.result ≡ q
+    → Ends q (skip_sender s (drop (Packets c.before) s)) s
 sender-is c q e =
-    let z = Held c.before.before in
+    let z = Held c.before in
     let p = (Entry z).requires in
     subst₂ (λ (r : Offset) (o : Option (List ℕ)). Ends r o (S z)) e
-    (ap₂ (λ (n g : ℕ). skip_sender_by (Entry z).args.source n g (drop (Packets c.before.before) (S z))) p.1 p.2
-    ∙ ap (λ (x : Source). skip_sender_by x (n_in (S z)) (good_in (S z)) (drop (Packets c.before.before) (S z))) p.4
-    ∙ sym (sender-source (S z) (drop (Packets c.before.before) (S z)))) c.skip_sender.ensures
+    (ap₂ (λ (n g : ℕ). skip_sender_by (Entry z).args.source n g (drop (Packets c.before) (S z))) p.1 p.2
+    ∙ ap (λ (x : Source). skip_sender_by x (n_in (S z)) (good_in (S z)) (drop (Packets c.before) (S z))) p.4
+    ∙ sym (sender-source (S z) (drop (Packets c.before) (S z)))) c.skip_sender.ensures
 
-first-at : (k : In-At-skip_sender-2) → let s = S (Held (Behind k)) in
+first-at : (k : In-At-skip_sender) → let s = S (Held (Behind k)) in
     (skip_sender s (drop (Packets (Behind k)) s) ≡ some (drop (First k) s)) × (First k ≤ length s)
-first-at k = sender-is k.before.before (At (First k)) k.exchanges-1.given.1
+first-at k = sender-is k.before (At (First k)) k.in-At-skip_sender.is
 
-exchanges-are : (c : After-skip_exchanges) → let s = S (Held (Behind c.before.before)) in (q : Offset)
-    → c.skip_exchanges.result ≡ q → Ends q (skip_exchanges exchanges (n_in s) (good_in s) (drop (First c.before.before) s)) s
+exchanges-are : (c : After-skip_exchanges) → let s = S (Held (Behind c.before)) in (q : Offset)
+    → c.skip_exchanges.result ≡ q → Ends q (skip_exchanges exchanges (n_in s) (good_in s) (drop (First c.before) s)) s
 exchanges-are c q e =
-    let z = Held (Behind c.before.before) in
+    let z = Held (Behind c.before) in
     let p = (Entry z).requires in
     subst₂ (λ (r : Offset) (o : Option (List ℕ)). Ends r o (S z)) e
-    (ap₂ (λ (n g : ℕ). skip_exchanges exchanges n g (drop (First c.before.before) (S z))) p.1 p.2) c.skip_exchanges.ensures
+    (ap₂ (λ (n g : ℕ). skip_exchanges exchanges n g (drop (First c.before) (S z))) p.1 p.2) c.skip_exchanges.ensures
 
-ends_at : (k : In-At-skip_exchanges-2) → let f = Firsts k in let s = S (Held (Behind f)) in
+ends_at : (k : In-At-skip_exchanges) → let f = Firsts k in let s = S (Held (Behind f)) in
     (skip_exchanges exchanges (n_in s) (good_in s) (drop (First f) s) ≡ some (drop (End k) s)) × (End k ≤ length s)
-ends_at k = exchanges-are k.before.before (At (End k)) k.end-1.given.1
+ends_at k = exchanges-are k.before (At (End k)) k.in-At-skip_exchanges.is
 
 -- the layout is judged by where the exchanges end
-laid-is : (k : In-At-skip_exchanges-2) → let s = S (Held (Behind (Firsts k))) in laid_out s ≡ eqb (length (drop (End k) s)) 0
+laid-is : (k : In-At-skip_exchanges) → let s = S (Held (Behind (Firsts k))) in laid_out s ≡ eqb (length (drop (End k) s)) 0
 laid-is k =
     let f = Firsts k in
     let b = Behind f in
@@ -115,40 +115,40 @@ laid-is k =
 
 pub returns-in_default : goal.returns-in_default
 returns-in_default c =
-    books-none (Entry c.before.before.before).args.books (S c.before.before.before) (Entry c.before.before.before).requires.0 (entries-are c.before.before.before Nowhere c.enum_told-1.given.1)
+    books-none (Entry c.before.before).args.books (S c.before.before) (Entry c.before.before).requires.0 (entries-are c.before.before Nowhere c.in_default.is)
 
 pub skip_sender-requires : goal.skip_sender-requires
-skip_sender-requires c = (packets-at c.before.before).1
+skip_sender-requires c = (packets-at c.before).1
 
 pub returns-in_default-skip_sender : goal.returns-in_default-skip_sender
 returns-in_default-skip_sender c =
-    let z = Held c.before.before.before.before.before in
-    sender-none (Entry z).args.books (S z) (Entry z).requires.0 (drop (Packets c.before.before.before.before.before) (S z)) (packets-at c.before.before.before.before.before).0 (sender-is c.before.before.before Nowhere c.enum_told-in_default-skip_sender-1.given.1)
+    let z = Held c.before.before.before in
+    sender-none (Entry z).args.books (S z) (Entry z).requires.0 (drop (Packets c.before.before.before) (S z)) (packets-at c.before.before.before).0 (sender-is c.before.before Nowhere c.in_default-skip_sender.is)
 
 pub skip_exchanges-requires : goal.skip_exchanges-requires
-skip_exchanges-requires c = (first-at c.before.before).1
+skip_exchanges-requires c = (first-at c.before).1
 
 pub returns-in_default-skip_exchanges : goal.returns-in_default-skip_exchanges
 returns-in_default-skip_exchanges c =
-    let k = Behind c.before.before.before.before.before in
+    let k = Behind c.before.before.before in
     let z = Held k in
-    end_none (Entry z).args.books (S z) (Entry z).requires.0 (drop (Packets k) (S z)) (packets-at k).0 (drop (First c.before.before.before.before.before) (S z)) (first-at c.before.before.before.before.before).0
-    (exchanges-are c.before.before.before Nowhere c.enum_told-in_default-skip_exchanges-1.given.1)
+    end_none (Entry z).args.books (S z) (Entry z).requires.0 (drop (Packets k) (S z)) (packets-at k).0 (drop (First c.before.before.before) (S z)) (first-at c.before.before.before).0
+    (exchanges-are c.before.before Nowhere c.in_default-skip_exchanges.is)
 
 pub returns-then-end-plan : goal.returns-then-end-plan
 returns-then-end-plan c =
-    let s = S (Held (Behind (Firsts c.before.before.before))) in
-    laid-is c.before.before.before ∙ ne_eqb (length (drop (End c.before.before.before) s)) 0 (λ q. c.if-end-plan.true (omega (arith, length-drop (End c.before.before.before) s, (ends_at c.before.before.before).1)))
+    let s = S (Held (Behind (Firsts c.before.before))) in
+    laid-is c.before.before ∙ ne_eqb (length (drop (End c.before.before) s)) 0 (λ q. c.if-end-plan.true (omega (arith, length-drop (End c.before.before) s, (ends_at c.before.before).1)))
 
 pub returns : goal.returns
 returns c =
-    let f = Firsts c.before.before.before in
+    let f = Firsts c.before.before in
     let k = Behind f in
     let z = Held k in
     let s = S z in
     let h = (Entry z).requires.0 in
     let b = (Entry z).args.books in (
-      laid-is c.before.before.before ∙ eq-eqb (length (drop (End c.before.before.before) s)) 0 (omega (arith, length-drop (End c.before.before.before) s, c.if-end-plan.false)),
+      laid-is c.before.before ∙ eq-eqb (length (drop (End c.before.before) s)) 0 (omega (arith, length-drop (End c.before.before) s, c.if-end-plan.false)),
       offset-of (Packets k) _ s (packets-at k).1 (behind-is b s h (drop (Packets k) s) (packets-at k).0),
       offset-of (First f) _ s (first-at f).1
           (first-is b s h (drop (Packets k) s) (packets-at k).0 (drop (First f) s) (first-at f).0),

@@ -49,14 +49,14 @@ returns-then-plan-gt-MAX_PLAN c =
 pub returns-in_default : goal.returns-in_default
 returns-in_default c =
     c.refused-in_default.ensures
-    ∙ sym (plan-bad (S c.before.before.before.before.before.before.before) (omega arith) (sym (cause-is c.before.before.before.before.before.before.before) ∙ c.if-cause-ne0.false) (omega arith) (header c.before.before.before.before Nowhere c.enum_told-1.given.1))
+    ∙ sym (plan-bad (S c.before.before.before.before.before.before) (omega arith) (sym (cause-is c.before.before.before.before.before.before) ∙ c.if-cause-ne0.false) (omega arith) (header c.before.before.before Nowhere c.in_default.is))
 
 pub parts-requires : goal.parts-requires
 parts-requires c =
     record {
-      group = sym (cause-is c.before.before.before.before.before.before.before) ∙ c.if-cause-ne0.false;
+      group = sym (cause-is c.before.before.before.before.before) ∙ c.if-cause-ne0.false;
       short = omega arith;
-      header = header c.before.before.before.before (At c.books-1.given.0.0) c.books-1.given.1;
+      header = header c.before.before (At c.in-At.books) c.in-At.is;
       n-is = c.wide-n.ensures.0;
       t-is = c.wide-t.ensures.0;
     }

@@ -69,11 +69,11 @@ skip_block-requires c = c.loop-p.invariant.1.1
 
 pub returns-in_default : goal.returns-in_default
 returns-in_default c =
-    walk_none (Takes (Entry c.before.before.before.before.before.before)) (Step (Entry c.before.before.before.before.before.before)) (X c.before.before.before.before.before.before) (P c.before.before.before.before.before.before + 1) (Entry c.before.before.before.before.before.before).args.k (omega arith) (answered c.before.before.before Nowhere c.enum_told-1.given.1)
+    walk_none (Takes (Entry c.before.before.before.before.before)) (Step (Entry c.before.before.before.before.before)) (X c.before.before.before.before.before) (P c.before.before.before.before.before + 1) (Entry c.before.before.before.before.before).args.k (omega arith) (answered c.before.before Nowhere c.in_default.is)
 
 pub loop-p-preserved : goal.loop-p-preserved
 loop-p-preserved c =
-    (omega arith, answered c.before.before.before.before (At c.next-1.given.0.0) c.next-1.given.1)
+    (omega arith, answered c.before.before (At c.in-At.next) c.in-At.is)
 
 pub returns : goal.returns
 returns c =

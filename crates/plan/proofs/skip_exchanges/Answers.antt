@@ -59,11 +59,11 @@ skip_blocks-requires c = c.loop-k.invariant.1.1
 
 pub returns-in_default : goal.returns-in_default
 returns-in_default c =
-    walk_none (λ k. true) (Step (Entry c.before.before.before.before)) (X c.before.before.before.before) (K c.before.before.before.before + 1) (Entry c.before.before.before.before).args.e (omega arith) (answered c.before.before.before Nowhere c.enum_told-1.given.1)
+    walk_none (λ k. true) (Step (Entry c.before.before.before)) (X c.before.before.before) (K c.before.before.before + 1) (Entry c.before.before.before).args.e (omega arith) (answered c.before.before Nowhere c.in_default.is)
 
 pub loop-k-preserved : goal.loop-k-preserved
 loop-k-preserved c =
-    (omega arith, answered c.before.before.before.before (At c.next-1.given.0.0) c.next-1.given.1)
+    (omega arith, answered c.before.before (At c.in-At.next) c.in-At.is)
 
 pub returns : goal.returns
 returns c =

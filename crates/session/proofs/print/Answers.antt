@@ -7,10 +7,10 @@ use Rattle.session.proofs.print.Goals as goal
 pub returns-in_default : goal.returns-in_default
 returns-in_default c =
     let a = c.args in
-    print-other sha256 a.bytes.now a.out.now c.rehearse-answer.new.out c.rehearse-answer.result c.rehearse-answer.ensures c.in_default.keys2
+    print-other sha256 a.bytes.now a.out.now c.rehearse-answer.new.out c.rehearse-answer.result c.rehearse-answer.ensures c.in_default.in_default-own.keys2
 
 pub returns : goal.returns
 returns c =
     let a = c.args in
     c.refused_line.ensures
-    ∙ print-refused sha256 a.bytes.now a.out.now c.rehearse-answer.new.out c.rehearse-answer.result c.rehearse-answer.ensures _ c.answer-1.given.1
+    ∙ print-refused sha256 a.bytes.now a.out.now c.rehearse-answer.new.out c.rehearse-answer.result c.rehearse-answer.ensures _ c.in-Refused.is

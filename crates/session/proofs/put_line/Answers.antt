@@ -24,8 +24,8 @@ After-result_of-result = lts.After-result_of tie.the-claims reads.Pre reads.Post
 abbrev Start : Type 0
 Start = lts.Start tie.the-claims reads.Pre reads.Post
 
-abbrev In-Message-2 : Type 0
-In-Message-2 = lts.After-result tie.the-claims reads.Pre reads.Post
+abbrev In-Message : Type 0
+In-Message = lts.Past-After-known_told tie.the-claims reads.Pre reads.Post
 
 -- the function's entry, and the message's buffer after step 5
 abbrev Entry : After-result_of-result → Start
@@ -34,21 +34,21 @@ Entry k = k.before.before.before.before.before.before
 abbrev O : After-result_of-result → List ℕ
 O k = k.result_of-result.new.out
 
-abbrev Len : In-Message-2 → ℕ
-Len k = k.result-1.given.0.0
+abbrev Len : In-Message → ℕ
+Len k = k.in-Message.len
 
-inside : (k : In-Message-2) → Len k ≤ max_message
+inside : (k : In-Message) → Len k ≤ max_message
 inside k =
-    omega (arith, k.result_of-result.ensures.0, ap message_length k.result-1.given.1)
+    omega (arith, k.result_of-result.ensures.0, ap message_length k.in-Message.is)
 
-room : (k : In-Message-2) → Len k ≤ length (O k.before.before.before)
+room : (k : In-Message) → Len k ≤ length (O k.before.before)
 room k =
     omega (arith, inside k, k.result_of-result.auto.1.1.1.1.1.1.0, length-replicate max_message zero)
 
 pub returns-in_default : goal.returns-in_default
 returns-in_default c =
     let a = (Entry c.before.before.before.before.before.before.before.before.before).args in
-    let e = sym (no-message c.result_of-result.result (O c.before.before.before.before.before.before.before.before.before) c.in_default.keys2) ∙ c.result_of-result.ensures.1 in
+    let e = sym (no-message c.result_of-result.result (O c.before.before.before.before.before.before.before.before.before) c.in_default.in_default-own.keys2) ∙ c.result_of-result.ensures.1 in
     let y = c.write_line.ensures in (
       y.0 ∙ ap (λ (x : Result). length (line_with a.q x)) e,
       y.1,
@@ -56,16 +56,16 @@ returns-in_default c =
     )
 
 pub slice_bounds-message-end : goal.slice_bounds-message-end
-slice_bounds-message-end c = room c.before.before
+slice_bounds-message-end c = room c.before
 
 pub write_line-requires-2 : goal.write_line-requires-2
 write_line-requires-2 c =
-    (omega (arith, length-take (Len c.before.before.before.before) (O c.before.before.before.before.before.before.before), inside c.before.before.before.before), (Entry c.before.before.before.before.before.before.before).requires.2)
+    (omega (arith, length-take (Len c.before.before.before) (O c.before.before.before.before.before), inside c.before.before.before), (Entry c.before.before.before.before.before).requires.2)
 
 pub returns : goal.returns
 returns c =
-    let a = (Entry c.before.before.before.before.before.before.before.before.before.before).args in
-    let e = sym (ap (λ (x : Answer). or_nothing (result_given x (O c.before.before.before.before.before.before.before.before.before.before))) c.result-1.given.1) ∙ c.result_of-result.ensures.1 in
+    let a = (Entry c.before.before.before.before.before.before.before.before).args in
+    let e = sym (ap (λ (x : Answer). or_nothing (result_given x (O c.before.before.before.before.before.before.before.before))) c.in-Message.is) ∙ c.result_of-result.ensures.1 in
     let y = c.write_line-2.ensures in (
       y.0 ∙ ap (λ (x : Result). length (line_with a.q x)) e,
       y.1,

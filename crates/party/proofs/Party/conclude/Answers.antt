@@ -44,8 +44,8 @@ After-rebuild_at = lts.After-rebuild_at tie.the-claims reads.Pre reads.Post
 abbrev Else-happy : Type 0
 Else-happy = lts.Else1 tie.the-claims reads.Pre reads.Post
 
-abbrev In-Done-2 : Type 0
-In-Done-2 = lts.After-len tie.the-claims reads.Pre reads.Post
+abbrev In-Done : Type 0
+In-Done = lts.Past-After-known_told tie.the-claims reads.Pre reads.Post
 
 abbrev After-has_root : Type 0
 After-has_root = lts.After-has_root tie.the-claims reads.Pre reads.Post
@@ -121,27 +121,27 @@ told d =
 short : (st : Start) → Short (A st)
 short st = short-recovered ((X st).seat.n - (X st).seat.t) (present 1 (gathered sha256 (X st) 1 (bodies (X st).seat.n (S st))))
 
-found : (k : In-Done-2) → let l = k.len-1.given.0.0 in
-    (A (E k.before.before.before) ≡ message (take l (O k.before.before.before))) × (l ≤ max_message) × (l ≤ length (O k.before.before.before))
+found : (k : In-Done) → let l = k.in-Done.len in
+    (A (E k.before.before) ≡ message (take l (O k.before.before))) × (l ≤ max_message) × (l ≤ length (O k.before.before))
 found k =
-    answer-found (O k.before.before.before) Zeros k.rebuild_at.result (length-replicate max_message zero) (A (E k.before.before.before)) (short (E k.before.before.before))
-    (told k.before.before.before)
-    k.len-1.given.0.0 k.len-1.given.1
+    answer-found (O k.before.before) Zeros k.rebuild_at.result (length-replicate max_message zero) (A (E k.before.before)) (short (E k.before.before))
+    (told k.before.before)
+    k.in-Done.len k.in-Done.is
 
-exact : (k : In-Done-2) → let l = k.len-1.given.0.0 in length (take l (O k.before.before.before)) ≡ l
-exact k = length-take-le k.len-1.given.0.0 (O k.before.before.before) (found k).2
+exact : (k : In-Done) → let l = k.in-Done.len in length (take l (O k.before.before)) ≡ l
+exact k = length-take-le k.in-Done.len (O k.before.before) (found k).2
 
 -- the message found, and whether it has the agreed root
-abbrev Len : After-has_root → In-Done-2
-Len h = h.before.before.before
+abbrev Len : After-has_root → In-Done
+Len h = h.before.before
 
 abbrev M : After-has_root → List ℕ
-M h = take (Len h).len-1.given.0.0 (O (Len h).before.before.before)
+M h = take (Len h).in-Done.len (O (Len h).before.before)
 
-judged : (h : After-has_root) → let st = E (Len h).before.before.before in
+judged : (h : After-has_root) → let st = E (Len h).before.before in
     result_found sha256 (X st) (S st) ≡ rebuilt (cond h.has_root.result (message (M h)) (cause 15))
 judged h =
-    rebuilding (Len h).before.before.before ∙ ap (Under (E (Len h).before.before.before)) (found (Len h)).0
+    rebuilding (Len h).before.before ∙ ap (Under (E (Len h).before.before)) (found (Len h)).0
     ∙ ap (λ (b : Bool). rebuilt (cond b (message (M h)) (cause 15))) (sym h.has_root.ensures)
 
 pub slice_bounds-message-end : goal.slice_bounds-message-end
@@ -179,17 +179,17 @@ returns-in_default c =
     ap (λ (r : Reply). stepped r (Out st)) c.settle_nothing.ensures
     ∙ sym (ap₂ {C = Stepped} (λ (r : Result) (f : ℕ). ending (X st) r f (Out st))
     (rebuilding c.before.before.before.before ∙ ap (Under st) (answer-cause (O c.before.before.before.before) Zeros c.rebuild_at.result (length-replicate max_message zero) (A st) (short st) (told c.before.before.before.before)
-    c.in_default.keys2).1) (sym (map (Unhappy c.before.before.before.before).before)))
+    c.in_default.in_default-own.keys2).1) (sym (map (Unhappy c.before.before.before.before).before)))
 
 pub slice_bounds-message-end-2 : goal.slice_bounds-message-end-2
-slice_bounds-message-end-2 c = (found c.before.before).2
+slice_bounds-message-end-2 c = (found c.before).2
 
 pub slice_bounds-has_root-end : goal.slice_bounds-has_root-end
-slice_bounds-has_root-end c = sym (exact c.before.before.before)
+slice_bounds-has_root-end c = sym (exact c.before.before)
 
 pub has_root-requires : goal.has_root-requires
 has_root-requires c =
-    (fit (E c.before.before.before.before.before.before), omega (arith, exact c.before.before.before, (found c.before.before.before).1))
+    (fit (E c.before.before.before.before), omega (arith, exact c.before.before, (found c.before.before).1))
 
 pub slice_bounds-message-end-then-has_root : goal.slice_bounds-message-end-then-has_root
 slice_bounds-message-end-then-has_root c = (found (Len c.before.before)).2
@@ -204,14 +204,14 @@ settle-requires-then-has_root c =
 
 pub returns-then-has_root : goal.returns-then-has_root
 returns-then-has_root c =
-    let st = E (Len c.before.before.before.before.before.before.before).before.before.before in
+    let st = E (Len c.before.before.before.before.before.before.before).before.before in
     c.settle-then-has_root.ensures
     ∙ ap₂ {C = Stepped} (λ (r : Result) (f : ℕ). ending (X st) r f (Out st))
-    (sym (judged c.before.before.before.before.before.before.before ∙ ap (λ (b : Bool). rebuilt (cond b (message (M c.before.before.before.before.before.before.before)) (cause 15))) c.if-has_root.true)) (map (Unhappy (Len c.before.before.before.before.before.before.before).before.before.before).before)
+    (sym (judged c.before.before.before.before.before.before.before ∙ ap (λ (b : Bool). rebuilt (cond b (message (M c.before.before.before.before.before.before.before)) (cause 15))) c.if-has_root.true)) (map (Unhappy (Len c.before.before.before.before.before.before.before).before.before).before)
 
 pub returns : goal.returns
 returns c =
-    let st = E (Len c.before.before.before).before.before.before in
+    let st = E (Len c.before.before.before).before.before in
     ap (λ (r : Reply). stepped r (Out st)) c.settle_nothing-2.ensures
     ∙ sym (ap₂ {C = Stepped} (λ (r : Result) (f : ℕ). ending (X st) r f (Out st))
-    (judged c.before.before.before ∙ ap (λ (b : Bool). rebuilt (cond b (message (M c.before.before.before)) (cause 15))) c.if-has_root.false) (sym (map (Unhappy (Len c.before.before.before).before.before.before).before)))
+    (judged c.before.before.before ∙ ap (λ (b : Bool). rebuilt (cond b (message (M c.before.before.before)) (cause 15))) c.if-has_root.false) (sym (map (Unhappy (Len c.before.before.before).before.before).before)))

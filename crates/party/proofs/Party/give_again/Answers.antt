@@ -23,8 +23,8 @@ use Rattle.party.proofs.Party.give_again.Goals as goal
 abbrev Start : Type 0
 Start = lts.Start tie.the-claims reads.Pre reads.Post
 
-abbrev In-Message-2 : Type 0
-In-Message-2 = lts.After-outcome tie.the-claims reads.Pre reads.Post
+abbrev In-Message : Type 0
+In-Message = lts.Past-After-known_told tie.the-claims reads.Pre reads.Post
 
 abbrev X : Start → Party
 X st = st.args.self
@@ -36,34 +36,34 @@ long : (st : Start) → length (X st).message ≡ max_message
 long st = search rules
 
 -- where the result is a message: its length
-abbrev Entry : In-Message-2 → Start
-Entry k = k.before.before.before
+abbrev Entry : In-Message → Start
+Entry k = k.before.before
 
-abbrev L : In-Message-2 → ℕ
-L k = k.outcome-1.given.0.0
+abbrev L : In-Message → ℕ
+L k = k.in-Message.len
 
-short : (k : In-Message-2) → L k ≤ max_message
+short : (k : In-Message) → L k ≤ max_message
 short k =
-    ltb-false max_message (L k) (sym (ap (λ (o : Outcome). overlong (Ended o)) k.outcome-1.given.1) ∙ (Entry k).requires)
+    ltb-false max_message (L k) (sym (ap (λ (o : Outcome). overlong (Ended o)) k.in-Message.is) ∙ (Entry k).requires)
 
-exact : (k : In-Message-2) → length (take (L k) (X (Entry k)).message) ≡ L k
+exact : (k : In-Message) → length (take (L k) (X (Entry k)).message) ≡ L k
 exact k = length-take-le (L k) (X (Entry k)).message (omega (arith, long (Entry k), short k))
 
 pub returns-in_default : goal.returns-in_default
 returns-in_default c =
-    ap (λ (r : Reply). stepped r (Out c.before.before.before.before.before)) c.settle_nothing.ensures
-    ∙ ap (λ (o : Outcome). ending (X c.before.before.before.before.before) (result_from o (X c.before.before.before.before.before).message) (X c.before.before.before.before.before).faulty (Out c.before.before.before.before.before)) (sym c.enum_told-1.given.1)
+    ap (λ (r : Reply). stepped r (Out c.before.before.before.before)) c.settle_nothing.ensures
+    ∙ ap (λ (o : Outcome). ending (X c.before.before.before.before) (result_from o (X c.before.before.before.before).message) (X c.before.before.before.before).faulty (Out c.before.before.before.before)) (sym c.in_default.is)
 
 pub slice_bounds-kept-end : goal.slice_bounds-kept-end
-slice_bounds-kept-end c = omega (arith, long (Entry c.before.before.before), short c.before.before.before)
+slice_bounds-kept-end c = omega (arith, long (Entry c.before.before), short c.before.before)
 
 pub slice_bounds-settle-end : goal.slice_bounds-settle-end
-slice_bounds-settle-end c = sym (exact c.before.before.before.before)
+slice_bounds-settle-end c = sym (exact c.before.before.before)
 
 pub settle-requires : goal.settle-requires
-settle-requires c = omega (arith, exact c.before.before.before.before, short c.before.before.before.before)
+settle-requires c = omega (arith, exact c.before.before.before, short c.before.before.before)
 
 pub returns : goal.returns
 returns c =
-    let st = Entry c.before.before.before.before.before.before.before.before in
-    c.settle.ensures ∙ ap (λ (o : Outcome). ending (X st) (result_from o (X st).message) (X st).faulty (Out st)) (sym c.outcome-1.given.1)
+    let st = Entry c.before.before.before.before.before.before.before in
+    c.settle.ensures ∙ ap (λ (o : Outcome). ending (X st) (result_from o (X st).message) (X st).faulty (Out st)) (sym c.in-Message.is)

@@ -51,7 +51,7 @@ abbrev Else-j-own : Type 0
 Else-j-own = lts.Else1 tie.the-claims reads.Pre reads.Post goal.the-invariant-loop-j goal.the-decreases-loop-j
 
 abbrev In-Valid : Type 0
-In-Valid = lts.After-known_told tie.the-claims reads.Pre reads.Post goal.the-invariant-loop-j goal.the-decreases-loop-j
+In-Valid = lts.Past-After-known_told tie.the-claims reads.Pre reads.Post goal.the-invariant-loop-j goal.the-decreases-loop-j
 
 -- the names of the source, in a turn
 abbrev Start : In-loop-j → Start
@@ -220,13 +220,13 @@ loop-j-preserved-in_default c =
       gathering-missed sha256 (Session d) (N d) (Own d) (Z d) (Y d) (S d) (J d) (At d) o.from o.len _ o.inv.0 (omega arith)
           (Start d).requires.0.high (stands d)
           (picked-missed sha256 (Session d) (N d) (Own d) (Z d) (Y d) (N d - (J d + 1)) (N d - J d) (J d + 1) (At d) (S d) (omega arith) (E c.before.before).if-j-own.false
-          (finding-over (K c.before.before).find-finding.result (C d) (S d) (found c.before.before) c.in_default.keys2)) refl,
+          (finding-over (K c.before.before).find-finding.result (C d) (S d) (found c.before.before) c.in_default.in_default-own.keys2)) refl,
       marks-more c.before.before,
     )
 
 -- where a valid share was found
 abbrev M : In-Valid → After-mark-faulty
-M k = k.before.before.before
+M k = k.before
 
 pub offset_bounds-from-i-in-loop-j : goal.offset_bounds-from-i-in-loop-j
 offset_bounds-from-i-in-loop-j c = omega (arith, few (D (M c.before)))
@@ -250,7 +250,7 @@ loop-j-preserved c =
     let from = g.0 in
     let len = g.1.0 in
     let count = g.1.1.0 in
-    let t : TakenAt s from len count (C d) = subst (λ (f : Finding). FindingIs f (C d) s) c.finding-1.given.1 (found m) in
+    let t : TakenAt s from len count (C d) = subst (λ (f : Finding). FindingIs f (C d) s) c.in-Valid.is (found m) in
     let b = taken-bounds (C d) s from len count t in
     rw (read (R m)).next-is (
       gathering-placed sha256 (Session d) (N d) (Own d) (Z d) (Y d) s (J d) (At d) o.from o.len _ o.inv.0 (omega arith) (Start d).requires.0.high (stands d)

@@ -100,7 +100,7 @@ returns-in_default c =
     let a = (Entry e).args in
     let r = c.write_message-answer.result in
     let y = answer-short a.bytes.now a.out.now (short e (sends c.before.before.before.before.before.before.before).0) r _ c.write_message-answer.ensures
-    (λ k q. not_done r k q c.in_default.keys2) in
+    (λ k q. not_done r k q c.in_default.in_default-own.keys2) in
     ap (λ (x : OpenedBySender). begun x c.write_message-answer.new.out) c.begun-in_default.ensures
     ∙ ap₂ {C = Begun} (λ (k : ℕ) (o : List ℕ). record { opened = c.refused_opening-in_default.result; value = k; buffer = o })
     (c.value_of-len.ensures ∙ y.1 ∙ sym (size c.before.before.before.before.before.before.before)) y.2
@@ -110,14 +110,14 @@ returns-in_default c =
 
 pub returns : goal.returns
 returns c =
-    let e = First c.before.before.before.before.before.before.before.before in
+    let e = First c.before.before.before.before.before.before.before in
     let a = (Entry e).args in
     let r = c.write_message-answer.result in
     let p = packet_by a.n a.own a.sender a.bytes.now in
-    let y = answer-done a.bytes.now a.out.now (short e (sends c.before.before.before.before.before.before.before.before).0) r _ c.write_message-answer.ensures _ c.enum_told-1.given.1 in
+    let y = answer-done a.bytes.now a.out.now (short e (sends c.before.before.before.before.before.before.before).0) r _ c.write_message-answer.ensures _ c.in-Done.is in
     ap (λ (x : OpenedBySender). begun x c.write_message-answer.new.out) c.begun-2.ensures
     ∙ ap₂ {C = Begun} (λ (k : ℕ) (o : List ℕ). record { opened = c.open-2.result; value = k; buffer = o })
-    (c.value_of-len.ensures ∙ y.1 ∙ sym (size c.before.before.before.before.before.before.before.before)) (y.2 ∙ ap (spliced a.out.now 0) (sym (sends c.before.before.before.before.before.before.before.before).1))
+    (c.value_of-len.ensures ∙ y.1 ∙ sym (size c.before.before.before.before.before.before.before)) (y.2 ∙ ap (spliced a.out.now 0) (sym (sends c.before.before.before.before.before.before.before).1))
     ∙ ap {B = Begun} (λ (x : Opened). record { opened = x; value = length p; buffer = spliced a.out.now 0 p })
-    (c.open-2.ensures ∙ ap (open_of sha256 a.session a.n a.t a.own) (sym (sender-message a.own a.sender a.bytes.now (sends c.before.before.before.before.before.before.before.before).0)))
-    ∙ sym (begun-given a.n a.t a.own a.sender a.bytes.now sha256 a.session a.out.now (no-cause e) (omega (arith, y.0, size c.before.before.before.before.before.before.before.before)))
+    (c.open-2.ensures ∙ ap (open_of sha256 a.session a.n a.t a.own) (sym (sender-message a.own a.sender a.bytes.now (sends c.before.before.before.before.before.before.before).0)))
+    ∙ sym (begun-given a.n a.t a.own a.sender a.bytes.now sha256 a.session a.out.now (no-cause e) (omega (arith, y.0, size c.before.before.before.before.before.before.before)))

@@ -24,8 +24,8 @@ After-read_message = lts.After-read_message tie.the-claims reads.Pre reads.Post
 abbrev Start : Type 0
 Start = lts.Start tie.the-claims reads.Pre reads.Post
 
-abbrev In-Message-2 : Type 0
-In-Message-2 = lts.After-len tie.the-claims reads.Pre reads.Post
+abbrev In-Message : Type 0
+In-Message = lts.Past-After-known_told tie.the-claims reads.Pre reads.Post
 
 abbrev Entry : After-read_message → Start
 Entry r = r.before.before
@@ -37,35 +37,35 @@ answer : (r : After-read_message) → r.read_message.result ≡ placed (read_mes
 answer r = ap (λ (t : Told). t.answer) r.read_message.ensures
 
 -- where a message is read
-abbrev Len : In-Message-2 → ℕ
-Len k = k.len-1.given.0.0
+abbrev Len : In-Message → ℕ
+Len k = k.in-Message.len
 
-read : (k : In-Message-2) → (m : List ℕ) × (read_message (P k.before.before) ≡ message m) × (length m ≡ Len k)
-read k = placed-message (read_message (P k.before.before)) (Len k) (sym (answer k.before.before) ∙ k.len-1.given.1)
+read : (k : In-Message) → (m : List ℕ) × (read_message (P k.before) ≡ message m) × (length m ≡ Len k)
+read k = placed-message (read_message (P k.before)) (Len k) (sym (answer k.before) ∙ k.in-Message.is)
 
-lies : (k : In-Message-2) → (drop 3 (P k.before.before) ≡ (read k).0) × (length (P k.before.before) ≡ 3 + Len k)
+lies : (k : In-Message) → (drop 3 (P k.before) ≡ (read k).0) × (length (P k.before) ≡ 3 + Len k)
 lies k =
     let m = (read k).0 in
-    let w = whole_of (P k.before.before) m (read k).1 in
-    (w.is, omega (arith, w.fits, ap length w.is, (read k).2, length-drop 3 (P k.before.before)))
+    let w = whole_of (P k.before) m (read k).1 in
+    (w.is, omega (arith, w.fits, ap length w.is, (read k).2, length-drop 3 (P k.before)))
 
 pub returns-in_default : goal.returns-in_default
 returns-in_default c =
     let a = (Entry c.before.before.before.before.before).args in
     c.open.ensures
-    ∙ ap (open_of sha256 a.session a.n a.t a.own) (sym (unread (read_message (P c.before.before.before.before.before)) c.read_message.result (answer c.before.before.before.before.before) c.in_default.keys2))
+    ∙ ap (open_of sha256 a.session a.n a.t a.own) (sym (unread (read_message (P c.before.before.before.before.before)) c.read_message.result (answer c.before.before.before.before.before) c.in_default.in_default-own.keys2))
 
 pub overflow_add-end : goal.overflow_add-end
-overflow_add-end c = omega (arith, (lies c.before.before).1)
+overflow_add-end c = omega (arith, (lies c.before).1)
 
 pub slice_bounds-open-end-2 : goal.slice_bounds-open-end-2
-slice_bounds-open-end-2 c = omega (arith, (lies c.before.before).1)
+slice_bounds-open-end-2 c = omega (arith, (lies c.before).1)
 
 pub returns : goal.returns
 returns c =
-    let a = (Entry c.before.before.before.before.before.before).args in
-    let len : 3 + Len c.before.before.before.before - 3 ≡ Len c.before.before.before.before = omega arith in
+    let a = (Entry c.before.before.before.before).args in
+    let len : 3 + Len c.before.before.before - 3 ≡ Len c.before.before.before = omega arith in
     c.open-2.ensures
     ∙ ap (open_of sha256 a.session a.n a.t a.own)
-    (ap (λ (i : ℕ). take i (drop 3 (P c.before.before.before.before.before.before))) len
-    ∙ take_all (Len c.before.before.before.before) (drop 3 (P c.before.before.before.before.before.before)) (omega (arith, length-drop 3 (P c.before.before.before.before.before.before), (lies c.before.before.before.before).1)) ∙ (lies c.before.before.before.before).0 ∙ ap message_read (sym (read c.before.before.before.before).1))
+    (ap (λ (i : ℕ). take i (drop 3 (P c.before.before.before.before))) len
+    ∙ take_all (Len c.before.before.before) (drop 3 (P c.before.before.before.before)) (omega (arith, length-drop 3 (P c.before.before.before.before), (lies c.before.before.before).1)) ∙ (lies c.before.before.before).0 ∙ ap message_read (sym (read c.before.before.before).1))

@@ -25,7 +25,7 @@ abbrev Else-cause-ne0 : Type 0
 Else-cause-ne0 = lts.Else1 tie.the-claims reads.Pre reads.Post
 
 abbrev In_default : Type 0
-In_default = lts.At-match-keys2 tie.the-claims reads.Pre reads.Post
+In_default = lts.Past-At-match-keys2 tie.the-claims reads.Pre reads.Post
 
 abbrev X : Start → Party
 X st = st.args.self
@@ -48,7 +48,7 @@ sound e = (relays-sound (X (Entry e)) (S (Entry e)) (fine e)).0
 
 -- a party that waits
 waiting : (k : In_default) → has_ended (X (Entry k.before)).stage ≡ false
-waiting k = waits (X (Entry k.before)).stage k.in_default.keys2
+waiting k = waits (X (Entry k.before)).stage k.in_default.in_default-own.keys2
 
 pub returns-then-cause-ne0 : goal.returns-then-cause-ne0
 returns-then-cause-ne0 c =
@@ -68,13 +68,13 @@ returns-in_default c =
 
 pub give_again-requires : goal.give_again-requires
 give_again-requires c =
-    let x = X (Entry c.before.before.before.before.before) in
-    sym (ap overlong c.stage-1.given.1) ∙ whole-stage x (state-sound 5 x (sound c.before.before.before.before.before)).0
+    let x = X (Entry c.before.before.before) in
+    sym (ap overlong c.in-Ended.is) ∙ whole-stage x (state-sound 5 x (sound c.before.before.before)).0
 
 pub returns : goal.returns
 returns c =
-    let st = Entry c.before.before.before.before.before.before.before.before in
+    let st = Entry c.before.before.before.before.before.before in
     let bs : List ℕ = (X st).message in
     c.give_again.ensures
-    ∙ sym (relays-again sha256 (X st) (S st) (Out st) (fine c.before.before.before.before.before.before.before.before) (result_from c.stage-1.given.0.0 bs)
-    (ap (λ (s : Stage). result_at s bs) c.stage-1.given.1))
+    ∙ sym (relays-again sha256 (X st) (S st) (Out st) (fine c.before.before.before.before.before.before) (result_from c.in-Ended.outcome bs)
+    (ap (λ (s : Stage). result_at s bs) c.in-Ended.is))

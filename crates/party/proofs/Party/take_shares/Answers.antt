@@ -58,8 +58,8 @@ After-judge_shares-taken = lts.After-judge_shares tie.the-claims reads.Pre reads
 abbrev Else-happy : Type 0
 Else-happy = lts.Else2 tie.the-claims reads.Pre reads.Post
 
-abbrev In-At-2 : Type 0
-In-At-2 = lts.After-taken tie.the-claims reads.Pre reads.Post
+abbrev In-At : Type 0
+In-At = lts.Past-After-known_told tie.the-claims reads.Pre reads.Post
 
 abbrev After-write-answer : Type 0
 After-write-answer = lts.After-write tie.the-claims reads.Pre reads.Post
@@ -156,43 +156,43 @@ took : (d : Else-happy) (r : Placed) → (Judges (Waits d)).judge-shares.result.
 took d r q = let st = Entry (E d) in subst (λ (y : Placed). TakenIs y (T st) (S st)) q (Judges (Waits d)).judge-shares.ensures.0
 
 -- where a share was found: its place, length and count of hashes
-abbrev D : In-At-2 → Else-happy
-D k = k.before.before
+abbrev D : In-At → Else-happy
+D k = k.before
 
-abbrev F : In-At-2 → ℕ
-F k = k.taken-1.given.0.0
+abbrev F : In-At → ℕ
+F k = k.in-At.from
 
-abbrev L : In-At-2 → ℕ
-L k = k.taken-1.given.0.1.0
+abbrev L : In-At → ℕ
+L k = k.in-At.len
 
-abbrev C : In-At-2 → ℕ
-C k = k.taken-1.given.0.1.1.0
+abbrev C : In-At → ℕ
+C k = k.in-At.count
 
-got : (k : In-At-2) → let st = Entry (E (D k)) in
+got : (k : In-At) → let st = Entry (E (D k)) in
     Got sha256 (X st).seat.session (X st).seat.n (X st).seat.own (X st).root (S st) (F k) (L k) (C k) (T st)
 got k =
     let st = Entry (E (D k)) in
     let x = X st in
-    got_of sha256 x.seat.session x.seat.n x.seat.own x.root (S st) (F k) (L k) (C k) (T st) (took (D k) (At (F k) (L k) (C k)) k.taken-1.given.1)
+    got_of sha256 x.seat.session x.seat.n x.seat.own x.root (S st) (F k) (L k) (C k) (T st) (took (D k) (At (F k) (L k) (C k)) k.in-At.is)
     (passed sha256 x.seat.session x.seat.n x.seat.own x.root 1 (bodies x.seat.n (S st)))
 
 -- the share, the hashes of its path, and the packet
-abbrev Y : In-At-2 → List ℕ
+abbrev Y : In-At → List ℕ
 Y k = take (L k) (drop (F k) (S (Entry (E (D k)))))
 
-abbrev Q : In-At-2 → List ℕ
+abbrev Q : In-At → List ℕ
 Q k = drop (F k + L k) (S (Entry (E (D k))))
 
-abbrev Packet : In-At-2 → List ℕ
+abbrev Packet : In-At → List ℕ
 Packet k = packet_of (X (Entry (E (D k)))).seat.own (Y k) (hashes (C k) (Q k))
 
-size : (k : In-At-2) → length (Y k) ≡ L k
+size : (k : In-At) → length (Y k) ≡ L k
 size k = length_part (S (Entry (E (D k)))) (F k) (L k) (omega (arith, (got k).inside))
 
-part : (k : In-At-2) → take (F k + L k - F k) (drop (F k) (S (Entry (E (D k))))) ≡ Y k
+part : (k : In-At) → take (F k + L k - F k) (drop (F k) (S (Entry (E (D k))))) ≡ Y k
 part k = part-ends (S (Entry (E (D k)))) (F k) (L k)
 
-goal : (k : In-At-2) → let st = Entry (E (D k)) in
+goal : (k : In-At) → let st = Entry (E (D k)) in
     take_shares_of sha256 (X st) (S st) (Out st) ≡ writes (X st) (Next st (Y k)) (Packet k) (Out st)
 goal k =
     let st = Entry (E (D k)) in
@@ -208,8 +208,8 @@ P v = v.before.before
 abbrev Path : After-put → After-path_at-path
 Path p = p.before.before.before
 
-abbrev K : After-put → In-At-2
-K p = (Path p).before.before
+abbrev K : After-put → In-At
+K p = (Path p).before
 
 abbrev O : After-write-answer → List ℕ
 O w = w.write-answer.new.out
@@ -290,20 +290,20 @@ returns-then-happy c =
 
 pub returns-in_default : goal.returns-in_default
 returns-in_default c =
-    let st = Entry (E c.before.before.before) in
+    let st = Entry (E c.before.before) in
     let x = X st in
-    ap₂ {C = Stepped} (λ (y : Party) (o : List ℕ). gives y (answer.Sent 0) o) (next (Waits c.before.before.before)) (left c.before.before.before)
-    ∙ sym (taking c.before.before.before
+    ap₂ {C = Stepped} (λ (y : Party) (o : List ℕ). gives y (answer.Sent 0) o) (next (Waits c.before.before)) (left c.before.before)
+    ∙ sym (taking c.before.before
     ∙ ap (λ (t : Taken). writes x (Next st (share_taken t)) (packet_taken x t) (Out st))
-    (taken_none (T st) (S st) (took c.before.before.before Nowhere c.enum_told-1.given.1))
+    (taken_none (T st) (S st) (took c.before.before Nowhere c.in_default.is))
     ∙ writes_nothing x (Next st []) (Out st))
 
 pub overflow_add-end : goal.overflow_add-end
 overflow_add-end c =
-    omega (arith, (got c.before.before).inside, (Entry (E (D c.before.before))).well_formed.1.0.0)
+    omega (arith, (got c.before).inside, (Entry (E (D c.before))).well_formed.1.0.0)
 
 pub slice_bounds-put-end-2 : goal.slice_bounds-put-end-2
-slice_bounds-put-end-2 c = omega (arith, (got c.before.before.before.before).inside)
+slice_bounds-put-end-2 c = omega (arith, (got c.before.before.before).inside)
 
 pub waiting-holding-requires : goal.waiting-holding-requires
 waiting-holding-requires c = (fit (E (D (K c.before.before)))).short
