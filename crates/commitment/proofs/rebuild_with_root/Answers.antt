@@ -101,8 +101,9 @@ judged : (c : After-same) → let a = (Entry (Coded c).before.before).args in
     rebuild_with_root_of sha256 a.session a.n a.t a.given.now a.entries.now a.out.now
     ≡ answered (cond c.same.result (message (Message c)) (cause 15)) a.out.now
 judged c =
-    let a = (Entry (Coded c).before.before).args in
-    rooted (Coded c).before.before ∙ ap (λ (f : Recovered). answered (under_root sha256 a.session a.n a.t a.given.now f) a.out.now) (found (Coded c)).0
+    let d = (Coded c).before.before in
+    let a = (Entry d).args in
+    rooted d ∙ ap (λ (f : Recovered). answered (under_root sha256 a.session a.n a.t a.given.now f) a.out.now) (found (Coded c)).0
     ∙ ap (λ (b : Bool). answered (cond b (message (Message c)) (cause 15)) a.out.now) (sym (compared c))
 
 pub returns-then-cause-ne0 : goal.returns-then-cause-ne0

@@ -43,7 +43,7 @@ inside k =
 
 room : (k : In-Message) → Len k ≤ length (O k.before.before)
 room k =
-    omega (arith, inside k, k.result_of-result.auto.1.1.1.1.1.1.0, length-replicate max_message zero)
+    omega (arith, inside k, k.result_of-result.auto.out, length-replicate max_message zero)
 
 pub returns-in_default : goal.returns-in_default
 returns-in_default c =

@@ -110,7 +110,7 @@ slice_bounds-give-end c =
     sym (length-take-le c.play-len.result (O c.before.before.before) c.play-len.ensures.0)
 
 pub shape_of-out : goal.shape_of-out
-shape_of-out c = c.give.auto.1.0
+shape_of-out c = c.give.auto.out
 
 pub returns : goal.returns
 returns c =

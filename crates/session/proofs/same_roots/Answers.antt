@@ -62,10 +62,12 @@ named c b h =
 abbrev Asked : After-same → Then-names
 Asked d = d.before.before.before.before.before
 
-compared : (d : After-same) → d.same.result ≡ same (opened sha256 (S (Entry (Asked d).before.before.before)) (P (Asked d).before.before.before + 1)).root (W (Entry (Asked d).before.before.before))
+compared : (d : After-same) → let a = (Asked d).before.before.before in
+    d.same.result ≡ same (opened sha256 (S (Entry a)) (P a + 1)).root (W (Entry a))
 compared d =
-    same-is d.opened.result.root (W (Entry (Asked d).before.before.before)) d.same.result d.same.ensures.0 d.same.ensures.1
-    ∙ ap (λ (x : Opened). same x.root (W (Entry (Asked d).before.before.before))) d.opened.ensures
+    let a = (Asked d).before.before.before in
+    same-is d.opened.result.root (W (Entry a)) d.same.result d.same.ensures.0 d.same.ensures.1
+    ∙ ap (λ (x : Opened). same x.root (W (Entry a))) d.opened.ensures
 
 pub loop-p-init : goal.loop-p-init
 loop-p-init c =

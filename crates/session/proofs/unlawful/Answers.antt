@@ -182,20 +182,23 @@ lowest_good-q-requires c =
 pub returns-then-not-same : goal.returns-then-not-same
 returns-then-not-same c =
     let t = Asked c.before.before in
-    let s = S (Counted (Own t.before).before.before.before.before.before) in
-    sym (unlawful-root sha256 s (few-bad (Own t.before).before.before.before.before) (bit_is (Own t.before).before.before)
+    let j = (Own t.before).before.before in
+    let s = S (Counted j.before.before.before) in
+    sym (unlawful-root sha256 s (few-bad j.before.before) (bit_is j)
     (ap₂ (λ (x y : Bool). x && not y) (sym (all-roots t.before) ∙ t.if-same_roots.taken)
     (sym (compared c.before.before) ∙ not-true c.same.result c.if-not-same.true-raw)))
 
 pub returns-then-same_bits : goal.returns-then-same_bits
 returns-then-same_bits c =
+    let j = (Last c.before.before).before in
     let st = Entry (Last c.before.before) in
     let s = S st in
-    sym (unlawful-vote sha256 s (few-bad (Last c.before.before).before.before.before) (bit_is (Last c.before.before).before) (root_is (Joined c.before.before))
-    ∙ ap₂ (λ (x y : Bool). x && not y) (sym (all-bits c.before.before) ∙ c.if-same_bits.true) (sym (ap₂ eqb st.pre.2 (vote-is c.before.before))))
+    sym (unlawful-vote sha256 s (few-bad j.before.before) (bit_is j) (root_is (Joined c.before.before))
+    ∙ ap₂ (λ (x y : Bool). x && not y) (sym (all-bits c.before.before) ∙ c.if-same_bits.true) (sym (ap₂ eqb st.requires.2 (vote-is c.before.before))))
 
 pub returns : goal.returns
 returns c =
+    let j = (Last c.before.before).before in
     let s = S (Entry (Last c.before.before)) in
-    sym (unlawful-vote sha256 s (few-bad (Last c.before.before).before.before.before) (bit_is (Last c.before.before).before) (root_is (Joined c.before.before))
+    sym (unlawful-vote sha256 s (few-bad j.before.before) (bit_is j) (root_is (Joined c.before.before))
     ∙ ap (λ (x : Bool). x && not (eqb (agreed_bit sha256 s) (first_bit sha256 s))) (sym (all-bits c.before.before) ∙ c.if-same_bits.false))

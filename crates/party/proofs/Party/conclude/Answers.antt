@@ -115,7 +115,7 @@ Zeros = replicate max_message 0
 told : (d : After-rebuild_at) → gave d.rebuild_at.result (O d) ≡ answered (A (E d)) Zeros
 told d =
     let st = E d in
-    let g = (Judges (Unhappy d).before).judge-relays in
+    let g = (Judges (Unhappy d).before).judge_relays-faulty in
     d.rebuild_at.ensures ∙ rebuilt-of sha256 (X st) (S st) g.result.places Zeros (fit (E d)) g.ensures.0
 
 short : (st : Start) → Short (A st)
@@ -141,7 +141,8 @@ M h = take (Len h).in-Done.len (O (Len h).before.before)
 judged : (h : After-has_root) → let st = E (Len h).before.before in
     result_found sha256 (X st) (S st) ≡ rebuilt (cond h.has_root.result (message (M h)) (cause 15))
 judged h =
-    rebuilding (Len h).before.before ∙ ap (Under (E (Len h).before.before)) (found (Len h)).0
+    let d = (Len h).before.before in
+    rebuilding d ∙ ap (Under (E d)) (found (Len h)).0
     ∙ ap (λ (b : Bool). rebuilt (cond b (message (M h)) (cause 15))) (sym h.has_root.ensures)
 
 pub slice_bounds-message-end : goal.slice_bounds-message-end
