@@ -1,6 +1,7 @@
 -- `capi::cipangohu_open` meets its contract: by the opening's cause, by the room for the state, and by that for the root. Assumes nothing.
 use mathlib.Core.Path.{◌≡◌, sym, ap, ◌∙◌}
 use Prim.Native.Nat.{ℕ}
+use borrow.Enum.Refused.{opened}
 use Rattle.buffer.specs.Given.{Given, written}
 use Rattle.sha256.specs.Sha256.{sha256}
 use Rattle.party.specs.Steps.{open_of}

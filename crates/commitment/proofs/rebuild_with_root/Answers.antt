@@ -6,6 +6,7 @@ use Prim.Native.Nat.{ℕ, ◌≤◌}
 use native.Mathlib.Omega.{arith}
 use lib.ListN.{length, take}
 use lib.Seq.{length-take-le}
+use borrow.Enum.Refused.{opened}
 use Rattle.limits.specs.Limits.{max_message, group_cause}
 use Rattle.limits.proofs.Group.{group_of}
 use Rattle.buffer.specs.Given.{gave}
@@ -122,7 +123,7 @@ pub returns-in_default : goal.returns-in_default
 returns-in_default c =
     let a = (Entry c.before.before.before).args in
     let k = answer-cause (O c.before.before.before) c.blank_message-message.result c.rebuild-answer.result c.blank_message-message.ensures (Found (Entry c.before.before.before))
-    (short-entries _ _ _) (told c.before.before.before) c.in_default.in_default-own.keys2 in
+    (short-entries _ _ _) (told c.before.before.before) (opened c.in_default.in_default-own.keys2) in
     ap (λ (r : Written). gave r a.out.now) k.2
     ∙ sym (rooted c.before.before.before ∙ ap (λ (f : Recovered). answered (under_root sha256 a.session a.n a.t a.given.now f) a.out.now) k.1)
 

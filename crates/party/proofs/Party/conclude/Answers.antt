@@ -22,6 +22,7 @@ use Rattle.party.proofs.Outcomes.{found-happy, found-rebuilt}
 use Rattle.party.proofs.Kept.{length-message}
 use Rattle.party.proofs.Taking.{rebuilt-of}
 use borrow.Author.Rules.{rules}
+use borrow.Enum.Refused.{opened}
 use Rattle.sha256.specs.Sha256.{sha256}
 use Rattle.party.proofs.Party.conclude.Lts as lts
 use Rattle.party.proofs.Party.conclude.Reads as reads
@@ -180,7 +181,7 @@ returns-in_default c =
     ap (λ (r : Reply). stepped r (Out st)) c.settle_nothing.ensures
     ∙ sym (ap₂ {C = Stepped} (λ (r : Result) (f : ℕ). ending (X st) r f (Out st))
     (rebuilding c.before.before.before.before ∙ ap (Under st) (answer-cause (O c.before.before.before.before) Zeros c.rebuild_at.result (length-replicate max_message zero) (A st) (short st) (told c.before.before.before.before)
-    c.in_default.in_default-own.keys2).1) (sym (map (Unhappy c.before.before.before.before).before)))
+    (opened c.in_default.in_default-own.keys2)).1) (sym (map (Unhappy c.before.before.before.before).before)))
 
 pub slice_bounds-message-end-2 : goal.slice_bounds-message-end-2
 slice_bounds-message-end-2 c = (found c.before).2

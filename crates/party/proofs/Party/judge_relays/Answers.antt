@@ -8,6 +8,7 @@ use native.Mathlib.Omega.{arith}
 use borrow.Author.Rules.{rules}
 use lib.ListN.{length, take, drop}
 use lib.Seq.{take_all, length-take-le}
+use borrow.Enum.Refused.{opened}
 use Rattle.sha256.specs.Sha256.{sha256}
 use Rattle.limits.specs.Limits.{max_parties, max_share}
 use Rattle.bitmap.specs.Bitmap.{names}
@@ -220,7 +221,7 @@ loop-j-preserved-in_default c =
       gathering-missed sha256 (Session d) (N d) (Own d) (Z d) (Y d) (S d) (J d) (At d) o.from o.len _ o.inv.0 (omega arith)
           (Start d).requires.0.high (stands d)
           (picked-missed sha256 (Session d) (N d) (Own d) (Z d) (Y d) (N d - (J d + 1)) (N d - J d) (J d + 1) (At d) (S d) (omega arith) (E c.before.before).if-j-own.false
-          (finding-over (K c.before.before).find-finding.result (C d) (S d) (found c.before.before) c.in_default.in_default-own.keys2)) refl,
+          (finding-over (K c.before.before).find-finding.result (C d) (S d) (found c.before.before) (opened c.in_default.in_default-own.keys2))) refl,
       marks-more c.before.before,
     )
 
