@@ -11,7 +11,7 @@ use Rattle.limits.specs.Limits.{max_message, group_cause}
 use Rattle.limits.proofs.Group.{group_of}
 use Rattle.buffer.specs.Given.{gave}
 use Rattle.buffer.specs.declared.Written.{Written}
-use Rattle.buffer.specs.declared.Written.TheVariants as goal
+use Rattle.buffer.specs.declared.Written.TheVariants as given
 use Rattle.erasure.specs.Rebuild.{Recovered, cause, message, answered}
 use Rattle.sha256.specs.Sha256.{sha256}
 use Rattle.merkle.specs.Shares.{same}
@@ -111,7 +111,7 @@ pub returns-then-cause-ne0 : goal.returns-then-cause-ne0
 returns-then-cause-ne0 c =
     let a = c.args in
     let k = c.group_cause-cause.ensures in
-    ap (λ (i : ℕ). gave (goal.Refused i) a.out.now) k
+    ap (λ (i : ℕ). gave (given.Refused i) a.out.now) k
     ∙ sym (with-root-refused a.n a.t a.entries.now a.out.now sha256 a.session a.given.now (λ q. c.if-cause-ne0.true (k ∙ q)))
 
 pub returns-then-given-ne32 : goal.returns-then-given-ne32
