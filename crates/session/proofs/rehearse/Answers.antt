@@ -119,4 +119,4 @@ returns c =
     let st = Entry t.before in
     let out = st.args.out.now in
     c.give.ensures ∙ ap (λ (l : List ℕ). written l out) c.play-len.ensures.1
-    ∙ sym (played sha256 (S st) out (ready t).taken (sym e.unlawful.ensures ∙ e.if-unlawful.left))
+    ∙ sym (played sha256 (S st) out (ready t).taken (sym e.unlawful.ensures ∙ e.if-unlawful.false))

@@ -78,16 +78,16 @@ pub returns-then-not-same : goal.returns-then-not-same
 returns-then-not-same c =
     let t = Asked c.before.before in
     let st = Entry t.before.before.before in
-    sym (t.loop-p.inv.1 ∙ roots-other sha256 (S st) (N st - (P t.before.before.before + 1)) (N st - P t.before.before.before) (P t.before.before.before + 1) (omega arith) (W st)
-    (named t.before _ t.if-names.taken) (sym (compared c.before.before) ∙ not-true c.same.result c.if-not-same.true-raw))
+    sym (t.loop-p.invariant.1 ∙ roots-other sha256 (S st) (N st - (P t.before.before.before + 1)) (N st - P t.before.before.before) (P t.before.before.before + 1) (omega arith) (W st)
+    (named t.before _ t.if-names.true) (sym (compared c.before.before) ∙ not-true c.same.result c.if-not-same.true-raw))
 
 pub loop-p-preserved-else-not-same : goal.loop-p-preserved-else-not-same
 loop-p-preserved-else-not-same c =
     let t = Asked c.before.before in
     let st = Entry t.before.before.before in (
       omega arith,
-      t.loop-p.inv.1 ∙ roots-same sha256 (S st) (N st - (P t.before.before.before + 1)) (N st - P t.before.before.before) (P t.before.before.before + 1) (omega arith) (W st)
-          (named t.before _ t.if-names.taken) (sym (compared c.before.before) ∙ not-false c.same.result c.if-not-same.false-raw),
+      t.loop-p.invariant.1 ∙ roots-same sha256 (S st) (N st - (P t.before.before.before + 1)) (N st - P t.before.before.before) (P t.before.before.before + 1) (omega arith) (W st)
+          (named t.before _ t.if-names.true) (sym (compared c.before.before) ∙ not-false c.same.result c.if-not-same.false-raw),
     )
 
 pub loop-p-preserved : goal.loop-p-preserved

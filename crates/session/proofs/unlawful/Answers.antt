@@ -186,7 +186,7 @@ returns-then-not-same c =
     let j = (Own t.before).before.before in
     let s = S (Counted j.before.before.before) in
     sym (unlawful-root sha256 s (few-bad j.before.before) (bit_is j)
-    (ap₂ (λ (x y : Bool). x && not y) (sym (all-roots t.before) ∙ t.if-same_roots.taken)
+    (ap₂ (λ (x y : Bool). x && not y) (sym (all-roots t.before) ∙ t.if-same_roots.true)
     (sym (compared c.before.before) ∙ not-true c.same.result c.if-not-same.true-raw)))
 
 pub returns-then-same_bits : goal.returns-then-same_bits

@@ -104,7 +104,7 @@ rebuilding : (d : After-rebuild_at) → let st = E d in result_found sha256 (X s
 rebuilding d =
     let st = E d in
     let u = Unhappy d in
-    found-rebuilt sha256 (X st) (S st) (sym u.happy.ensures ∙ u.if-happy.left)
+    found-rebuilt sha256 (X st) (S st) (sym u.happy.ensures ∙ u.if-happy.false)
 
 -- the entries, the buffer after rebuilding, and what the answer says
 abbrev O : After-rebuild_at → List ℕ

@@ -192,9 +192,9 @@ size k = length_part (S (Entry (E (D k)))) (F k) (L k) (omega (arith, (got k).in
 part : (k : In-At) → take (F k + L k - F k) (drop (F k) (S (Entry (E (D k))))) ≡ Y k
 part k = part-ends (S (Entry (E (D k)))) (F k) (L k)
 
-goal : (k : In-At) → let st = Entry (E (D k)) in
+reached : (k : In-At) → let st = Entry (E (D k)) in
     take_shares_of sha256 (X st) (S st) (Out st) ≡ writes (X st) (Next st (Y k)) (Packet k) (Out st)
-goal k =
+reached k =
     let st = Entry (E (D k)) in
     taking (D k) ∙ ap (λ (t : Taken). writes (X st) (Next st (share_taken t)) (packet_taken (X st) t) (Out st)) (got k).is
 
@@ -322,4 +322,4 @@ returns c =
     ap (λ (r : Reply). stepped r (O c.before.before.before.before)) c.after-2.ensures
     ∙ writes-given (X st) (W c.before.before.before.before).waiting-holding.result (Packet k) (Out st) c.write-answer.result (O c.before.before.before.before) (wrote c.before.before.before.before)
     ∙ ap (λ (y : Party). writes (X st) y (Packet k) (Out st)) (holds (W c.before.before.before.before))
-    ∙ sym (goal k)
+    ∙ sym (reached k)
