@@ -5,7 +5,6 @@ use mathlib.Core.List.{List}
 use Prim.Native.Nat.{ℕ, ◌+◌, ◌-◌, ◌≤◌}
 use native.Mathlib.Omega.{arith}
 use lib.ListN.{length, take, drop, replicate}
-use borrow.Enum.Refused.{opened}
 use Rattle.buffer.specs.Splice.{put_of}
 use Rattle.party.specs.declared.Opened.{Opened}
 use Rattle.party.proofs.Kept.{put_whole}

@@ -148,7 +148,7 @@ overflow_add-result c =
 pub shape_of-text : goal.shape_of-text
 shape_of-text c =
     let p = Lines c.before.before.before.before.before.before.before in
-    search (rules, c.sent_line.auto.out, p.put_lines-at.kept.1.1.1.1.1.0)
+    search (rules, c.sent_line.auto.out, p.put_lines-at.auto.text)
 
 pub returns : goal.returns
 returns c =

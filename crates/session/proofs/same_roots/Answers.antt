@@ -5,7 +5,6 @@ use mathlib.Core.List.{List}
 use Prim.Native.Nat.{ℕ, ◌+◌, ◌-◌}
 use native.Mathlib.Nat.{sub-zero}
 use native.Mathlib.Omega.{arith}
-use borrow.Enum.Refused.{opened}
 use Rattle.merkle.specs.Shares.{same}
 use Rattle.party.specs.declared.Opened.{Opened}
 use Rattle.commitment.proofs.Shared.{same-is}

@@ -56,7 +56,7 @@ gives o =
     let st = Entry o in
     let a = st.args in
     let k = plan st in
-    let m = take b.book-len.result b.book-len.last.1.1.1.0 in
+    let m = take b.book-len.result b.book-len.new.out in
     o.open_by_sender-begun.ensures
     ∙ ap (λ (i : ℕ). open_by_sender_of sha256 i a.parts.n a.parts.t a.parts.sender a.parts.sender m Zeros) k.session-is
     ∙ ap₂ (λ (n t : ℕ). open_by_sender_of sha256 (session_of (S st)) n t a.parts.sender a.parts.sender m Zeros) k.n-is k.t-is

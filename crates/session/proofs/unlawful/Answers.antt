@@ -7,7 +7,6 @@ use Prim.Native.Nat.{ℕ}
 use native.Mathlib.Omega.{arith}
 use borrow.Author.Tests.{lt-ltb, le-ltb}
 use lib.Dec.{eqb}
-use borrow.Enum.Refused.{opened}
 use Rattle.merkle.specs.Shares.{same}
 use Rattle.party.specs.declared.Opened.{Opened}
 use Rattle.commitment.proofs.Shared.{same-is}
