@@ -18,8 +18,8 @@ In-Share = lts.Past-After-known_told2 tie.the-claims reads.Pre reads.Post
 parts : (k : In-Share) → Parts k.in-Share.number k.in-Share.len k.in-Share.count
 parts k =
     let a = k.args in
-    let g = k.reading-in-Share-1.given in
-    parts-of a.n a.packet.now g.0.0 g.0.1.0 g.0.1.1.0 g.0.1.1.1.0 (sym (told-one k.read_at-reading.ensures) ∙ g.1)
+    let x = k.in-Share in
+    parts-of a.n a.packet.now x.number x.from x.len x.count (sym (told-one k.read_at-reading.ensures) ∙ x.is)
 
 pub returns-in-Refused : goal.returns-in-Refused
 unfolding read_packet_call
