@@ -14,7 +14,7 @@ import sys
 # A word of the repository in camel case. Words with one letter before or behind the capital, as `hA`, are bound variables, and stay.
 CAMEL = re.compile(r"(?<![\w'])([a-z][a-z0-9]+(?:[A-Z][a-z0-9]+)+|timesX|[nt]In)(?![\w'])")
 # Lemmas that port.py wrote with '_', and that would now have a definition's name: they have their dash again.
-LEMMAS = ["all_lie", "at_first", "at_second", "entry_length", "entry_read", "with_root", "zero_bits"]
+LEMMAS = ["all_lie", "at_first", "at_second", "entry_length", "entry_read", "skip_block", "with_root", "zero_bits"]
 # What the library's `getD` is called today, in the names of lemmas about it.
 GET = re.compile(r"(?<![\w'])getD(?![\w'])")
 

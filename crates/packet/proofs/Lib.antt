@@ -6,7 +6,6 @@ pub mod Slices
 pub mod Reading
 pub mod Entries
 pub mod Verdict
-pub mod Cursor
 pub mod Writing
 pub mod Inverse
 pub mod Messages

@@ -51,9 +51,9 @@ skip-two : (p q r : List ℕ) → skip_entries 3 3 (entry_of p ++ (entry_of q ++
 unfolding walk entry_of
 skip-two p q r = rw (entry-skipped p (entry_of q ++ r)) (entry-skipped q r)
 
-skip_block : (a b r : List ℕ) → skip_block 3 3 (block a b ++ r) ≡ some r
+skip-block : (a b r : List ℕ) → skip_block 3 3 (block a b ++ r) ≡ some r
 unfolding skip_block size every
-skip_block a b r = rw (le-ltb (length (block a b ++ r)) 2 (omega arith), append_assoc (entry_of a) (entry_of b) r) (skip-two a b r)
+skip-block a b r = rw (le-ltb (length (block a b ++ r)) 2 (omega arith), append_assoc (entry_of a) (entry_of b) r) (skip-two a b r)
 
 module _ (m a b c d : List ℕ) where
   abbrev s : List ℕ
@@ -66,7 +66,7 @@ module _ (m a b c d : List ℕ) where
   unfolding size field_bytes walk holders
   laid =
       end-at 5 s (record { room = omega arith; known = omega arith; few = omega arith; there = refl }) blocks (skip-two m m blocks) blocks refl []
-      (rw (skip_block a b (block c d)) (ap (skip_block 3 3) (sym (append-nil (block c d))) ∙ skip_block c d []))
+      (rw (skip-block a b (block c d)) (ap (skip_block 3 3) (sym (append-nil (block c d))) ∙ skip-block c d []))
 
   messages : (book_of s 1 ≡ m) × (book_of s 2 ≡ m)
   unfolding book_of holders party_entry numbered size field_bytes walk entry_of

@@ -27,8 +27,8 @@ Else-cause-ne0 = lts.Else1 tie.the-claims reads.Pre reads.Post
 abbrev Entry : After-open-cause → Start
 Entry d = d.before.before.before.before
 
-opened : (d : After-open-cause) → let a = (Entry d).args in d.«open».result ≡ open_of sha256 a.session a.n a.t a.own a.message.now
-opened d = d.«open».ensures
+opened : (d : After-open-cause) → let a = (Entry d).args in d.open-cause.result ≡ open_of sha256 a.session a.n a.t a.own a.message.now
+opened d = d.open-cause.ensures
 
 fine : (e : Else-cause-ne0) → let a = (Entry e.before.before.before).args in (open_of sha256 a.session a.n a.t a.own a.message.now).cause ≡ 0
 fine e = sym (ap (λ (r : Opened). r.cause) (opened e.before.before.before)) ∙ e.if-cause-ne0.false

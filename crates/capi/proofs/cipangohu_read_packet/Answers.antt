@@ -1,6 +1,7 @@
 -- `capi::cipangohu_read_packet` meets its contract: refused, silence, or the parts of a share. Assumes nothing.
 use mathlib.Core.Path.{sym, ap, ◌∙◌}
 use native.Mathlib.Omega.{arith}
+use borrow.Enum.Refused.{opened}
 use Rattle.packet.proofs.Reading.{told-one}
 use Rattle.capi.specs.Calls.{read_answer, read_packet_call}
 use Rattle.capi.proofs.Tools.{read-silent, Parts, parts-of}
@@ -17,8 +18,8 @@ In-Share = lts.Past-After-known_told2 tie.the-claims reads.Pre reads.Post
 parts : (k : In-Share) → Parts k.in-Share.number k.in-Share.len k.in-Share.count
 parts k =
     let a = k.args in
-    let g = k.reading-in-Share-1.given in
-    parts-of a.n a.packet.now g.0.0 g.0.1.0 g.0.1.1.0 g.0.1.1.1.0 (sym (told-one k.read_at-reading.ensures) ∙ g.1)
+    let x = k.in-Share in
+    parts-of a.n a.packet.now x.number x.from x.len x.count (sym (told-one k.read_at-reading.ensures) ∙ x.is)
 
 pub returns-in-Refused : goal.returns-in-Refused
 unfolding read_packet_call
@@ -27,7 +28,7 @@ returns-in-Refused c = c.pack.ensures ∙ sym (ap read_answer (sym (told-one c.r
 pub returns-in_default-reading : goal.returns-in_default-reading
 unfolding read_packet_call
 returns-in_default-reading c = c.pack-in_default-reading.ensures
-    ∙ sym (ap read_answer (sym (told-one c.read_at-reading.ensures)) ∙ read-silent c.read_at-reading.result c.in_default.in_default-own.keys2 c.in_default-reading.in_default-reading-own.keys2)
+    ∙ sym (ap read_answer (sym (told-one c.read_at-reading.ensures)) ∙ read-silent c.read_at-reading.result (opened c.in_default.in_default-own.keys2) (opened c.in_default-reading.in_default-reading-own.keys2))
 
 pub overflow_mul-count : goal.overflow_mul-count
 overflow_mul-count c = omega (arith, parts c.before)

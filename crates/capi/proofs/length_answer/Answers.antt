@@ -1,6 +1,7 @@
 -- `capi::length_answer` meets its contract: only an end with a message has a length, and that is within its limit. Assumes nothing.
 use mathlib.Core.Path.{◌≡◌, sym, ap, ◌∙◌}
 use native.Mathlib.Omega.{arith}
+use borrow.Enum.Refused.{opened}
 use Rattle.party.specs.declared.Outcome.{Outcome}
 use Rattle.party.specs.declared.Outcome.TheVariants as outcome
 use Rattle.party.specs.declared.Stage.TheVariants.{Ended}
@@ -26,7 +27,7 @@ settled : (u : In-Message) → (Entry u).args.stage ≡ Ended (outcome.Message u
 settled u = u.in-Ended.is ∙ ap Ended u.in-Message.is
 
 pub returns-in_default : goal.returns-in_default
-returns-in_default c = c.pack.ensures ∙ sym (waits c.args.stage c.in_default.in_default-own.keys2)
+returns-in_default c = c.pack.ensures ∙ sym (waits c.args.stage (opened c.in_default.in_default-own.keys2))
 
 pub returns-in_default-outcome : goal.returns-in_default-outcome
 returns-in_default-outcome c = c.pack-in_default-outcome.ensures

@@ -4,6 +4,7 @@ use mathlib.Core.List.{List}
 use Prim.Native.Nat.{ℕ, ◌-◌, ◌*◌}
 use native.Mathlib.Omega.{arith}
 use lib.ListN.{length, take}
+use borrow.Enum.Refused.{opened}
 use Rattle.buffer.specs.Splice.{spliced}
 use Rattle.buffer.specs.Given.{Given, gave}
 use Rattle.buffer.specs.declared.Written.TheVariants.{Done}
@@ -45,7 +46,7 @@ answer d = ap (λ (g : Given). g.answer) (d.encode.ensures ∙ all (Entry d))
 
 pub returns-in_default : goal.returns-in_default
 returns-in_default c =
-    absurd (not_done c.encode.result (length (S (Entry c.before.before.before.before))) (answer c.before.before.before.before) c.in_default.in_default-own.keys2)
+    absurd (not_done c.encode.result (length (S (Entry c.before.before.before.before))) (answer c.before.before.before.before) (opened c.in_default.in_default-own.keys2))
 
 pub returns : goal.returns
 returns c =

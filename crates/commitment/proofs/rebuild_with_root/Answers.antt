@@ -6,11 +6,12 @@ use Prim.Native.Nat.{ℕ, ◌≤◌}
 use native.Mathlib.Omega.{arith}
 use lib.ListN.{length, take}
 use lib.Seq.{length-take-le}
+use borrow.Enum.Refused.{opened}
 use Rattle.limits.specs.Limits.{max_message, group_cause}
 use Rattle.limits.proofs.Group.{group_of}
 use Rattle.buffer.specs.Given.{gave}
 use Rattle.buffer.specs.declared.Written.{Written}
-use Rattle.buffer.specs.declared.Written.TheVariants as goal
+use Rattle.buffer.specs.declared.Written.TheVariants as given
 use Rattle.erasure.specs.Rebuild.{Recovered, cause, message, answered}
 use Rattle.sha256.specs.Sha256.{sha256}
 use Rattle.merkle.specs.Shares.{same}
@@ -101,15 +102,16 @@ judged : (c : After-same) → let a = (Entry (Coded c).before.before).args in
     rebuild_with_root_of sha256 a.session a.n a.t a.given.now a.entries.now a.out.now
     ≡ answered (cond c.same.result (message (Message c)) (cause 15)) a.out.now
 judged c =
-    let a = (Entry (Coded c).before.before).args in
-    rooted (Coded c).before.before ∙ ap (λ (f : Recovered). answered (under_root sha256 a.session a.n a.t a.given.now f) a.out.now) (found (Coded c)).0
+    let d = (Coded c).before.before in
+    let a = (Entry d).args in
+    rooted d ∙ ap (λ (f : Recovered). answered (under_root sha256 a.session a.n a.t a.given.now f) a.out.now) (found (Coded c)).0
     ∙ ap (λ (b : Bool). answered (cond b (message (Message c)) (cause 15)) a.out.now) (sym (compared c))
 
 pub returns-then-cause-ne0 : goal.returns-then-cause-ne0
 returns-then-cause-ne0 c =
     let a = c.args in
     let k = c.group_cause-cause.ensures in
-    ap (λ (i : ℕ). gave (goal.Refused i) a.out.now) k
+    ap (λ (i : ℕ). gave (given.Refused i) a.out.now) k
     ∙ sym (with-root-refused a.n a.t a.entries.now a.out.now sha256 a.session a.given.now (λ q. c.if-cause-ne0.true (k ∙ q)))
 
 pub returns-then-given-ne32 : goal.returns-then-given-ne32
@@ -121,7 +123,7 @@ pub returns-in_default : goal.returns-in_default
 returns-in_default c =
     let a = (Entry c.before.before.before).args in
     let k = answer-cause (O c.before.before.before) c.blank_message-message.result c.rebuild-answer.result c.blank_message-message.ensures (Found (Entry c.before.before.before))
-    (short-entries _ _ _) (told c.before.before.before) c.in_default.in_default-own.keys2 in
+    (short-entries _ _ _) (told c.before.before.before) (opened c.in_default.in_default-own.keys2) in
     ap (λ (r : Written). gave r a.out.now) k.2
     ∙ sym (rooted c.before.before.before ∙ ap (λ (f : Recovered). answered (under_root sha256 a.session a.n a.t a.given.now f) a.out.now) k.1)
 

@@ -34,7 +34,7 @@ abbrev Shares : After-code-size → List ℕ
 Shares q = q.code-size.new.out
 
 long : (q : After-code-size) → length (Shares q) ≡ max_shares
-long q = q.code-size.auto.1.1.1.0 ∙ q.blank-bytes.ensures
+long q = q.code-size.auto.out ∙ q.blank-bytes.ensures
 
 pub returns-then-cause-ne0 : goal.returns-then-cause-ne0
 returns-then-cause-ne0 c =

@@ -81,7 +81,7 @@ abbrev Array : After-code-size → List ℕ
 Array q = q.code-size.new.out
 
 long : (q : After-code-size) → length (Array q) ≡ max_shares
-long q = q.code-size.auto.1.1.1.0 ∙ q.blank-bytes.ensures
+long q = q.code-size.auto.out ∙ q.blank-bytes.ensures
 
 abbrev Shares : After-code-size → List ℕ
 Shares q = take q.code-size.result.size (Array q)
@@ -178,7 +178,7 @@ nodes-are s = (Root s.before).nodes-nodes.ensures
 
 -- the relay and the outbox over these are those of the message
 relayed : (s : Else-not-same) → let q = Coding s in let st = Entry q.before.before.before.before in
-    relay_for sha256 st.args.seat.n st.args.seat.own q.code-size.result.len (Shares q) (Leaves (Root s.before)).leaves.result
+    relay_for sha256 st.args.seat.n st.args.seat.own q.code-size.result.len (Shares q) (Leaves (Root s.before)).leaves-leaves.result
     ≡ Bytes true st
 relayed s =
     let q = Coding s in
@@ -186,20 +186,20 @@ relayed s =
     let a = st.args in
     let l = Leaves (Root s.before) in
     let b = open-bounds a.seat.n a.seat.t a.seat.own (length (M st)) (fine q.before.before.before) in
-    ap₂ (λ (k : ℕ) (all : List ℕ). relay_for sha256 a.seat.n a.seat.own k all l.leaves.result) q.code-size.ensures.2 q.code-size.ensures.1
+    ap₂ (λ (k : ℕ) (all : List ℕ). relay_for sha256 a.seat.n a.seat.own k all l.leaves-leaves.result) q.code-size.ensures.2 q.code-size.ensures.1
     ∙ ap (relay_for sha256 a.seat.n a.seat.own (share_length (a.seat.n - a.seat.t) (length (M st))) (shares a.seat.n (a.seat.n - a.seat.t) (M st))) (leaves-are l)
     ∙ relay-sent sha256 a.seat.session a.seat.n a.seat.t a.seat.own (M st) (within q.before.before.before) b.1 b.2
 
 sent-out : (s : Else-not-same) → let q = Coding s in let st = Entry q.before.before.before.before in
     outbox_up_to sha256 st.args.seat.n st.args.seat.n st.args.seat.own q.code-size.result.len (Shares q)
-    (Leaves (Root s.before)).leaves.result
+    (Leaves (Root s.before)).leaves-leaves.result
     ≡ Bytes false st
 sent-out s =
     let q = Coding s in
     let st = Entry q.before.before.before.before in
     let a = st.args in
     let l = Leaves (Root s.before) in
-    ap₂ (λ (k : ℕ) (all : List ℕ). outbox_up_to sha256 a.seat.n a.seat.n a.seat.own k all l.leaves.result) q.code-size.ensures.2
+    ap₂ (λ (k : ℕ) (all : List ℕ). outbox_up_to sha256 a.seat.n a.seat.n a.seat.own k all l.leaves-leaves.result) q.code-size.ensures.2
     q.code-size.ensures.1
     ∙ ap (outbox_up_to sha256 a.seat.n a.seat.n a.seat.own (share_length (a.seat.n - a.seat.t) (length (M st))) (shares a.seat.n (a.seat.n - a.seat.t) (M st)))
     (leaves-are l)
@@ -210,9 +210,10 @@ slice_bounds-put_relay-end c = sym (all (Coding c.before.before.before))
 
 pub put_relay-requires : goal.put_relay-requires
 put_relay-requires c =
-    let a = (Entry (Coding c.before.before.before.before.before.before).before.before.before.before).args in
-    let w = within (Coding c.before.before.before.before.before.before).before.before.before in
-    let b = open-bounds a.seat.n a.seat.t a.seat.own (length a.message.now) (fine (Coding c.before.before.before.before.before.before).before.before.before) in
+    let e = (Coding c.before.before.before.before.before.before).before.before.before in
+    let a = (Entry e.before).args in
+    let w = within e in
+    let b = open-bounds a.seat.n a.seat.t a.seat.own (length a.message.now) (fine e) in
     let z = sized c.before.before.before.before.before.before in
     (w.low, w.high, b.1, b.2, z.0, z.1, omega (arith, z.2), nodes-are c.before.before.before.before.before.before)
 
@@ -229,9 +230,10 @@ slice_bounds-put_outbox-end c = sym (all (Coding c.before.before.before))
 
 pub put_outbox-requires : goal.put_outbox-requires
 put_outbox-requires c =
-    let w = within (Coding c.before.before.before.before.before.before).before.before.before in
+    let e = (Coding c.before.before.before.before.before.before).before.before.before in
+    let w = within e in
     let z = sized c.before.before.before.before.before.before in
-    (w.low, w.high, z.0, z.1, z.2, (Leaves (Root c.before.before.before.before.before.before.before)).leaves.ensures, nodes-are c.before.before.before.before.before.before)
+    (w.low, w.high, z.0, z.1, z.2, (Leaves (Root c.before.before.before.before.before.before.before)).leaves-leaves.ensures, nodes-are c.before.before.before.before.before.before)
 
 pub returns : goal.returns
 returns c =

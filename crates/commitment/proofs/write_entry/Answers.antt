@@ -5,6 +5,7 @@ use mathlib.Core.List.{List, [], ◌∷◌}
 use Prim.Native.Nat.{ℕ}
 use native.Mathlib.Omega.{arith}
 use lib.ListN.{length}
+use borrow.Enum.Refused.{opened}
 use Rattle.sha256.specs.Sha256.{sha256}
 use Rattle.buffer.specs.Given.{Given, gave, value_of}
 use Rattle.buffer.specs.Splice.{spliced}
@@ -67,7 +68,7 @@ wrote w =
 
 pub returns-in_default-write_entry : goal.returns-in_default-write_entry
 returns-in_default-write_entry c =
-    absurd (not_done c.write_entry.result (length (bytes (Entry c.before.before.before.before))) (ap (λ (g : Given). g.answer) (wrote c.before.before.before.before)) c.in_default-write_entry.in_default-write_entry-own.keys2)
+    absurd (not_done c.write_entry.result (length (bytes (Entry c.before.before.before.before))) (ap (λ (g : Given). g.answer) (wrote c.before.before.before.before)) (opened c.in_default-write_entry.in_default-write_entry-own.keys2))
 
 pub returns : goal.returns
 returns c = (

@@ -30,7 +30,7 @@ loop-k-preserved c =
     let k = c.loop-k.k in
     let e = c.add_multiple.ensures in (
       omega arith,
-      c.add_multiple.auto.0 ∙ c.loop-k.invariant.1,
+      c.add_multiple.auto.frame ∙ c.loop-k.invariant.1,
       λ q i h g. elim (ℕ_discrete q k) [
         | yes same ↦ rw same
             (e.1 i g ∙ ap (λ (x : ℕ). bit_xor x (product (get_or a.table.now (cell k a.m) 0) (get_or a.share.now i 0)))

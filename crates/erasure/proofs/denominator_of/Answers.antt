@@ -1,6 +1,5 @@
 -- `erasure::denominator_of` meets its contract. After m turns the product of the factors so far is that over the points below m. Assumes nothing.
 use mathlib.Core.Path.{◌≡◌, refl, sym, ap, ◌∙◌}
-use mathlib.Core.Logic.{⊎_elim}
 use Prim.Native.Nat.{ℕ, ◌-◌}
 use native.Mathlib.Omega.{arith}
 use lib.Bits.{bit_xor}
@@ -11,6 +10,7 @@ use Rattle.polynomial.specs.Polynomial.{denominator}
 use Rattle.erasure.specs.Bytes.{bytes}
 use Rattle.erasure.proofs.Lagrange.{product-more, denominator-skip, denominator-more}
 use Rattle.erasure.proofs.denominator_of.Goals as goal
+use Rattle.erasure.proofs.denominator_of.Goals.{then-m-i, else-m-i}
 
 pub loop-m-init : goal.loop-m-init
 unfolding denominator
@@ -22,16 +22,21 @@ loop-m-preserved c =
     let a = c.args in
     let x : ℕ → ℕ = λ j. get_or a.numbers.now j 0 in
     let y = bit_xor (x a.i) (x l.m) in
-    ⊎_elim
-    (λ w. rw (w.2, w.3) (
-      omega arith,
-      omega arith,
-      length-set l.factors l.count y ∙ l.invariant.2,
-      product-more l.factors l.count y (omega arith) ∙ ap (λ (d : ℕ). product d y) l.invariant.3
-          ∙ sym (denominator-more bytes l.m x a.i w.0.taken),
-    ))
-    (λ w. rw (w.1, w.2) (omega arith, omega arith, l.invariant.2, l.invariant.3 ∙ sym (denominator-skip bytes l.m x a.i w.0.left)))
-    c.if-m-i.branch
+    elim c.if-m-i.branch [
+      | then-m-i w ↦ rw (w.factors-is, w.count-is) (
+        omega arith,
+        omega arith,
+        length-set l.factors l.count y ∙ l.invariant.2,
+        product-more l.factors l.count y (omega arith) ∙ ap (λ (d : ℕ). product d y) l.invariant.3
+            ∙ sym (denominator-more bytes l.m x a.i w.if-m-i.true),
+      )
+      | else-m-i w ↦ rw (w.factors-is, w.count-is) (
+        omega arith,
+        omega arith,
+        l.invariant.2,
+        l.invariant.3 ∙ sym (denominator-skip bytes l.m x a.i w.if-m-i.false),
+      )
+    ]
 
 pub slice_bounds-row_product-end : goal.slice_bounds-row_product-end
 slice_bounds-row_product-end c = sym (length-take-le _ _ (omega arith))

@@ -89,7 +89,7 @@ as-stated c = as-given c ∙ ap (share_length (Entry (At (Read c))).args.b) (sta
 inside : (c : Else-s-share_length) → let a = (Entry (At (Read c))).args in Len (Read c) + 2 ≤ a.b * a.s
 inside c =
     let st = Entry (At (Read c)) in
-    subst (λ (n : ℕ). Len (Read c) + 2 ≤ st.args.b * n) (sym (as-given c)) (share-low st.args.b (Len (Read c)) st.pre.0)
+    subst (λ (n : ℕ). Len (Read c) + 2 ≤ st.args.b * n) (sym (as-given c)) (share-low st.args.b (Len (Read c)) st.requires.0)
 
 pub overflow_mul-size : goal.overflow_mul-size
 overflow_mul-size c =
@@ -124,13 +124,13 @@ slice_bounds-give_message-end c = sym (long (At (Read c.before.before)))
 pub give_message-requires : goal.give_message-requires
 give_message-requires c =
     let d = At (Read c.before.before.before) in
-    (stated (Read c.before.before.before) ∙ ap size (sym d.whole-frame.ensures), omega (arith, inside c.before.before.before, long d))
+    (stated (Read c.before.before.before) ∙ ap size (sym d.whole_frame-frame.ensures), omega (arith, inside c.before.before.before, long d))
 
 pub returns : goal.returns
 returns c =
     let d = At (Read c.before.before.before.before.before.before) in
     let st = Entry d in
     c.give_message.ensures
-    ∙ ap (λ (f : List ℕ). answered (judged_frame f) st.args.out.now) d.whole-frame.ensures
+    ∙ ap (λ (f : List ℕ). answered (judged_frame f) st.args.out.now) d.whole_frame-frame.ensures
     ∙ sym (ap (λ (r : Recovered). answered r st.args.out.now)
     (unframed-judged st.args.b st.args.s (F st) (whole d) (within c.before.before.before.before.before.before.before.before) (as-stated c.before.before.before.before.before.before)))

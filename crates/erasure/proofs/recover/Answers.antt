@@ -111,13 +111,13 @@ lengths e =
 abbrev Before : Else-uneven → Else-chosen-b
 Before c = c.before.before.before.before.before.before
 
-none : (c : Else-uneven) → other (Len (At (Before c))) (tabulate (B (At (Before c))) (λ m. get_or (At (Before c)).choose.result.lens m 0)) ≡ false
+none : (c : Else-uneven) → other (Len (At (Before c))) (tabulate (B (At (Before c))) (λ m. get_or (At (Before c)).choose-chosen.result.lens m 0)) ≡ false
 none c = sym c.uneven.ensures ∙ c.if-uneven.false
 
-even : (c : Else-uneven) (m : ℕ) → m < B (At (Before c)) → get_or (At (Before c)).choose.result.lens m 0 ≡ Len (At (Before c))
+even : (c : Else-uneven) (m : ℕ) → m < B (At (Before c)) → get_or (At (Before c)).choose-chosen.result.lens m 0 ≡ Len (At (Before c))
 even c m l =
     let h = At (Before c) in
-    let f : ℕ → ℕ = λ i. get_or h.choose.result.lens i 0 in
+    let f : ℕ → ℕ = λ i. get_or h.choose-chosen.result.lens i 0 in
     sym (get_or-tabulate (B h) f m 0 l) ∙ none_other (Len h) (tabulate (B h) f) (none c) m (rw length-tabulate l)
 
 pub returns-then-chosen-b : goal.returns-then-chosen-b

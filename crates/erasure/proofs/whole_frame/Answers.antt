@@ -1,7 +1,6 @@
 -- `erasure::whole_frame` meets its contract: after m turns each byte is the sum over the first m shares. Assumes nothing.
 use mathlib.Core.Path.{◌≡◌, sym, ap, ◌∙◌}
 use mathlib.Core.List.{List, ◌++◌}
-use mathlib.Core.Logic.{⊎_elim}
 use Prim.Native.Nat.{ℕ, ◌+◌, ◌-◌, ◌*◌, ◌/◌, ◌%◌}
 use native.Mathlib.Nat.{div-add-mod'}
 use native.Mathlib.Numerals.{add-one}
@@ -20,6 +19,7 @@ use Rattle.erasure.proofs.whole_frame.Lts as lts
 use Rattle.erasure.proofs.whole_frame.Reads as reads
 use Rattle.erasure.proofs.whole_frame.Tie as tie
 use Rattle.erasure.proofs.whole_frame.Goals as goal
+use Rattle.erasure.proofs.whole_frame.Goals.{then-at-first, else-at-first}
 
 -- Places of the code that the helpers below speak of.
 abbrev After-at-1 : Type 0
@@ -78,17 +78,22 @@ loop-m-preserved c =
     let y = a.second.now in
     let at = get_or a.from.now l.m 0 in (
       omega arith,
-      ⊎_elim (λ w. ap length w.5 ∙ w.3.kept.0 ∙ l.inv.1) (λ w. ap length w.5 ∙ w.3.kept.0 ∙ l.inv.1) c.if-at-first.branch,
+      elim c.if-at-first.branch [
+        | then-at-first w ↦ ap length w.frame-is ∙ w.add_share.auto.frame ∙ l.invariant.1
+        | else-at-first w ↦ ap length w.frame-is ∙ w.add_share-else-at-first.auto.frame ∙ l.invariant.1
+      ],
       λ k i h g.
           let f : ℕ → ℕ = λ q. product (get_or a.table.now (cell k q) 0) (get_or (x ++ y) (get_or a.from.now q 0 + i) 0) in
           let z : ℕ = get_or l.frame (k * a.s + i) 0 in
           let e : ℕ → ℕ = λ v. bit_xor z (product (get_or a.table.now (cell k l.m) 0) v) in
-          ⊎_elim
-          (λ w. ap (λ (v : List ℕ). get_or v (k * a.s + i) 0) w.5 ∙ w.3.ensures k i h g
-          ∙ ap e (byte-first x y at i (omega (arith, (in_one c.before.before).0 w.0.taken))))
-          (λ w. ap (λ (v : List ℕ). get_or v (k * a.s + i) 0) w.5 ∙ w.3.ensures k i h g ∙ ap e (byte-second x y at i w.0.left))
-          c.if-at-first.branch
-          ∙ sum_more l.m f z (l.inv.2 k i h g),
+          let added : get_or c.if-at-first.frame (k * a.s + i) 0 ≡ bit_xor z (f l.m) =
+          elim c.if-at-first.branch [
+            | then-at-first w ↦ ap (λ (v : List ℕ). get_or v (k * a.s + i) 0) w.frame-is ∙ w.add_share.ensures k i h g
+                ∙ ap e (byte-first x y at i (omega (arith, (in_one c.before.before).0 w.if-at-first.true)))
+            | else-at-first w ↦ ap (λ (v : List ℕ). get_or v (k * a.s + i) 0) w.frame-is ∙ w.add_share-else-at-first.ensures k i h g
+                ∙ ap e (byte-second x y at i w.if-at-first.false)
+          ] in
+          added ∙ sum_more l.m f z (l.invariant.2 k i h g),
     )
 
 pub returns : goal.returns

@@ -39,7 +39,7 @@ loop-k-preserved c =
     let back : k + 1 ≡ c.loop-k.k = omega arith in
     let more : a.b - c.loop-k.k + 1 ≡ a.b - k = omega arith in (
       omega arith,
-      c.add_block.auto.0 ∙ c.loop-k.invariant.1,
+      c.add_block.auto.row ∙ c.loop-k.invariant.1,
       λ i h. c.add_block.ensures i h
           ∙ share-more a.frame.now a.s i a.j c.requires.3 c.ranges.j.fits h k (a.b - c.loop-k.k) (get_or c.loop-k.row i 0)
           (c.loop-k.invariant.2 i h ∙ ap (λ (q : ℕ). value bytes (a.b - c.loop-k.k) (λ n. get_or (block a.s a.frame.now (q + n)) i 0) a.j) (sym back))

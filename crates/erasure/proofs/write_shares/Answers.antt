@@ -35,7 +35,7 @@ loop-j-preserved c =
     let here : c.loop-j.at ≤ length a.out.now = omega (arith, next) in (
       omega arith,
       row_next c.loop-j.j a.s c.loop-j.at c.loop-j.invariant.1,
-      c.write_share.auto.1.1.1.1.0 ∙ c.loop-j.invariant.2,
+      c.write_share.auto.out ∙ c.loop-j.invariant.2,
       c.write_share.ensures
           ∙ ap (λ (o : List ℕ). spliced o c.loop-j.at (share_of a.b a.s a.frame.now ((c.loop-j.j + 1) % 256))) c.loop-j.invariant.3
           ∙ shares-more a.out.now a.frame.now a.b a.s c.loop-j.j c.loop-j.at ((c.loop-j.j + 1) % 256) c.loop-j.invariant.1 whose here,

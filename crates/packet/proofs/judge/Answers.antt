@@ -1,6 +1,7 @@
 -- `packet::judge` meets its contract: each return is one outcome of the definition, by what was read. Assumes nothing.
 use mathlib.Core.Path.{◌≡◌, sym, ap, ◌∙◌}
 use Prim.Native.Nat.{ℕ, ◌≤◌}
+use borrow.Enum.Refused.{opened}
 use Rattle.limits.specs.Limits.{max_parties}
 use Rattle.limits.proofs.Booleans.{denied}
 use Rattle.limits.proofs.Ranges.{parties-told, numbered-told}
@@ -75,14 +76,13 @@ returns-in-Silence c = given c.before.before _ (ap (On c.before.before) c.in-Sil
 pub returns-in_default-packet : goal.returns-in_default-packet
 returns-in_default-packet c =
     let a = (Entry c.before.before.before).args in
-    given c.before.before.before _ (on-refused sha256 a.session a.n a.j a.root.now a.s.now (X c.before.before.before) c.in_default.in_default-own.keys2 c.in_default-packet.in_default-packet-own.keys2)
+    given c.before.before.before _ (on-refused sha256 a.session a.n a.j a.root.now a.s.now (X c.before.before.before) (opened c.in_default.in_default-own.keys2) (opened c.in_default-packet.in_default-packet-own.keys2))
 
 pub returns-then-number-j : goal.returns-then-number-j
 returns-then-number-j c =
     let a = (Entry c.before.before.before.before).args in
-    let g = c.packet-1.given.0 in
     given c.before.before.before.before _ (ap (On c.before.before.before.before) c.in-Share.is
-    ∙ on-other sha256 a.session a.n a.j a.root.now a.s.now g.1.0 g.1.1.0 g.1.1.1.0 g.0 c.if-number-j.true)
+    ∙ on-other sha256 a.session a.n a.j a.root.now a.s.now c.in-Share.from c.in-Share.len c.in-Share.count c.in-Share.number c.if-number-j.true)
 
 pub judge_share-requires : goal.judge_share-requires
 judge_share-requires c =
@@ -92,6 +92,5 @@ judge_share-requires c =
 
 pub returns : goal.returns
 returns c =
-    let g = c.packet-1.given.0 in
     given c.before.before.before.before.before _ (ap (On c.before.before.before.before.before) c.in-Share.is
-    ∙ ap (λ (i : ℕ). On c.before.before.before.before.before (Share i g.1.0 g.1.1.0 g.1.1.1.0)) c.if-number-j.false ∙ sym c.judge_share.ensures)
+    ∙ ap (λ (i : ℕ). On c.before.before.before.before.before (Share i c.in-Share.from c.in-Share.len c.in-Share.count)) c.if-number-j.false ∙ sym c.judge_share.ensures)

@@ -7,6 +7,7 @@ use Prim.Native.Nat.{ℕ, ◌+◌, ◌-◌}
 use native.Mathlib.Omega.{arith}
 use lib.ListN.{length, take, drop, length-drop, replicate}
 use lib.Seq.{length-take-le}
+use borrow.Enum.Refused.{opened}
 use Rattle.limits.specs.Limits.{max_path}
 use Rattle.merkle.specs.Shares.{blank, passes, check_of}
 use Rattle.merkle.specs.Answer.{checked, answer_of}
@@ -122,4 +123,4 @@ pub returns : goal.returns
 returns c =
     let a = (Entry c.before.before).args in
     sym (on-failed sha256 a.session a.n a.j a.root.now a.s.now a.place.from a.place.len a.place.count
-    (told-false c.check.result (Leads c.before.before) (answer c.before.before) c.in_default.in_default-own.keys2))
+    (told-false c.check.result (Leads c.before.before) (answer c.before.before) (opened c.in_default.in_default-own.keys2)))

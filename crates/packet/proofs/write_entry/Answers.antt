@@ -47,7 +47,7 @@ size : (e : Else-cause-ne0) → let a = (Entry e).args in
 size e =
     let s = Entry e in
     let a = s.args in
-    packet-taken a.number a.share.now a.path a.count (array-wide 32 max_path a.path _ s.good.1.1.1.0)
+    packet-taken a.number a.share.now a.path a.count (array-wide 32 max_path a.path _ s.well_formed.1.1.1.0)
     (omega (arith, (fine e).few, long s))
 
 whole : (e : Else-cause-ne0) → let a = (Entry e).args in

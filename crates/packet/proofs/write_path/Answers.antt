@@ -43,7 +43,7 @@ loop-i-preserved c =
     let a = c.args in (
       omega arith,
       omega arith,
-      c.put.auto.0 ∙ c.loop-i.invariant.2,
+      c.put.auto.dst ∙ c.loop-i.invariant.2,
       c.put.ensures.1 ∙ ap (λ (o : List ℕ). put_of o c.loop-i.to (get_or a.path c.loop-i.i [])) c.loop-i.invariant.3
           ∙ hash-more a.out.now a.at c.loop-i.to a.path c.loop-i.i (wide c.before.before.before.before.before.before.before.before.before.before) (omega (arith, long c.before.before.before.before.before.before.before.before.before.before))
           c.loop-i.invariant.1 (omega arith),

@@ -42,23 +42,23 @@ abbrev After-mark-faulty : Type 0
 After-mark-faulty = lts.After-mark tie.the-claims reads.Pre reads.Post goal.the-invariant-loop-j goal.the-decreases-loop-j
 
 -- the names of the source, in a turn
-abbrev Start : In-loop-j → Start
-Start c = c.before.before.before
+abbrev Begun : In-loop-j → Start
+Begun c = c.before.before.before
 
 abbrev S : In-loop-j → List ℕ
-S c = (Start c).args.inbox.now
+S c = (Begun c).args.inbox.now
 
 abbrev Z : In-loop-j → List ℕ
-Z c = (Start c).args.root.now
+Z c = (Begun c).args.root.now
 
 abbrev Session : In-loop-j → ℕ
-Session c = (Start c).args.session
+Session c = (Begun c).args.session
 
 abbrev N : In-loop-j → ℕ
-N c = (Start c).args.n
+N c = (Begun c).args.n
 
 abbrev Own : In-loop-j → ℕ
-Own c = (Start c).args.own
+Own c = (Begun c).args.own
 
 abbrev At : In-loop-j → ℕ
 At c = c.loop-j.at
@@ -69,7 +69,7 @@ J c = c.loop-j.j
 -- the entry of a turn, and what was read of it
 stands : (c : In-loop-j) → Stands (N c) (N c - (J c + 1)) (At c) (S c)
 stands c =
-    let p = (Start c).requires in
+    let p = (Begun c).requires in
     entry-stands (N c) (N c - (J c + 1)) (N c - J c) (At c) (S c) p.0 p.1 (omega arith) c.loop-j.invariant.2
 
 read : (r : After-read_entry-packet) → Reads (N r.before) (At r.before) (S r.before) r.read_entry-packet.result
@@ -83,12 +83,12 @@ small : (d : In-loop-j) → let l = d.loop-j in (l.faulty < l.bit) × (2 * l.bit
 small d =
     let l = d.loop-j in
     marking-room sha256 (Session d) (N d) (Own d) (Z d) (S d) (λ p. Own d) (λ p. false) (J d) (At d) l.faulty l.bit l.invariant.3 (omega arith)
-    (Start d).requires.1
+    (Begun d).requires.1
 
 -- what was found of another sender's packet
 found : (k : After-find-finding) → FindingIs k.find-finding.result (class_of sha256 (Session k.before.before.before) (N k.before.before.before) (Own k.before.before.before) (Z k.before.before.before) (body_at (At k.before.before.before) (S k.before.before.before))) (S k.before.before.before)
 found k =
-    let p = (Start k.before.before.before).requires in
+    let p = (Begun k.before.before.before).requires in
     subst (λ (f : Finding). FindingIs f (class_of sha256 (Session k.before.before.before) (N k.before.before.before) (Own k.before.before.before) (Z k.before.before.before) (body_at (At k.before.before.before) (S k.before.before.before))) (S k.before.before.before)) (sym k.find-finding.ensures)
     (finding-is sha256 (Session k.before.before.before) (N k.before.before.before) (Own k.before.before.before) (Z k.before.before.before) (S k.before.before.before) (At k.before.before.before + 2) (size (drop (At k.before.before.before) (S k.before.before.before))) (room k.before.before.before) k.read_entry-packet.result.packet (read k.before.before).packet-is
     p.0 p.1 p.2 p.3 p.5)

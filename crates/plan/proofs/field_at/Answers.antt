@@ -1,6 +1,5 @@
 -- `plan::field_at` meets its contract: so far it is the offset behind the fields of the lower options. Assumes nothing.
 use mathlib.Core.Path.{◌≡◌, sym, ap, ◌∙◌}
-use mathlib.Core.Logic.{inl, inr}
 use Prim.Native.Nat.{ℕ, suc, ◌+◌, ◌-◌}
 use native.Mathlib.Omega.{arith}
 use Rattle.bitmap.specs.Bitmap.{names}
@@ -10,6 +9,7 @@ use Rattle.plan.proofs.field_at.Lts as lts
 use Rattle.plan.proofs.field_at.Reads as reads
 use Rattle.plan.proofs.field_at.Tie as tie
 use Rattle.plan.proofs.field_at.Goals as goal
+use Rattle.plan.proofs.field_at.Goals.{then-names, else-names}
 
 -- Places of the code that the helpers below speak of.
 abbrev In-loop-j : Type 0
@@ -51,8 +51,8 @@ loop-j-preserved c =
       omega arith,
       omega arith,
       elim c.if-names.branch [
-        | inl w ↦ omega (arith, c.loop-j.invariant.3, w.1, more, field-more (Options c.before.before.before) (j - 1) (this ∙ w.0.taken))
-        | inr w ↦ omega (arith, c.loop-j.invariant.3, w.1, more, field-none (Options c.before.before.before) (j - 1) (this ∙ w.0.left))
+        | then-names w ↦ omega (arith, c.loop-j.invariant.3, w.at-is, more, field-more (Options c.before.before.before) (j - 1) (this ∙ w.if-names.true))
+        | else-names w ↦ omega (arith, c.loop-j.invariant.3, w.at-is, more, field-none (Options c.before.before.before) (j - 1) (this ∙ w.if-names.false))
       ],
     )
 

@@ -1,6 +1,5 @@
 -- `plan::within` meets its contract: all parties pass if those still to come do. Assumes nothing.
 use mathlib.Core.Path.{◌≡◌, refl, sym, ap, ap₂, ◌∙◌}
-use mathlib.Core.Logic.{inl, inr}
 use mathlib.Core.Bool.{Bool, true, cond}
 use Prim.Native.Nat.{ℕ, ◌-◌}
 use native.Mathlib.Omega.{arith}
@@ -12,6 +11,7 @@ use Rattle.plan.proofs.within.Lts as lts
 use Rattle.plan.proofs.within.Reads as reads
 use Rattle.plan.proofs.within.Tie as tie
 use Rattle.plan.proofs.within.Goals as goal
+use Rattle.plan.proofs.within.Goals.{then-names+else-not-names, else-names}
 
 -- Places of the code that the helpers below speak of.
 abbrev Start : Type 0
@@ -35,9 +35,9 @@ loop-p-preserved c =
     let l = c.loop-p in
     let passes : Test c.before.before.before.before l.p ≡ true =
     elim c.if-names.branch [
-      | inl w ↦ ap₂ (λ (x y : Bool). cond x y true) (sym c.names.ensures ∙ w.0.taken)
-          (sym w.1.ensures ∙ not-false w.1.result w.2.left)
-      | inr w ↦ ap (λ (x : Bool). cond x (names c.args.good l.p) true) (sym c.names.ensures ∙ w.left)
+      | then-names+else-not-names w ↦ ap₂ (λ (x y : Bool). cond x y true) (sym c.names.ensures ∙ w.if-names.true)
+          (sym w.names-then-names.ensures ∙ not-false w.names-then-names.result w.if-not-names.false-raw)
+      | else-names w ↦ ap (λ (x : Bool). cond x (names c.args.good l.p) true) (sym c.names.ensures ∙ w.if-names.false)
     ] in
     (omega arith, l.invariant.1 ∙ every-next (Test c.before.before.before.before) (l.p - 1) l.p (omega arith) passes)
 

@@ -37,7 +37,7 @@ slice_bounds-take_relays-end c =
     sym (length-take-le c.inbox-len.result c.inbox-len.new.out c.inbox-len.ensures.0)
 
 pub shape_of-out : goal.shape_of-out
-shape_of-out c = c.take_relays.auto.1.1.0
+shape_of-out c = c.take_relays.auto.out
 
 pub returns : goal.returns
 unfolding second_inbox step5

@@ -43,7 +43,7 @@ returns-then-q-parts c =
     let h = sym (named c.before.before.before.before.before.before.before) ∙ c.if-names.true in
     let r = c.sender_wrote.ensures in (
       r.0,
-      sym (length-take-le c.sender_wrote.result _ (omega (arith, r.0, c.sender_wrote.auto.1.1.0, length-replicate {A = ℕ} max_message_packet 0)))
+      sym (length-take-le c.sender_wrote.result _ (omega (arith, r.0, c.sender_wrote.auto.out, length-replicate {A = ℕ} max_message_packet 0)))
           ∙ ap length r.1
           ∙ sym (rw (h, eq-eqb st.args.q (sender_in (S st)) (c.if-q-parts.true ∙ sender-number (S st) st.args.parts (plan st) h))),
     )

@@ -44,7 +44,7 @@ judged k =
 pub returns-then-q-sender : goal.returns-then-q-sender
 returns-then-q-sender c =
     let r = c.book.ensures in (
-      omega (arith, r.0, c.book.auto.1.1.1.0, c.requires.2),
+      omega (arith, r.0, c.book.auto.out, c.requires.2),
       r.1 ∙ sym (handed-own (S c.before.before.before.before.before.before.before.before) c.requires.0.taken sha256 c.args.q (c.if-q-sender.true ∙ number c.before.before.before.before.before.before.before.before)),
     )
 
@@ -52,7 +52,7 @@ pub returns-then-names : goal.returns-then-names
 returns-then-names c =
     let st = Entry c.before.before.before.before.before.before in
     let r = c.sender_wrote.ensures in (
-      omega (arith, r.0, c.sender_wrote.auto.1.1.0, st.requires.2),
+      omega (arith, r.0, c.sender_wrote.auto.out, st.requires.2),
       r.1 ∙ sym (handed-good (S st) st.requires.0.taken sha256 st.args.q (λ e. c.if-q-sender.false (e ∙ sym (number st)))
           (sym (judged c.before.before.before.before.before.before) ∙ c.if-names.true)),
     )

@@ -4,6 +4,7 @@ use Prim.Native.Nat.{ℕ, ◌≤◌}
 use native.Mathlib.Omega.{arith}
 use lib.ListN.{length, take}
 use lib.Seq.{length-take-le}
+use borrow.Enum.Refused.{opened}
 use Rattle.buffer.specs.Splice.{spliced}
 use Rattle.buffer.proofs.Splice.{put-fits, spliced-none}
 use Rattle.party.specs.declared.Answer.{Answer}
@@ -37,7 +38,7 @@ pub returns-in_default : goal.returns-in_default
 returns-in_default c =
     let a = c.args in
     let o = a.slot.now in
-    let e = ap (λ (l : ℕ). take l a.out.now) (sent-none a.answer c.in_default.in_default-own.keys2) in
+    let e = ap (λ (l : ℕ). take l a.out.now) (sent-none a.answer (opened c.in_default.in_default-own.keys2)) in
     (sym (ap length e), sym (ap (spliced o 0) e ∙ spliced-none o 0))
 
 pub slice_bounds-put-end : goal.slice_bounds-put-end

@@ -17,7 +17,7 @@ keep-len-requires c =
         arith,
         step_room a.turn.e a.bytes.now a.q,
         ap (λ (r : Stepped). sent_length r.answer) c.step-answer.ensures,
-        c.step-answer.auto.1.1.1.1.1.1.0,
+        c.step-answer.auto.out,
       ),
       search rules,
     )

@@ -38,7 +38,7 @@ named k = let st = Entry k in option-named (S st) st.args.parts (plan st) sender
 
 -- the book has room
 inside : (b : After-book-len) → b.book-len.result ≤ length b.book-len.new.out
-inside b = omega (arith, b.book-len.ensures.0, b.book-len.auto.1.1.1.0, length-replicate {A = ℕ} max_message 0)
+inside b = omega (arith, b.book-len.ensures.0, b.book-len.auto.out, length-replicate {A = ℕ} max_message 0)
 
 pub opened_by_sender-requires : goal.opened_by_sender-requires
 opened_by_sender-requires c = ((Entry c.before.before).requires, sym (named c.before.before) ∙ c.if-names.true)

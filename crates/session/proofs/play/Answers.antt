@@ -69,7 +69,7 @@ abbrev O : After-put_lines-at → List ℕ
 O k = k.put_lines-at.new.text
 
 long : (k : After-put_lines-at) → length (O k) ≡ max_text
-long k = k.put_lines-at.auto.1.1.1.1.1.0 ∙ (Entry (Votes (Deals (Relays k)))).requires.3
+long k = k.put_lines-at.auto.text ∙ (Entry (Votes (Deals (Relays k)))).requires.3
 
 -- the last line, behind them
 last : (c : After-value_of) → let p = Lines c.before.before.before.before.before.before in
@@ -111,13 +111,13 @@ pub relay_on_one-last-requires : goal.relay_on_one-last-requires
 unfolding step_for state_for
 relay_on_one-last-requires c =
     let st = Entry (Votes c.before.before.before.before.before.before.before) in
-    (record { ready = st.pre.0; bit_is = st.pre.2 }, refl, c.round-dealt.ensures.0, outboxes c.before.before.before.before.before.before.before, blank, refl)
+    (record { ready = st.requires.0; bit_is = st.requires.2 }, refl, c.round-dealt.ensures.0, outboxes c.before.before.before.before.before.before.before, blank, refl)
 
 pub slice_bounds-put_lines-end : goal.slice_bounds-put_lines-end
-slice_bounds-put_lines-end c = sym (c.relay_on_one-last.auto.1.1.1.1.1.0 ∙ blank)
+slice_bounds-put_lines-end c = sym (c.relay_on_one-last.auto.relays ∙ blank)
 
 pub slice_bounds-put_lines-end-2 : goal.slice_bounds-put_lines-end-2
-slice_bounds-put_lines-end-2 c = sym c.relay_on_one-last.auto.1.1.1.1.1.1.0
+slice_bounds-put_lines-end-2 c = sym c.relay_on_one-last.auto.sizes
 
 pub slice_bounds-sent_all-end : goal.slice_bounds-sent_all-end
 slice_bounds-sent_all-end c = sym (outboxes (Deals (Relays c.before.before.before.before))).boxes-long
@@ -126,13 +126,13 @@ pub slice_bounds-sent_all-end-2 : goal.slice_bounds-sent_all-end-2
 slice_bounds-sent_all-end-2 c = sym (outboxes (Deals (Relays c.before.before.before.before.before))).lens-long
 
 pub slice_bounds-sent_all-end-3 : goal.slice_bounds-sent_all-end-3
-slice_bounds-sent_all-end-3 c = sym (Relays c.before.before.before.before.before.before).relay_on_one-last.auto.1.1.1.1.1.1.0
+slice_bounds-sent_all-end-3 c = sym (Relays c.before.before.before.before.before.before).relay_on_one-last.auto.sizes
 
 pub sent_all-sent-requires : goal.sent_all-sent-requires
 sent_all-sent-requires c =
     let r = Relays (Lines c.before) in
     let d = Deals r in
-    ((Entry (Votes d)).requires.0, outboxes d, r.relay-on-one.ensures.1)
+    ((Entry (Votes d)).requires.0, outboxes d, r.relay_on_one-last.ensures.1)
 
 pub slice_bounds-sent_line-count : goal.slice_bounds-sent_line-count
 slice_bounds-sent_line-count c = let p = Lines c.before.before in omega (arith, p.put_lines-at.ensures.0)
@@ -148,7 +148,7 @@ overflow_add-result c =
 pub shape_of-text : goal.shape_of-text
 shape_of-text c =
     let p = Lines c.before.before.before.before.before.before.before in
-    search (rules, c.sent_line.auto.1.0, p.put_lines-at.kept.1.1.1.1.1.0)
+    search (rules, c.sent_line.auto.out, p.put_lines-at.auto.text)
 
 pub returns : goal.returns
 returns c =

@@ -4,6 +4,7 @@ use mathlib.Core.List.{List}
 use Prim.Native.Nat.{ℕ, zero, ◌≤◌}
 use native.Mathlib.Omega.{arith}
 use lib.ListN.{length, length-take, length-replicate}
+use borrow.Enum.Refused.{opened}
 use Rattle.limits.specs.Limits.{max_message}
 use Rattle.buffer.specs.Splice.{spliced}
 use Rattle.party.specs.State.{Result}
@@ -43,12 +44,12 @@ inside k =
 
 room : (k : In-Message) → Len k ≤ length (O k.before.before)
 room k =
-    omega (arith, inside k, k.result_of-result.auto.1.1.1.1.1.1.0, length-replicate max_message zero)
+    omega (arith, inside k, k.result_of-result.auto.out, length-replicate max_message zero)
 
 pub returns-in_default : goal.returns-in_default
 returns-in_default c =
     let a = (Entry c.before.before.before.before.before.before.before.before.before).args in
-    let e = sym (no-message c.result_of-result.result (O c.before.before.before.before.before.before.before.before.before) c.in_default.in_default-own.keys2) ∙ c.result_of-result.ensures.1 in
+    let e = sym (no-message c.result_of-result.result (O c.before.before.before.before.before.before.before.before.before) (opened c.in_default.in_default-own.keys2)) ∙ c.result_of-result.ensures.1 in
     let y = c.write_line.ensures in (
       y.0 ∙ ap (λ (x : Result). length (line_with a.q x)) e,
       y.1,

@@ -110,7 +110,7 @@ slice_bounds-give-end c =
     sym (length-take-le c.play-len.result (O c.before.before.before) c.play-len.ensures.0)
 
 pub shape_of-out : goal.shape_of-out
-shape_of-out c = c.give.auto.1.0
+shape_of-out c = c.give.auto.out
 
 pub returns : goal.returns
 returns c =
@@ -119,4 +119,4 @@ returns c =
     let st = Entry t.before in
     let out = st.args.out.now in
     c.give.ensures ∙ ap (λ (l : List ℕ). written l out) c.play-len.ensures.1
-    ∙ sym (played sha256 (S st) out (ready t).taken (sym e.unlawful.ensures ∙ e.if-unlawful.left))
+    ∙ sym (played sha256 (S st) out (ready t).taken (sym e.unlawful.ensures ∙ e.if-unlawful.false))

@@ -62,10 +62,12 @@ named c b h =
 abbrev Asked : After-same → Then-names
 Asked d = d.before.before.before.before.before
 
-compared : (d : After-same) → d.same.result ≡ same (opened sha256 (S (Entry (Asked d).before.before.before)) (P (Asked d).before.before.before + 1)).root (W (Entry (Asked d).before.before.before))
+compared : (d : After-same) → let a = (Asked d).before.before.before in
+    d.same.result ≡ same (opened sha256 (S (Entry a)) (P a + 1)).root (W (Entry a))
 compared d =
-    same-is d.opened.result.root (W (Entry (Asked d).before.before.before)) d.same.result d.same.ensures.0 d.same.ensures.1
-    ∙ ap (λ (x : Opened). same x.root (W (Entry (Asked d).before.before.before))) d.opened.ensures
+    let a = (Asked d).before.before.before in
+    same-is d.opened.result.root (W (Entry a)) d.same.result d.same.ensures.0 d.same.ensures.1
+    ∙ ap (λ (x : Opened). same x.root (W (Entry a))) d.opened.ensures
 
 pub loop-p-init : goal.loop-p-init
 loop-p-init c =
@@ -75,16 +77,16 @@ pub returns-then-not-same : goal.returns-then-not-same
 returns-then-not-same c =
     let t = Asked c.before.before in
     let st = Entry t.before.before.before in
-    sym (t.loop-p.inv.1 ∙ roots-other sha256 (S st) (N st - (P t.before.before.before + 1)) (N st - P t.before.before.before) (P t.before.before.before + 1) (omega arith) (W st)
-    (named t.before _ t.if-names.taken) (sym (compared c.before.before) ∙ not-true c.same.result c.if-not-same.true-raw))
+    sym (t.loop-p.invariant.1 ∙ roots-other sha256 (S st) (N st - (P t.before.before.before + 1)) (N st - P t.before.before.before) (P t.before.before.before + 1) (omega arith) (W st)
+    (named t.before _ t.if-names.true) (sym (compared c.before.before) ∙ not-true c.same.result c.if-not-same.true-raw))
 
 pub loop-p-preserved-else-not-same : goal.loop-p-preserved-else-not-same
 loop-p-preserved-else-not-same c =
     let t = Asked c.before.before in
     let st = Entry t.before.before.before in (
       omega arith,
-      t.loop-p.inv.1 ∙ roots-same sha256 (S st) (N st - (P t.before.before.before + 1)) (N st - P t.before.before.before) (P t.before.before.before + 1) (omega arith) (W st)
-          (named t.before _ t.if-names.taken) (sym (compared c.before.before) ∙ not-false c.same.result c.if-not-same.false-raw),
+      t.loop-p.invariant.1 ∙ roots-same sha256 (S st) (N st - (P t.before.before.before + 1)) (N st - P t.before.before.before) (P t.before.before.before + 1) (omega arith) (W st)
+          (named t.before _ t.if-names.true) (sym (compared c.before.before) ∙ not-false c.same.result c.if-not-same.false-raw),
     )
 
 pub loop-p-preserved : goal.loop-p-preserved

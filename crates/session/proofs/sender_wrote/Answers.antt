@@ -37,7 +37,7 @@ plan st = known (S st) st.args.parts st.requires.0
 
 -- the book has room
 inside : (b : After-book-len) → b.book-len.result ≤ length b.book-len.new.out
-inside b = omega (arith, b.book-len.ensures.0, b.book-len.auto.1.1.1.0, length-replicate {A = ℕ} max_message 0)
+inside b = omega (arith, b.book-len.ensures.0, b.book-len.auto.out, length-replicate {A = ℕ} max_message 0)
 
 -- the call of the opening: what it gave is the definition's
 abbrev Booked : After-open_by_sender-begun → After-book-len
@@ -56,7 +56,7 @@ gives o =
     let st = Entry o in
     let a = st.args in
     let k = plan st in
-    let m = take b.book-len.result b.book-len.last.1.1.1.0 in
+    let m = take b.book-len.result b.book-len.new.out in
     o.open_by_sender-begun.ensures
     ∙ ap (λ (i : ℕ). open_by_sender_of sha256 i a.parts.n a.parts.t a.parts.sender a.parts.sender m Zeros) k.session-is
     ∙ ap₂ (λ (n t : ℕ). open_by_sender_of sha256 (session_of (S st)) n t a.parts.sender a.parts.sender m Zeros) k.n-is k.t-is
@@ -79,7 +79,7 @@ wrote o =
     )
 
 fits : (o : After-open_by_sender-begun) → o.open_by_sender-begun.result.len ≤ length o.open_by_sender-begun.new.out
-fits o = omega (arith, (wrote o).0, o.open_by_sender-begun.auto.1.1.1.1.1.1.0, length-replicate {A = ℕ} max_message_packet 0)
+fits o = omega (arith, (wrote o).0, o.open_by_sender-begun.auto.out, length-replicate {A = ℕ} max_message_packet 0)
 
 pub slice_bounds-open_by_sender-end : goal.slice_bounds-open_by_sender-end
 slice_bounds-open_by_sender-end c = sym (length-take-le c.book-len.result _ (inside c.before.before.before))

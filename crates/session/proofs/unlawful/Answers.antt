@@ -1,7 +1,7 @@
 -- `session::unlawful` meets its contract: each return is one of the rule's four tests. Assumes nothing.
 use mathlib.Core.Path.{◌≡◌, sym, ap, ap₂, ◌∙◌}
 use mathlib.Core.Logic.{inl, inr}
-use mathlib.Core.Bool.{Bool, false, not, ◌&&◌}
+use mathlib.Core.Bool.{true, Bool, false, not, ◌&&◌}
 use mathlib.Core.List.{List}
 use Prim.Native.Nat.{ℕ}
 use native.Mathlib.Omega.{arith}
@@ -19,6 +19,7 @@ use Rattle.session.proofs.unlawful.Lts as lts
 use Rattle.session.proofs.unlawful.Reads as reads
 use Rattle.session.proofs.unlawful.Tie as tie
 use Rattle.session.proofs.unlawful.Goals as goal
+use Rattle.session.proofs.unlawful.Goals.{then-names+else-bit-gt1, else-names, then-same_roots+else-not-same, else-same_roots}
 
 -- Places of the code that the helpers below speak of.
 abbrev Start : Type 0
@@ -90,8 +91,8 @@ bit_is : (c : Joined-names) → no_bit (S (Counted c.before.before.before)) ≡ 
 bit_is c =
     let st = Counted c.before.before.before in
     elim c.if-names.branch [
-      | inl w ↦ bit-low sha256 (S st) (sym (voted c.before) ∙ w.0.taken) (omega (arith, w.1.left, st.requires.2))
-      | inr w ↦ bit-none (S st) (sym (voted c.before) ∙ w.left)
+      | then-names+else-bit-gt1 w ↦ bit-low sha256 (S st) (sym (voted c.before) ∙ w.if-names.true) (omega (arith, w.if-bit-gt1.false, st.requires.2))
+      | else-names w ↦ bit-none (S st) (sym (voted c.before) ∙ w.if-names.false)
     ]
 
 -- the lowest-numbered good party, and its root
@@ -118,24 +119,19 @@ all-roots r =
 abbrev Asked : After-same → Then-same_roots
 Asked d = d.before.before.before
 
-compared : (d : After-same) → let s = S (Entry (Own (Asked d).before).before) in
-    d.same.result ≡ same (agreed_root sha256 s) (first_root sha256 s)
-compared d =
-    let o = Own (Asked d).before in
+compared : (o : After-opened) (r : Bool) → (r ≡ true → Root (Entry o.before) ≡ o.opened.result.root) → (Root (Entry o.before) ≡ o.opened.result.root → r ≡ true)
+    → let s = S (Entry o.before) in r ≡ same (agreed_root sha256 s) (first_root sha256 s)
+compared o r f g =
     let st = Entry o.before in
-    same-is (Root st) o.opened.result.root d.same.result d.same.ensures.0 d.same.ensures.1
-    ∙ ap₂ same st.requires.1 (own_is o)
+    same-is (Root st) o.opened.result.root r f g ∙ ap₂ same st.requires.1 (own_is o)
 
 root_is : (c : Joined-same_roots) → other_root sha256 (S (Entry (Own c.before).before)) ≡ false
 root_is c =
     let s = S (Entry (Own c.before).before) in
     elim c.if-same_roots.branch [
-      | inl w ↦ ap₂ (λ (x y : Bool). x && not y) (sym (all-roots c.before) ∙ w.0.taken)
-          (sym (compared (record {
-            before = record { before = record { before = record { before = c.before; if4 = w.0 }; same-arg = w.1 }; own3 = w.2 };
-            same = w.3;
-          })) ∙ not-false w.3.result w.4.left)
-      | inr w ↦ ap (λ (x : Bool). x && not (same (agreed_root sha256 s) (first_root sha256 s))) (sym (all-roots c.before) ∙ w.left)
+      | then-same_roots+else-not-same w ↦ ap₂ (λ (x y : Bool). x && not y) (sym (all-roots c.before) ∙ w.if-same_roots.true)
+          (sym (compared (Own c.before) w.same.result w.same.ensures.0 w.same.ensures.1) ∙ not-false w.same.result w.if-not-same.false-raw)
+      | else-same_roots w ↦ ap (λ (x : Bool). x && not (same (agreed_root sha256 s) (first_root sha256 s))) (sym (all-roots c.before) ∙ w.if-same_roots.false)
     ]
 
 -- its bit
@@ -182,20 +178,23 @@ lowest_good-q-requires c =
 pub returns-then-not-same : goal.returns-then-not-same
 returns-then-not-same c =
     let t = Asked c.before.before in
-    let s = S (Counted (Own t.before).before.before.before.before.before) in
-    sym (unlawful-root sha256 s (few-bad (Own t.before).before.before.before.before) (bit_is (Own t.before).before.before)
-    (ap₂ (λ (x y : Bool). x && not y) (sym (all-roots t.before) ∙ t.if-same_roots.taken)
-    (sym (compared c.before.before) ∙ not-true c.same.result c.if-not-same.true-raw)))
+    let j = (Own t.before).before.before in
+    let s = S (Counted j.before.before.before) in
+    sym (unlawful-root sha256 s (few-bad j.before.before) (bit_is j)
+    (ap₂ (λ (x y : Bool). x && not y) (sym (all-roots t.before) ∙ t.if-same_roots.true)
+    (sym (compared (Own t.before) c.same.result c.same.ensures.0 c.same.ensures.1) ∙ not-true c.same.result c.if-not-same.true-raw)))
 
 pub returns-then-same_bits : goal.returns-then-same_bits
 returns-then-same_bits c =
+    let j = (Last c.before.before).before in
     let st = Entry (Last c.before.before) in
     let s = S st in
-    sym (unlawful-vote sha256 s (few-bad (Last c.before.before).before.before.before) (bit_is (Last c.before.before).before) (root_is (Joined c.before.before))
-    ∙ ap₂ (λ (x y : Bool). x && not y) (sym (all-bits c.before.before) ∙ c.if-same_bits.true) (sym (ap₂ eqb st.pre.2 (vote-is c.before.before))))
+    sym (unlawful-vote sha256 s (few-bad j.before.before) (bit_is j) (root_is (Joined c.before.before))
+    ∙ ap₂ (λ (x y : Bool). x && not y) (sym (all-bits c.before.before) ∙ c.if-same_bits.true) (sym (ap₂ eqb st.requires.2 (vote-is c.before.before))))
 
 pub returns : goal.returns
 returns c =
+    let j = (Last c.before.before).before in
     let s = S (Entry (Last c.before.before)) in
-    sym (unlawful-vote sha256 s (few-bad (Last c.before.before).before.before.before) (bit_is (Last c.before.before).before) (root_is (Joined c.before.before))
+    sym (unlawful-vote sha256 s (few-bad j.before.before) (bit_is j) (root_is (Joined c.before.before))
     ∙ ap (λ (x : Bool). x && not (eqb (agreed_bit sha256 s) (first_bit sha256 s))) (sym (all-bits c.before.before) ∙ c.if-same_bits.false))

@@ -53,5 +53,5 @@ returns c = let p1 = Three c.before.before.before.before.before.before.before.be
     let e = One p1 in
     let st = Entry e in
     let a = st.args in
-    state-written a.x (root-long st) (message-long st) (share-long st) a.out.now _ _ _ _ _ e.if-out-lt-LENGTH.left p1.head_of-head.ensures
+    state-written a.x (root-long st) (message-long st) (share-long st) a.out.now _ _ _ _ _ e.if-out-lt-LENGTH.false p1.head_of-head.ensures
     p1.put.ensures.1 c.put-2.ensures.1 c.put-3.ensures.1 c.put-4.ensures.1

@@ -3,4 +3,4 @@ use Rattle.vectors.proofs.run_case.Goals as goal
 
 pub shape_of-input : goal.shape_of-input
 shape_of-input c =
-    c.read_part-given.auto.0
+    c.read_part-given.auto.buffer

@@ -107,10 +107,11 @@ next : (v : After-waiting-next) → let x = (Entry (One v).before.before).args.s
     v.waiting-next.result ≡ at_first x.seat (message_in x) x.root
 unfolding at_first
 next v =
-    let x = (Entry (One v).before.before).args.self in
+    let e = (One v).before.before in
+    let x = (Entry e).args.self in
     v.waiting-next.ensures
     ∙ waiting_kept x.seat First _ (message_in x) _ x.root _ [] x.len 0 0 refl
-    (sym (length-message x (omega (arith, (fit (One v).before.before).short, long (Entry (One v).before.before))))) refl refl refl
+    (sym (length-message x (omega (arith, (fit e).short, long (Entry e))))) refl refl refl
 
 -- what follows on bit 1
 first : (o : Else-bit-eq0) → let a = (Entry o.before.before).args in

@@ -22,6 +22,7 @@ use Rattle.party.proofs.Outcomes.{found-happy, found-rebuilt}
 use Rattle.party.proofs.Kept.{length-message}
 use Rattle.party.proofs.Taking.{rebuilt-of}
 use borrow.Author.Rules.{rules}
+use borrow.Enum.Refused.{opened}
 use Rattle.sha256.specs.Sha256.{sha256}
 use Rattle.party.proofs.Party.conclude.Lts as lts
 use Rattle.party.proofs.Party.conclude.Reads as reads
@@ -103,7 +104,7 @@ rebuilding : (d : After-rebuild_at) → let st = E d in result_found sha256 (X s
 rebuilding d =
     let st = E d in
     let u = Unhappy d in
-    found-rebuilt sha256 (X st) (S st) (sym u.happy.ensures ∙ u.if-happy.left)
+    found-rebuilt sha256 (X st) (S st) (sym u.happy.ensures ∙ u.if-happy.false)
 
 -- the entries, the buffer after rebuilding, and what the answer says
 abbrev O : After-rebuild_at → List ℕ
@@ -115,7 +116,7 @@ Zeros = replicate max_message 0
 told : (d : After-rebuild_at) → gave d.rebuild_at.result (O d) ≡ answered (A (E d)) Zeros
 told d =
     let st = E d in
-    let g = (Judges (Unhappy d).before).judge-relays in
+    let g = (Judges (Unhappy d).before).judge_relays-faulty in
     d.rebuild_at.ensures ∙ rebuilt-of sha256 (X st) (S st) g.result.places Zeros (fit (E d)) g.ensures.0
 
 short : (st : Start) → Short (A st)
@@ -141,7 +142,8 @@ M h = take (Len h).in-Done.len (O (Len h).before.before)
 judged : (h : After-has_root) → let st = E (Len h).before.before in
     result_found sha256 (X st) (S st) ≡ rebuilt (cond h.has_root.result (message (M h)) (cause 15))
 judged h =
-    rebuilding (Len h).before.before ∙ ap (Under (E (Len h).before.before)) (found (Len h)).0
+    let d = (Len h).before.before in
+    rebuilding d ∙ ap (Under (E d)) (found (Len h)).0
     ∙ ap (λ (b : Bool). rebuilt (cond b (message (M h)) (cause 15))) (sym h.has_root.ensures)
 
 pub slice_bounds-message-end : goal.slice_bounds-message-end
@@ -179,7 +181,7 @@ returns-in_default c =
     ap (λ (r : Reply). stepped r (Out st)) c.settle_nothing.ensures
     ∙ sym (ap₂ {C = Stepped} (λ (r : Result) (f : ℕ). ending (X st) r f (Out st))
     (rebuilding c.before.before.before.before ∙ ap (Under st) (answer-cause (O c.before.before.before.before) Zeros c.rebuild_at.result (length-replicate max_message zero) (A st) (short st) (told c.before.before.before.before)
-    c.in_default.in_default-own.keys2).1) (sym (map (Unhappy c.before.before.before.before).before)))
+    (opened c.in_default.in_default-own.keys2)).1) (sym (map (Unhappy c.before.before.before.before).before)))
 
 pub slice_bounds-message-end-2 : goal.slice_bounds-message-end-2
 slice_bounds-message-end-2 c = (found c.before).2

@@ -8,6 +8,7 @@ use native.Mathlib.Omega.{arith}
 use borrow.Author.Rules.{rules}
 use lib.ListN.{length, take, drop}
 use lib.Seq.{take_all, length-take-le}
+use borrow.Enum.Refused.{opened}
 use Rattle.sha256.specs.Sha256.{sha256}
 use Rattle.limits.specs.Limits.{max_parties, max_share}
 use Rattle.bitmap.specs.Bitmap.{names}
@@ -54,14 +55,14 @@ abbrev In-Valid : Type 0
 In-Valid = lts.Past-After-known_told tie.the-claims reads.Pre reads.Post goal.the-invariant-loop-j goal.the-decreases-loop-j
 
 -- the names of the source, in a turn
-abbrev Start : In-loop-j → Start
-Start c = c.before.before.before.before.before
+abbrev Begun : In-loop-j → Start
+Begun c = c.before.before.before.before.before
 
 abbrev X : In-loop-j → Party
-X c = (Start c).args.self
+X c = (Begun c).args.self
 
 abbrev S : In-loop-j → List ℕ
-S c = (Start c).args.inbox.now
+S c = (Begun c).args.inbox.now
 
 abbrev Session : In-loop-j → ℕ
 Session c = (X c).seat.session
@@ -91,12 +92,12 @@ root-long : (st : Start) → length st.args.self.root ≡ 32
 root-long st = search rules
 
 held : (c : In-loop-j) → length (Y c) ≡ (X c).held
-held c = length-take-le (X c).held (X c).share (omega (arith, share-long (Start c), (Start c).requires.0.few))
+held c = length-take-le (X c).held (X c).share (omega (arith, share-long (Begun c), (Begun c).requires.0.few))
 
 -- the entry of a turn, and what was read of it
 stands : (c : In-loop-j) → Stands (N c) (N c - (J c + 1)) (At c) (S c)
 stands c =
-    let f = (Start c).requires.0 in
+    let f = (Begun c).requires.0 in
     entry-stands (N c) (N c - (J c + 1)) (N c - J c) (At c) (S c) f.low f.high (omega arith) c.loop-j.invariant.0.filled
 
 read : (r : After-read_entry-packet) → Reads (N r.before) (At r.before) (S r.before) r.read_entry-packet.result
@@ -118,7 +119,7 @@ small : (d : In-loop-j) → let l = d.loop-j in (l.faulty < l.bit) × (2 * l.bit
 small d =
     let l = d.loop-j in
     marking-room sha256 (Session d) (N d) (Own d) (Z d) (S d) (λ p. p) (Before d) (J d) (At d) l.faulty l.bit (marks d) (omega arith)
-    (Start d).requires.0.high
+    (Begun d).requires.0.high
 
 pub loop-j-init : goal.loop-j-init
 loop-j-init c =
@@ -132,7 +133,7 @@ pub overflow_mul-bit : goal.overflow_mul-bit
 overflow_mul-bit c = omega (arith, small c.before.before)
 
 few : (d : In-loop-j) → J d + 1 ≤ max_parties
-few d = omega (arith, (Start d).requires.0.high)
+few d = omega (arith, (Begun d).requires.0.high)
 
 pub offset_bounds-from-i : goal.offset_bounds-from-i
 offset_bounds-from-i c = omega (arith, few c.before.before.before)
@@ -152,7 +153,7 @@ loop-j-preserved-then-j-own c =
     let o = c.loop-j in
     let s = S c.before.before.before in
     let y = Y c.before.before.before in
-    let f = (Start c.before.before.before).requires.0 in
+    let f = (Begun c.before.before.before).requires.0 in
     let here : take (X c.before.before.before).held (drop (length s) (s ++ y)) ≡ y = part-second s y (length s) (X c.before.before.before).held (omega arith)
     ∙ ap (λ (k : ℕ). take (X c.before.before.before).held (drop k y)) (let e : length s - length s ≡ 0 = omega arith in e)
     ∙ take_all (X c.before.before.before).held y (omega (arith, held c.before.before.before)) in
@@ -185,10 +186,10 @@ found : (m : After-mark-faulty) → FindingIs (K m).find-finding.result (C (D m)
 found m =
     let r = R m in
     let d = D m in
-    let f = (Start d).requires.0 in
+    let f = (Begun d).requires.0 in
     subst (λ (g : Finding). FindingIs g (C d) (S d)) (sym (K m).find-finding.ensures)
     (finding-is sha256 (Session d) (N d) (J d + 1) (Z d) (S d) (At d + 2) (size (drop (At d) (S d))) (room d) r.read_entry-packet.result.packet (read r).packet-is
-    f.low f.high (omega arith) (omega arith) (root-long (Start d)))
+    f.low f.high (omega arith) (omega arith) (root-long (Begun d)))
 
 is-marked : (m : After-mark-faulty) → let d = D m in
     m.mark-faulty.result ≡ cond (Before d (J d + 1) || found_faulty (K m).find-finding.result) d.loop-j.bit 0
@@ -217,10 +218,10 @@ loop-j-preserved-in_default c =
     let d = D c.before.before in
     let o = d.loop-j in
     rw (read (R c.before.before)).next-is (
-      gathering-missed sha256 (Session d) (N d) (Own d) (Z d) (Y d) (S d) (J d) (At d) o.from o.len _ o.inv.0 (omega arith)
-          (Start d).requires.0.high (stands d)
+      gathering-missed sha256 (Session d) (N d) (Own d) (Z d) (Y d) (S d) (J d) (At d) o.from o.len _ o.invariant.0 (omega arith)
+          (Begun d).requires.0.high (stands d)
           (picked-missed sha256 (Session d) (N d) (Own d) (Z d) (Y d) (N d - (J d + 1)) (N d - J d) (J d + 1) (At d) (S d) (omega arith) (E c.before.before).if-j-own.false
-          (finding-over (K c.before.before).find-finding.result (C d) (S d) (found c.before.before) c.in_default.in_default-own.keys2)) refl,
+          (finding-over (K c.before.before).find-finding.result (C d) (S d) (found c.before.before) (opened c.in_default.in_default-own.keys2))) refl,
       marks-more c.before.before,
     )
 
@@ -246,15 +247,14 @@ loop-j-preserved c =
     let d = D m in
     let o = d.loop-j in
     let s = S d in
-    let g = c.finding-1.given.0 in
-    let from = g.0 in
-    let len = g.1.0 in
-    let count = g.1.1.0 in
+    let from = c.in-Valid.start in
+    let len = c.in-Valid.size in
+    let count = c.in-Valid.field-2 in
     let t : TakenAt s from len count (C d) = subst (λ (f : Finding). FindingIs f (C d) s) c.in-Valid.is (found m) in
     let b = taken-bounds (C d) s from len count t in
     rw (read (R m)).next-is (
-      gathering-placed sha256 (Session d) (N d) (Own d) (Z d) (Y d) s (J d) (At d) o.from o.len _ o.inv.0 (omega arith) (Start d).requires.0.high (stands d)
-          (picked-held sha256 (Session d) (N d) (Own d) (Z d) (Y d) (N d - (J d + 1)) (N d - J d) (J d + 1) (At d) s (omega arith) (E m).if-j-own.left
+      gathering-placed sha256 (Session d) (N d) (Own d) (Z d) (Y d) s (J d) (At d) o.from o.len _ o.invariant.0 (omega arith) (Begun d).requires.0.high (stands d)
+          (picked-held sha256 (Session d) (N d) (Own d) (Z d) (Y d) (N d - (J d + 1)) (N d - J d) (J d + 1) (At d) s (omega arith) (E m).if-j-own.false
           from len count t)
           from len
           (in-one-lies (length s) (length (Y d)) from len (omega (arith, b.1)) (λ h. b.0, omega (arith, b.0)))

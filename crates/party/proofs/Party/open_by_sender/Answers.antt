@@ -5,6 +5,7 @@ use mathlib.Core.List.{List, []}
 use Prim.Native.Nat.{ℕ, ◌+◌, ◌≤◌}
 use native.Mathlib.Omega.{arith}
 use lib.ListN.{length}
+use borrow.Enum.Refused.{opened}
 use Rattle.sha256.specs.Sha256.{sha256}
 use Rattle.limits.specs.Limits.{max_message}
 use Rattle.buffer.specs.Splice.{spliced}
@@ -100,7 +101,7 @@ returns-in_default c =
     let a = (Entry e).args in
     let r = c.write_message-answer.result in
     let y = answer-short a.bytes.now a.out.now (short e (sends c.before.before.before.before.before.before.before).0) r _ c.write_message-answer.ensures
-    (λ k q. not_done r k q c.in_default.in_default-own.keys2) in
+    (λ k q. not_done r k q (opened c.in_default.in_default-own.keys2)) in
     ap (λ (x : OpenedBySender). begun x c.write_message-answer.new.out) c.begun-in_default.ensures
     ∙ ap₂ {C = Begun} (λ (k : ℕ) (o : List ℕ). record { opened = c.refused_opening-in_default.result; value = k; buffer = o })
     (c.value_of-len.ensures ∙ y.1 ∙ sym (size c.before.before.before.before.before.before.before)) y.2

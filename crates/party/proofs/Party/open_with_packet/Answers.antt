@@ -6,6 +6,7 @@ use Prim.Native.Nat.{ℕ, ◌+◌, ◌-◌}
 use native.Mathlib.Omega.{arith}
 use lib.ListN.{length, take, drop, length-drop}
 use lib.Seq.{take_all}
+use borrow.Enum.Refused.{opened}
 use Rattle.sha256.specs.Sha256.{sha256}
 use Rattle.packet.specs.Message.{message, read_message, placed, Told}
 use Rattle.packet.proofs.Messages.{whole_of, placed-message}
@@ -53,7 +54,7 @@ pub returns-in_default : goal.returns-in_default
 returns-in_default c =
     let a = (Entry c.before.before.before.before.before).args in
     c.open.ensures
-    ∙ ap (open_of sha256 a.session a.n a.t a.own) (sym (unread (read_message (P c.before.before.before.before.before)) c.read_message.result (answer c.before.before.before.before.before) c.in_default.in_default-own.keys2))
+    ∙ ap (open_of sha256 a.session a.n a.t a.own) (sym (unread (read_message (P c.before.before.before.before.before)) c.read_message.result (answer c.before.before.before.before.before) (opened c.in_default.in_default-own.keys2)))
 
 pub overflow_add-end : goal.overflow_add-end
 overflow_add-end c = omega (arith, (lies c.before).1)

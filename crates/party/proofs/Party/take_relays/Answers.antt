@@ -3,6 +3,7 @@ use mathlib.Core.Path.{◌≡◌, sym, ap, ◌∙◌}
 use mathlib.Core.Bool.{false}
 use mathlib.Core.List.{List}
 use Prim.Native.Nat.{ℕ}
+use borrow.Enum.Refused.{opened}
 use Rattle.party.specs.State.{has_ended, overlong, result_at, result_from}
 use Rattle.party.specs.Steps.{state_cause, relays_cause, stepped, refused}
 use Rattle.party.specs.declared.Stage.{Stage}
@@ -48,7 +49,7 @@ sound e = (relays-sound (X (Entry e)) (S (Entry e)) (fine e)).0
 
 -- a party that waits
 waiting : (k : In_default) → has_ended (X (Entry k.before)).stage ≡ false
-waiting k = waits (X (Entry k.before)).stage k.in_default.in_default-own.keys2
+waiting k = waits (X (Entry k.before)).stage (opened k.in_default.in_default-own.keys2)
 
 pub returns-then-cause-ne0 : goal.returns-then-cause-ne0
 returns-then-cause-ne0 c =

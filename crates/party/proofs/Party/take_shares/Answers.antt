@@ -144,16 +144,16 @@ abbrev E : Else-happy → Else-cause-ne0
 E d = Fine (Waits d)
 
 left : (d : Else-happy) → Left (Waits d) ≡ Out (Entry (E d))
-left d = (Sends (Waits d)).send.ensures.2 d.if-happy.false
+left d = (Sends (Waits d)).send-happy.ensures.2 d.if-happy.false
 
 taking : (d : Else-happy) → let st = Entry (E d) in
     take_shares_of sha256 (X st) (S st) (Out st) ≡ writes (X st) (Next st (share_taken (T st))) (packet_taken (X st) (T st)) (Out st)
 taking d =
     let st = Entry (E d) in
-    shares-taken sha256 (X st) (S st) (Out st) (fine (E d)) (sym (Sends (Waits d)).send.ensures.0 ∙ d.if-happy.false)
+    shares-taken sha256 (X st) (S st) (Out st) (fine (E d)) (sym (Sends (Waits d)).send-happy.ensures.0 ∙ d.if-happy.false)
 
-took : (d : Else-happy) (r : Placed) → (Judges (Waits d)).judge-shares.result.taken ≡ r → TakenIs r (T (Entry (E d))) (S (Entry (E d)))
-took d r q = let st = Entry (E d) in subst (λ (y : Placed). TakenIs y (T st) (S st)) q (Judges (Waits d)).judge-shares.ensures.0
+took : (d : Else-happy) (r : Placed) → (Judges (Waits d)).judge_shares-taken.result.taken ≡ r → TakenIs r (T (Entry (E d))) (S (Entry (E d)))
+took d r q = let st = Entry (E d) in subst (λ (y : Placed). TakenIs y (T st) (S st)) q (Judges (Waits d)).judge_shares-taken.ensures.0
 
 -- where a share was found: its place, length and count of hashes
 abbrev D : In-At → Else-happy
@@ -192,9 +192,9 @@ size k = length_part (S (Entry (E (D k)))) (F k) (L k) (omega (arith, (got k).in
 part : (k : In-At) → take (F k + L k - F k) (drop (F k) (S (Entry (E (D k))))) ≡ Y k
 part k = part-ends (S (Entry (E (D k)))) (F k) (L k)
 
-goal : (k : In-At) → let st = Entry (E (D k)) in
+reached : (k : In-At) → let st = Entry (E (D k)) in
     take_shares_of sha256 (X st) (S st) (Out st) ≡ writes (X st) (Next st (Y k)) (Packet k) (Out st)
-goal k =
+reached k =
     let st = Entry (E (D k)) in
     taking (D k) ∙ ap (λ (t : Taken). writes (X st) (Next st (share_taken t)) (packet_taken (X st) t) (Out st)) (got k).is
 
@@ -216,7 +216,7 @@ O w = w.write-answer.new.out
 
 asked : (w : After-write-answer) → let k = K (P (W w)) in let st = Entry (E (D k)) in
     gave w.write-answer.result (O w)
-    ≡ write_of (X st).seat.n (X st).seat.own (take (F k + L k - F k) (drop (F k) (S st))) (Path (P (W w))).path-at.result (C k) (Out st)
+    ≡ write_of (X st).seat.n (X st).seat.own (take (F k + L k - F k) (drop (F k) (S st))) (Path (P (W w))).path_at-path.result (C k) (Out st)
 asked w =
     let p = P (W w) in
     let k = K p in
@@ -313,7 +313,7 @@ slice_bounds-write-end c = omega (arith, (got (K (P c.before))).inside)
 
 pub shape_of-out : goal.shape_of-out
 shape_of-out c =
-    c.write-answer.auto.1.1.1.1.1.0 ∙ (Sends (Waits (D (K (P (W c.before.before.before.before)))))).send.auto.1.1.0
+    c.write-answer.auto.out ∙ (Sends (Waits (D (K (P (W c.before.before.before.before)))))).send-happy.auto.out
 
 pub returns : goal.returns
 returns c =
@@ -322,4 +322,4 @@ returns c =
     ap (λ (r : Reply). stepped r (O c.before.before.before.before)) c.after-2.ensures
     ∙ writes-given (X st) (W c.before.before.before.before).waiting-holding.result (Packet k) (Out st) c.write-answer.result (O c.before.before.before.before) (wrote c.before.before.before.before)
     ∙ ap (λ (y : Party). writes (X st) y (Packet k) (Out st)) (holds (W c.before.before.before.before))
-    ∙ sym (goal k)
+    ∙ sym (reached k)
