@@ -3,6 +3,7 @@
 //! warning is an error. Compilers beside gcc, pkg-config and man are left out where they are absent.
 
 use std::collections::BTreeSet;
+use std::env;
 use std::fs;
 use std::path::{Path, PathBuf};
 use std::process::{Command, Output, Stdio};
@@ -58,11 +59,13 @@ fn printed(command: &mut Command) -> String {
     String::from_utf8(stdout).expect("a text")
 }
 
-/// The folder with the library, which is installed once.
+/// The folder with the library, which is installed once. It has links, which the proofs' gate takes
+/// nowhere in the repository, so it lies among the machine's temporary files, one for each checkout.
 fn prefix() -> &'static Path {
     static PREFIX: OnceLock<PathBuf> = OnceLock::new();
     PREFIX.get_or_init(|| {
-        let prefix = temporary("prefix");
+        let name = env!("CARGO_MANIFEST_DIR").replace('/', "-");
+        let prefix = env::temp_dir().join(format!("cipangohu{name}"));
         fs::remove_dir_all(&prefix).ok();
         let archive = Path::new(env!("CIPANGOHU_ARCHIVE"));
         let mut install = Command::new(repository().join("scripts/install"));
