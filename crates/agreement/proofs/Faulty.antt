@@ -34,7 +34,7 @@ use Rattle.party.proofs.Faulty.{names-none, shares-name, relays-name}
 use Rattle.party.proofs.Kept.{result-end}
 use Rattle.party.proofs.Outcomes.{holds-ended}
 use Rattle.party.proofs.Ways.{Way, on, off, way, clash}
-use Rattle.agreement.specs.Calls.{Call, agree_root, inbox_in, Event, accepted, first, heard, wrote, packet_to, final, opening, did, first_of}
+use Rattle.agreement.specs.Calls.{Call, agree_root, inbox_in, Event, first, heard, wrote, packet_to, final, opening, did, first_of}
 use Rattle.agreement.specs.Faulty.{faulty_first, faulty_second, last, Named, NamedIfFaulty}
 use Rattle.agreement.specs.Faulty.{Member, Every, begun, step, Premises, Unnamed, NoGoodNamed, member_of, NoGoodNamedInAgreement}
 use Rattle.agreement.specs.Agreement.{Good}

@@ -7,7 +7,7 @@ use mathlib.Core.Path.{◌≡◌, refl, sym, ap, ◌∙◌}
 use mathlib.Core.Bool.{true, false, cond}
 use mathlib.Core.List.{List, [], ◌∷◌, ◌++◌, map, Memᴰ}
 use mathlib.Core.Option.{Option, none, some}
-use Prim.Native.Nat.{ℕ, ◌+◌, ◌-◌, ◌*◌, ◌<◌}
+use Prim.Native.Nat.{ℕ, ◌+◌, ◌-◌, ◌*◌}
 use native.Mathlib.Omega.{arith}
 use lib.Dec.{lit<}
 use lib.ListN.{length, take, drop, replicate}
@@ -32,7 +32,6 @@ use Rattle.packet.specs.Class.{class_of, class_strings}
 use Rattle.party.specs.State.{seat_of, Result, nothing, settled, at_root, at_bit, at_first, at_second, at_end, blank_state, broken, message_root, happy}
 use Rattle.party.specs.Steps.{state_cause, open_cause, open_of, root_cause, agree_root_of, packet_for, bit_cause, outbox_of, agree_bit_of, inbox_cause, first_valid}
 use Rattle.party.specs.Steps.{share_from, sent_faulty, faulty_shares, faulty_relays, faulty_of, relay_of, held_of, take_shares_of, gathered, result_found, result_of, relays_cause, take_relays_of}
-use Rattle.party.specs.declared.Answer.TheVariants as answer
 use Rattle.party.specs.Strings.{judged_strings, share_strings}
 use Rattle.agreement.specs.Calls.{Call, agree_root, agree_bit, take_shares, take_relays, Event, accepted, first, entry, lengths, sent_over, made, events, final}
 use Rattle.agreement.specs.Calls.{strings_over, checked_in, judged_in, recoded_in, did, opened_and_checked, judged, recoded, hashed, sent_by, bit_given, opening, result_after}

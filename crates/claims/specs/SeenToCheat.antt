@@ -17,7 +17,7 @@ use Rattle.agreement.specs.Calls.{Call, take_shares, take_relays, step_of, made}
 use Rattle.agreement.specs.Agreement.{Good}
 use Rattle.state_bytes.specs.Layout.{state_of}
 use Rattle.capi.specs.Calls.{packed, open_call, called, faulty_call}
-use Rattle.claims.specs.Terms.{FourBytes, Act, rooted, sent, relayed, ended, first, Host, Box, box_of, party}
+use Rattle.claims.specs.Terms.{FourBytes, Act, rooted, sent, relayed, ended, first, Host, Box, box_of}
 use Rattle.claims.specs.Claims.{Sitting}
 
 -- a map is a number, in which box p has the value two to the p - 1

@@ -23,7 +23,7 @@ use Rattle.merkle.proofs.Judged.{passes-miscount}
 use Rattle.merkle.specs.declared.Checked.{Checked}
 use Rattle.merkle.specs.declared.Checked.TheVariants as check
 use Rattle.packet.specs.Format.{Reading, silence, unreadable, shared, hashes, read_of}
-use Rattle.packet.specs.Class.{Class, silent, faulty, valid, judged, class_of}
+use Rattle.packet.specs.Class.{Class, faulty, valid, judged, class_of}
 use Rattle.packet.specs.Answer.{placed, Verdict, verdict, verdict_on, judge_of}
 use Rattle.packet.specs.Private.{verdict_for, PassedOver, TakenAt}
 use Rattle.packet.specs.declared.Packet.{Packet}
@@ -31,7 +31,6 @@ use Rattle.packet.specs.declared.Packet.TheVariants as packet
 use Rattle.packet.specs.declared.Judged.{Judged}
 use Rattle.packet.specs.declared.Judged.TheVariants.{Refused, Faulty, Valid}
 use Rattle.packet.specs.contracts.Packet.{the_type as packet-type}
-use Rattle.packet.specs.contracts.Judged.{the_type as judged-type}
 use Rattle.packet.proofs.Reading.{Fields, fields-of}
 use Rattle.packet.proofs.Slices.{part-part, hashes-part}
 

@@ -13,7 +13,6 @@ use Rattle.limits.proofs.Ranges.{parties-some, parties-range, numbered_within, n
 use Rattle.buffer.specs.Given.{gave, written}
 use Rattle.buffer.specs.declared.Written.TheVariants as goal
 use Rattle.merkle.specs.Shares.{sides_of}
-use Rattle.merkle.specs.declared.Counted.TheVariants.{Refused}
 use Rattle.merkle.proofs.Descend.{sides-fit}
 use Rattle.packet.specs.Format.{packet_of, entry_of}
 use Rattle.packet.specs.Answer.{write_cause, write_of, write_entry_of}

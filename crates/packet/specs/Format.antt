@@ -1,5 +1,5 @@
 -- The bytes of a packet (document 01, "Packets and boxes of packets"), and what bytes say as one. Both ways are proved to be inverse: what
--- `packet_of` gives is read back by `read_of` (`Written-Read`), and bytes read as a share are `packet_of` of it (`read-written`).
+-- `packet_of` gives is read back by `read_of` (`written_read`), and bytes read as a share are `packet_of` of it (`read-written`).
 -- Assumes nothing.
 use Rattle.std.specs.Prelude.{cond, not, ◌&&◌, ◌||◌, List, [], ◌∷◌, ◌++◌, ℕ, zero, suc, ◌+◌, ◌*◌, ◌/◌, ◌%◌, ltb, eqb, length, get_or, take, drop}
 use Rattle.limits.specs.Limits.{max_share, numbered}

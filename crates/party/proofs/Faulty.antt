@@ -1,7 +1,7 @@
 -- The maps of parties seen to be faulty, for any hash: a map names a sender exactly if one of its packets was faulty, and it names neither the party itself
 -- nor anyone beyond n, so that no state with such a map is broken by it. By the laws of maps. Assumes nothing.
 use mathlib.Core.Path.{◌≡◌, refl, ap, ap₂, ◌∙◌}
-use mathlib.Core.Bool.{Bool, true, false, cond, not, ◌||◌}
+use mathlib.Core.Bool.{Bool, true, false, cond, ◌||◌}
 use mathlib.Core.List.{List}
 use Prim.Native.Nat.{ℕ, ◌-◌, ◌/◌, ◌%◌, ◌^◌, ◌≤◌, ◌<◌}
 use native.Mathlib.Nat.{div-eq_of_lt, one-le-pow}
@@ -11,7 +11,7 @@ use lib.Dec.{eqb}
 use Rattle.bitmap.specs.Bitmap.{names}
 use Rattle.bitmap.proofs.Collected.{map-small, map-names}
 use Rattle.party.specs.State.{has_ended, stray}
-use Rattle.party.specs.Steps.{entry, sent_faulty, faulty_in, faulty_shares, faulty_relays, faulty_of}
+use Rattle.party.specs.Steps.{sent_faulty, faulty_in, faulty_shares, faulty_relays, faulty_of}
 use Rattle.party.specs.Private.{Fit}
 use Rattle.party.specs.declared.Party.{Party}
 

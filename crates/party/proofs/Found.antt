@@ -18,7 +18,7 @@ use Rattle.packet.specs.declared.Judged.{Judged}
 use Rattle.packet.specs.declared.Judged.TheVariants as judged
 use Rattle.packet.specs.contracts.Packet.{the_type as packet-type}
 use Rattle.packet.proofs.Verdict.{class-unread, judge-class, class-taken}
-use Rattle.party.specs.Steps.{is_faulty, Taken, missing, found, or_later}
+use Rattle.party.specs.Steps.{is_faulty, Taken, missing, or_later}
 use Rattle.party.specs.Private.{TakenIs, finding_of, place_of, found_faulty, FindingIs, earlier_of}
 use Rattle.party.specs.declared.Placed.{Placed}
 use Rattle.party.specs.declared.Placed.TheVariants.{Nowhere, At}

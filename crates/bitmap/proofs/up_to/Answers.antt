@@ -1,6 +1,6 @@
 -- `bitmap::up_to` meets its contract: after p turns the map is halved p times. Assumes nothing.
 use mathlib.Core.Path.{◌≡◌, ap, ◌∙◌}
-use Prim.Native.Nat.{ℕ, ◌-◌, ◌^◌}
+use Prim.Native.Nat.{ℕ, ◌^◌}
 use native.Mathlib.Omega.{arith}
 use lib.Dec.{ltb}
 use Rattle.bitmap.proofs.Maps.{unhalved, halved, none_left}

@@ -1,6 +1,6 @@
 -- `commitment::outbox_len` meets its contract: after j turns the length is that of the first j entries. Assumes nothing.
 use mathlib.Core.Path.{◌≡◌, sym, ap, ap₂, ◌∙◌}
-use Prim.Native.Nat.{ℕ, ◌+◌, ◌-◌}
+use Prim.Native.Nat.{ℕ, ◌+◌}
 use native.Mathlib.Omega.{arith}
 use Rattle.commitment.specs.Private.{outbox_length}
 use Rattle.commitment.proofs.Outbox.{length_none, length_more, length-small}

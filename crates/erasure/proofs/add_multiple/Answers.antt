@@ -1,7 +1,7 @@
 -- `erasure::add_multiple` meets its contract: after c turns the first c bytes of the block are the new ones, and all others as they
 -- were. Assumes nothing.
 use mathlib.Core.Path.{◌≡◌, refl, ap₂, ◌∙◌}
-use Prim.Native.Nat.{ℕ, ◌+◌, ◌-◌}
+use Prim.Native.Nat.{ℕ, ◌+◌}
 use native.Mathlib.Omega.{arith}
 use lib.Bits.{bit_xor}
 use lib.ListN.{get_or, length-set}

@@ -1,7 +1,6 @@
 -- `erasure::bases` meets its contract. After m turns the table is one for the points below m: a turn writes column m, and each of
 -- its coefficients is that of the numerator times the inverse of the denominator. Assumes nothing.
 use mathlib.Core.Path.{ap, ap₂, ◌∙◌}
-use Prim.Native.Nat.{◌-◌}
 use native.Mathlib.Omega.{arith}
 use Rattle.gf256.specs.Field.{product, inverse}
 use Rattle.polynomial.specs.Polynomial.{basis}

@@ -1,6 +1,6 @@
 -- `erasure::choose` meets its contract: after j turns the points held are those to use of shares 1 to j. Assumes nothing.
 use mathlib.Core.Path.{◌≡◌, refl, sym, subst}
-use Prim.Native.Nat.{ℕ, ◌+◌, ◌-◌, ◌%◌}
+use Prim.Native.Nat.{ℕ, ◌+◌, ◌%◌}
 use lib.ListN.{length-set}
 use lib.Seq.{take-nil}
 use Rattle.buffer.specs.Splice.{tabulate}

@@ -1,6 +1,5 @@
 -- `erasure::nonzero_from` meets its contract: that a byte is not 0 is that one still to come is not. Assumes nothing.
 use mathlib.Core.Path.{refl, sym, ◌∙◌}
-use Prim.Native.Nat.{◌-◌}
 use Rattle.erasure.proofs.Other.{other-end, other-here, other-more}
 use Rattle.erasure.proofs.nonzero_from.Goals as goal
 

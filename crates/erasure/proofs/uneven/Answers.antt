@@ -1,6 +1,6 @@
 -- `erasure::uneven` meets its contract: that a length differs is that one still to come does. Assumes nothing.
 use mathlib.Core.Path.{refl, sym, ◌∙◌}
-use Prim.Native.Nat.{ℕ, ◌-◌}
+use Prim.Native.Nat.{ℕ}
 use lib.ListN.{get_or}
 use Rattle.buffer.specs.Splice.{tabulate}
 use Rattle.buffer.proofs.Tabulate.{length-tabulate, get_or-tabulate}

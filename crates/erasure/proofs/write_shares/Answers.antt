@@ -1,7 +1,7 @@
 -- `erasure::write_shares` meets its contract: after j turns the first j shares are written. Assumes nothing.
 use mathlib.Core.Path.{◌≡◌, refl, sym, ap, ◌∙◌}
 use mathlib.Core.List.{List}
-use Prim.Native.Nat.{ℕ, ◌+◌, ◌-◌, ◌%◌, ◌≤◌}
+use Prim.Native.Nat.{ℕ, ◌+◌, ◌%◌, ◌≤◌}
 use native.Mathlib.Nat.{zero-mul}
 use lib.ListN.{length}
 use Rattle.buffer.specs.Splice.{spliced}

@@ -1,6 +1,5 @@
 -- `merkle::equal` meets its contract: that two lists are one is that they are one from the place reached on. Assumes nothing.
 use mathlib.Core.Path.{refl, sym, ◌∙◌}
-use Prim.Native.Nat.{◌-◌}
 use native.Mathlib.Omega.{arith}
 use Rattle.merkle.proofs.Judged.{same_end, same_more, same-differ}
 use Rattle.merkle.proofs.equal.Goals as goal

@@ -1,7 +1,6 @@
 -- `merkle::fold_path` meets its contract: what the whole path leads to is what the rest of it leads to from the hash so far.
 -- Assumes nothing.
 use mathlib.Core.Path.{◌≡◌, sym, ◌∙◌}
-use Prim.Native.Nat.{◌-◌}
 use native.Mathlib.Omega.{arith}
 use lib.ListN.{length}
 use Rattle.limits.specs.Limits.{max_path}

@@ -1,6 +1,6 @@
 -- `merkle::split_of` meets its contract: k is a power of two below n, and its double is not in the end. Assumes nothing.
 use mathlib.Core.Path.{refl}
-use Prim.Native.Nat.{suc, ◌-◌}
+use Prim.Native.Nat.{suc}
 use native.Mathlib.Nat.{two-pow-succ}
 use native.Mathlib.Omega.{arith}
 use Rattle.merkle.proofs.Descend.{split-only}

@@ -1,7 +1,7 @@
 -- `packet::path_at` meets its contract: after i turns the first i hashes are there, and blanks follow. Assumes nothing.
 use mathlib.Core.Path.{◌≡◌, sym, ap, ap₂, ◌∙◌}
 use mathlib.Core.List.{List}
-use Prim.Native.Nat.{ℕ, ◌-◌}
+use Prim.Native.Nat.{ℕ}
 use native.Mathlib.Omega.{arith}
 use lib.ListN.{take, drop, set}
 use Rattle.packet.proofs.Path.{padded, padded-none, padded-more, path-many, path-short, path-there}

@@ -1,7 +1,7 @@
 -- `party::write_silence` meets its contract: after i turns the first i bytes are zeros. Assumes nothing.
 use mathlib.Core.Path.{◌≡◌, refl, sym, ap, ◌∙◌}
 use mathlib.Core.List.{List}
-use Prim.Native.Nat.{ℕ, ◌-◌}
+use Prim.Native.Nat.{ℕ}
 use native.Mathlib.Omega.{arith}
 use lib.ListN.{replicate, set, length-set}
 use Rattle.buffer.specs.Splice.{spliced}

@@ -11,7 +11,6 @@ use Rattle.limits.proofs.Booleans.{denied}
 use Rattle.limits.proofs.Group.{group_of}
 use Rattle.buffer.specs.Entries.{size}
 use Rattle.plan.specs.Layout.{map_width, books_fit, n_in, t_in, options_in, has_sender, sender_in, good_at, good_in, books_in, holders, behind_books, exchange_at, laid_out}
-use Rattle.plan.specs.Plan.{refused}
 use Rattle.plan.specs.Private.{holders_by, source_of, LaidAt}
 use Rattle.plan.specs.declared.Behind.{Behind}
 use Rattle.plan.specs.declared.Behind.TheVariants as behind

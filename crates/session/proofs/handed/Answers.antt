@@ -6,7 +6,6 @@ use native.Mathlib.Omega.{arith}
 use lib.ListN.{length, take, drop, length-drop}
 use lib.Seq.{take_all}
 use Rattle.sha256.specs.Sha256.{sha256}
-use Rattle.bitmap.specs.Bitmap.{names}
 use Rattle.plan.specs.Layout.{sender_in, good_sender}
 use Rattle.plan.specs.Plan.{block_given}
 use Rattle.session.proofs.Openings.{handed-own, handed-good, handed-bad}

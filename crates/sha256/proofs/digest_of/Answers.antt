@@ -1,5 +1,5 @@
 -- `sha256::digest_of` meets its contract: after i turns the first i words are written. Assumes nothing.
-use Rattle.std.proofs.Common.{◌≡◌, ℕ, ◌-◌, ◌*◌, length, take, sym, refl, ap, ◌∙◌, arith, length-set, take_all, w32}
+use Rattle.std.proofs.Common.{◌≡◌, ℕ, ◌*◌, length, take, sym, refl, ap, ◌∙◌, arith, length-set, take_all, w32}
 use borrow.Kind.Array.{good_length, e_int}
 use Rattle.sha256.specs.Sha256.{digest_of}
 use Rattle.sha256.proofs.Steps.{digest-more}

@@ -1,5 +1,5 @@
 -- `sha256::hash_value` meets its contract: after i turns i blocks are read. Assumes nothing.
-use Rattle.std.proofs.Common.{◌≡◌, ℕ, ◌-◌, ◌/◌, length, refl, ap, ◌∙◌, arith}
+use Rattle.std.proofs.Common.{◌≡◌, ℕ, ◌/◌, length, refl, ap, ◌∙◌, arith}
 use Rattle.sha256.specs.Sha256.{hash_value}
 use Rattle.sha256.proofs.Blocks.{blocks_more, part-block, length-block}
 use Rattle.sha256.proofs.hash_value.Goals as goal

@@ -1,5 +1,5 @@
 -- `sha256::parse` meets its contract: after t turns the first t words are there. Assumes nothing.
-use Rattle.std.proofs.Common.{◌≡◌, ℕ, ◌-◌, take, sym, refl, ap, ◌∙◌, arith, length-set}
+use Rattle.std.proofs.Common.{◌≡◌, ℕ, take, sym, refl, ap, ◌∙◌, arith, length-set}
 use Rattle.sha256.specs.Sha256.{schedule, word_at}
 use Rattle.sha256.proofs.Steps.{schedule-first}
 use Rattle.sha256.proofs.parse.Goals as goal

@@ -1,5 +1,5 @@
 -- `sha256::rounds` meets its contract: after each turn t rounds are done, a multiple of eight. Assumes nothing.
-use Rattle.std.proofs.Common.{◌≡◌, ℕ, ◌-◌, refl, ap, ◌∙◌, arith}
+use Rattle.std.proofs.Common.{◌≡◌, ℕ, refl, ap, ◌∙◌, arith}
 use Rattle.sha256.specs.Sha256.{K, rounds}
 use Rattle.sha256.proofs.rounds.Goals as goal
 

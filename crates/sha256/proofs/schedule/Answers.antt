@@ -1,5 +1,5 @@
 -- `sha256::schedule` meets its contract: after t words the first t are those of the definition. Assumes nothing.
-use Rattle.std.proofs.Common.{◌≡◌, ℕ, ◌-◌, take, sym, ap, ◌∙◌, arith, length-set, take_all, w32}
+use Rattle.std.proofs.Common.{◌≡◌, ℕ, take, sym, ap, ◌∙◌, arith, length-set, take_all, w32}
 use borrow.Kind.Array.{good_length, e_int}
 use Rattle.sha256.specs.Sha256.{schedule}
 use Rattle.sha256.proofs.Steps.{schedule-later}

@@ -1,5 +1,5 @@
 -- `stream::fill` meets its contract: the bytes passed have the value, and the length stays. Assumes nothing.
-use Rattle.std.proofs.Common.{◌≡◌, ◌-◌, ◌<◌, [], ◌∷◌, ◌++◌, length, sym, ap, ◌∙◌, add-one, arith, length-set, take_all, take-suc-set}
+use Rattle.std.proofs.Common.{◌≡◌, ◌<◌, [], ◌∷◌, ◌++◌, length, sym, ap, ◌∙◌, add-one, arith, length-set, take_all, take-suc-set}
 use lib.ListN.{replicate-append-replicate}
 use Rattle.stream.proofs.fill.Goals as goal
 

@@ -1,5 +1,5 @@
 -- `stream::number` meets its contract: what all bytes spell is the value so far with the bytes still to come behind it. Assumes nothing.
-use Rattle.std.proofs.Common.{◌≡◌, ◌-◌, get_or, sym, refl, ◌∙◌, arith}
+use Rattle.std.proofs.Common.{◌≡◌, get_or, sym, refl, ◌∙◌, arith}
 use Rattle.stream.proofs.Spelled.{spelled-end, spelled-more}
 use Rattle.stream.proofs.number.Goals as goal
 

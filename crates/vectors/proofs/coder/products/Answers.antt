@@ -1,5 +1,4 @@
 -- `vectors::coder::products` is safe and ends: the measure is the number of bytes that are left, and the rows keep their length. Assumes nothing.
-use Prim.Native.Nat.{◌-◌}
 use borrow.Author.Rules.{rules}
 use Rattle.vectors.proofs.coder.products.Goals as goal
 
