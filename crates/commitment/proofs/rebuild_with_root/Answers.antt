@@ -73,11 +73,11 @@ exact : (k : In-Done) → let l = k.in-Done.len in length (take l (O k.before.be
 exact k = length-take-le k.in-Done.len (O k.before.before) (found k).2
 
 -- what the form with a root makes of what was found
-rooted : (d : After-rebuild-answer) → let a = (Entry d).args in rebuild_with_root_of sha256 a.session a.n a.t a.given.now a.entries.now a.out.now
+rooted : (d : After-rebuild-answer) → let a = (Entry d).args in length a.given.now ≡ 32 → rebuild_with_root_of sha256 a.session a.n a.t a.given.now a.entries.now a.out.now
     ≡ answered (under_root sha256 a.session a.n a.t a.given.now (Found (Entry d))) a.out.now
-rooted d =
+rooted d wide =
     let a = (Entry d).args in
-    with-root-entries a.n a.t a.entries.now a.out.now sha256 a.session a.given.now (fine d.before.before.before.before) d.if-given-ne32.false
+    with-root-entries a.n a.t a.entries.now a.out.now sha256 a.session a.given.now (fine d.before.before.before.before) wide
 
 -- the two roots are compared byte by byte
 abbrev Coded : After-same → In-Done
@@ -98,13 +98,13 @@ compared c =
     (open-fine a.n a.t 1 (length (Message c)) g (omega arith) (group_of a.n a.t g).low (omega (arith, exact k, (found k).1))))
 
 -- so what was found is taken, or it is cause 15
-judged : (c : After-same) → let a = (Entry (Coded c).before.before).args in
-    rebuild_with_root_of sha256 a.session a.n a.t a.given.now a.entries.now a.out.now
+judged : (c : After-same) → let a = (Entry (Coded c).before.before).args in length a.given.now ≡ 32
+    → rebuild_with_root_of sha256 a.session a.n a.t a.given.now a.entries.now a.out.now
     ≡ answered (cond c.same.result (message (Message c)) (cause 15)) a.out.now
-judged c =
+judged c wide =
     let d = (Coded c).before.before in
     let a = (Entry d).args in
-    rooted d ∙ ap (λ (f : Recovered). answered (under_root sha256 a.session a.n a.t a.given.now f) a.out.now) (found (Coded c)).0
+    rooted d wide ∙ ap (λ (f : Recovered). answered (under_root sha256 a.session a.n a.t a.given.now f) a.out.now) (found (Coded c)).0
     ∙ ap (λ (b : Bool). answered (cond b (message (Message c)) (cause 15)) a.out.now) (sym (compared c))
 
 pub returns-then-cause-ne0 : goal.returns-then-cause-ne0
@@ -125,7 +125,7 @@ returns-in_default c =
     let k = answer-cause (O c.before.before.before) c.blank_message-message.result c.rebuild-answer.result c.blank_message-message.ensures (Found (Entry c.before.before.before))
     (short-entries _ _ _) (told c.before.before.before) (opened c.in_default.in_default-own.keys2) in
     ap (λ (r : Written). gave r a.out.now) k.2
-    ∙ sym (rooted c.before.before.before ∙ ap (λ (f : Recovered). answered (under_root sha256 a.session a.n a.t a.given.now f) a.out.now) k.1)
+    ∙ sym (rooted c.before.before.before c.if-given-ne32.false ∙ ap (λ (f : Recovered). answered (under_root sha256 a.session a.n a.t a.given.now f) a.out.now) k.1)
 
 pub slice_bounds-message-end : goal.slice_bounds-message-end
 slice_bounds-message-end c = (found c.before).2
@@ -143,9 +143,9 @@ pub returns-then-same : goal.returns-then-same
 returns-then-same c =
     let a = (Entry (Coded c.before.before.before.before.before.before.before).before.before).args in
     c.give.ensures
-    ∙ sym (judged c.before.before.before.before.before.before.before ∙ ap (λ (b : Bool). answered (cond b (message (Message c.before.before.before.before.before.before.before)) (cause 15)) a.out.now) c.if-same.true)
+    ∙ sym (judged c.before.before.before.before.before.before.before c.if-given-ne32.false ∙ ap (λ (b : Bool). answered (cond b (message (Message c.before.before.before.before.before.before.before)) (cause 15)) a.out.now) c.if-same.true)
 
 pub returns : goal.returns
 returns c =
     let a = (Entry (Coded c.before.before).before.before).args in
-    sym (judged c.before.before ∙ ap (λ (b : Bool). answered (cond b (message (Message c.before.before)) (cause 15)) a.out.now) c.if-same.false)
+    sym (judged c.before.before c.if-given-ne32.false ∙ ap (λ (b : Bool). answered (cond b (message (Message c.before.before)) (cause 15)) a.out.now) c.if-same.false)
