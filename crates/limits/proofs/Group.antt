@@ -1,9 +1,9 @@
--- What causes 1 and 2 say of n and t: one law for each outcome, and the bounds where neither applies. Assumes nothing.
+-- What causes 1 and 2 say of n and t: within the bounds neither applies, and where neither applies the bounds hold. Assumes nothing.
 use mathlib.Core.Path.{◌≡◌, refl}
 use mathlib.Core.Bool.{Bool, true, false, cond, not}
 use Prim.Native.Nat.{ℕ, ◌<◌, ◌≤◌, ◌*◌}
 use native.Mathlib.Omega.{arith}
-use borrow.Author.Tests.{le-leb, lt-leb, leb-false}
+use borrow.Author.Tests.{lt-leb, leb-false}
 use lib.Dec.{leb}
 use Rattle.limits.specs.Limits.{max_parties, parties, group_cause}
 use Rattle.limits.proofs.Ranges.{parties-some, parties-range}
@@ -15,18 +15,9 @@ pub record Group (n t : ℕ) : Type 0 where
   pub faults : 2 * t < n
 
 module _ (n t : ℕ) where
-  pub group-parties : parties n ≡ false → group_cause n t ≡ 1
+  pub group-fine : 1 ≤ n → n ≤ max_parties → 2 * t < n → group_cause n t ≡ 0
   unfolding group_cause
-  group-parties h = rw h
-
-  module _ (low : 1 ≤ n) (high : n ≤ max_parties) where
-    pub group-faults : n ≤ 2 * t → group_cause n t ≡ 2
-    unfolding group_cause
-    group-faults h = rw (parties-some n low high, le-leb n (2 * t) h)
-
-    pub group-fine : 2 * t < n → group_cause n t ≡ 0
-    unfolding group_cause
-    group-fine h = rw (parties-some n low high, lt-leb n (2 * t) h)
+  group-fine low high h = rw (parties-some n low high, lt-leb n (2 * t) h)
 
 -- a cause is 0 only where neither applies
 none-holds : (a b : Bool) → ◌≡◌ {A = ℕ} (cond (not a) 1 (cond b 2 0)) 0 → (a ≡ true) × (b ≡ false)

@@ -1,24 +1,17 @@
--- The ranges of n and of a party's number: one law for each outcome, and the bounds where the test holds, also from an answer that is
--- the test and is not turned down. Assumes nothing.
+-- The ranges of n and of a party's number: the test holds within the bounds, and the bounds where it holds, also from an answer that is the
+-- test and is not turned down. Assumes nothing.
 use mathlib.Core.Path.{◌≡◌, sym, ◌∙◌}
 use mathlib.Core.Bool.{Bool, true, false, not}
-use Prim.Native.Nat.{ℕ, ◌<◌, ◌≤◌}
-use borrow.Author.Tests.{le-leb, lt-leb, leb-true, not-false}
+use Prim.Native.Nat.{ℕ, ◌≤◌}
+use borrow.Author.Tests.{le-leb, leb-true, not-false}
 use lib.Dec.{leb}
 use Rattle.limits.specs.Limits.{max_parties, parties, numbered}
 use Rattle.limits.proofs.Booleans.{both}
 
 module _ (n : ℕ) where
-  pub parties-none : n < 1 → parties n ≡ false
-  unfolding parties
-  parties-none h = rw (lt-leb 1 n h)
-
-  pub parties-low : 1 ≤ n → parties n ≡ leb n max_parties
-  unfolding parties
-  parties-low low = rw (le-leb 1 n low)
-
   pub parties-some : 1 ≤ n → n ≤ max_parties → parties n ≡ true
-  parties-some low high = parties-low low ∙ le-leb n max_parties high
+  unfolding parties
+  parties-some low high = simp le-leb
 
   pub parties-range : parties n ≡ true → (1 ≤ n) × (n ≤ max_parties)
   unfolding parties
@@ -28,16 +21,9 @@ module _ (n : ℕ) where
   parties-told {r} e h = parties-range (sym e ∙ not-false r h)
 
   module _ (j : ℕ) where
-    pub numbered-zero : j < 1 → numbered n j ≡ false
-    unfolding numbered
-    numbered-zero h = rw (lt-leb 1 j h)
-
-    pub numbered-low : 1 ≤ j → numbered n j ≡ leb j n
-    unfolding numbered
-    numbered-low low = rw (le-leb 1 j low)
-
     pub numbered_within : 1 ≤ j → j ≤ n → numbered n j ≡ true
-    numbered_within low high = numbered-low low ∙ le-leb j n high
+    unfolding numbered
+    numbered_within low high = simp le-leb
 
     pub numbered-range : numbered n j ≡ true → (1 ≤ j) × (j ≤ n)
     unfolding numbered

@@ -2,7 +2,10 @@
 #![tactic(auto)]
 
 ghost use Rattle.std.specs.Prelude.{◌≡◌};
+ghost use Rattle.cause.specs.Cause.{cause_of};
 ghost use Rattle.limits.specs.Limits.{greatest, parties, numbered, group_cause};
+
+use cause::Cause;
 
 // The greatest number of parties.
 pub const MAX_PARTIES: usize = 16;
@@ -53,31 +56,31 @@ pub fn all() -> Greatest
 }
 
 // Whether there may be n parties.
+#[tactic(auto, unfolding(crate::specs::Limits::parties))]
 pub fn parties(n: usize) -> bool
     ensures { result ≡ parties n }
 {
-    1 <= n && n <= MAX_PARTIES
+    (1..=MAX_PARTIES).contains(&n)
 }
 
 // Whether j is the number of one of n parties.
+#[tactic(auto, unfolding(crate::specs::Limits::numbered))]
 pub fn numbered(n: usize, j: usize) -> bool
     ensures { result ≡ numbered n j }
 {
-    1 <= j && j <= n
+    (1..=n).contains(&j)
 }
 
-// The lower of causes 1 and 2 that applies to n parties and the fault limit t, or 0.
-pub fn group_cause(n: usize, t: usize) -> u8
-    ensures { result ≡ group_cause n t }
+// The lower of causes 1 and 2 that applies to n parties and the fault limit t, if one does.
+#[tactic(auto, unfolding(crate::specs::Limits::group_cause))]
+pub fn check_group(n: usize, t: usize) -> Result<(), Cause>
+    ensures { cause_of result ≡ group_cause n t }
 {
     if !parties(n) {
-        return 1;
+        return Err(Cause::Parties);
     }
-    if n <= t {
-        return 2;
+    if n <= t.saturating_mul(2) {
+        return Err(Cause::Faults);
     }
-    if n <= 2 * t {
-        return 2;
-    }
-    0
+    Ok(())
 }
