@@ -1,6 +1,6 @@
 -- Parts of lists, and what is written into one: how long a part is, where it ends, and a write into what follows a place. By the laws of `take`
 -- and `drop`. Assumes nothing.
-use mathlib.Core.Path.{◌≡◌, ap, ◌∙◌}
+use mathlib.Core.Path.{◌≡◌, ap}
 use mathlib.Core.List.{List, [], ◌++◌, append-nil}
 use Prim.Native.Nat.{ℕ, ◌+◌, ◌-◌, ◌≤◌}
 use native.Mathlib.Nat.{add-sub_cancel_left, zero-add}
@@ -28,8 +28,4 @@ pub tail-spliced : (o bs : List ℕ) (at k : ℕ) → k ≡ length o - at
 unfolding spliced
 tail-spliced o bs at k e =
     let none : drop k (drop at o) ≡ [] = drop_of_length-le (drop at o) {i = k} (omega (arith, length-drop at o)) in
-    let past : drop (0 + length bs) (drop at o) ≡ drop (at + length bs) o =
-    ap (λ (m : ℕ). drop m (drop at o)) (zero-add (length bs)) ∙ drop-drop (length bs) at o in
-    ap (λ (l : List ℕ). take at o ++ ((take 0 (drop at o) ++ (bs ++ drop (0 + length bs) (drop at o))) ++ l)) none
-    ∙ ap (λ (l : List ℕ). take at o ++ l) (append-nil (bs ++ drop (0 + length bs) (drop at o)))
-    ∙ ap (λ (l : List ℕ). take at o ++ (bs ++ l)) past
+    rw none (simp (zero-add, append-nil, drop-drop))
