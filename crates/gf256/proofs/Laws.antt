@@ -131,13 +131,6 @@ pub product-inverse : (a : ℕ) → 0 < a → a < 256 → product a (inverse a) 
 unfolding inverse power
 product-inverse a p h = full (element a h) p
 
--- a product divided by its first factor
-pub inverse-product : (a b : ℕ) → 0 < a → a < 256 → b < 256 → product (inverse a) (product a b) ≡ b
-inverse-product a b p ha hb =
-    let hi = inverse-lt a ha in
-    sym (product-assoc (inverse a) a b hi ha) ∙ ap (λ (x : ℕ). product x b) (product-comm (inverse a) a hi ha ∙ product-inverse a p ha)
-    ∙ one_product b hb
-
 -- exponents count modulo 255
 pub power-mod : (a k : ℕ) → 0 < a → a < 256 → power a (k % 255) ≡ power a k
 power-mod a k p h =

@@ -4,4 +4,5 @@ pub mod Test
 pub mod Linear
 pub mod Tables
 pub mod Laws
+pub mod Bits
 pub mod Exponents
