@@ -1,27 +1,28 @@
 -- Laws of the arrays: the frame array holds the frame, and where a place in the frame lies in its blocks. Assumes nothing.
 use mathlib.Core.Path.{◌≡◌, refl, sym, ap, ap₂, subst, ◌∙◌}
 use mathlib.Core.List.{List, [], ◌∷◌, ◌++◌}
-use Prim.Native.Nat.{ℕ, zero, suc, ◌+◌, ◌*◌, ◌/◌, ◌%◌, ◌<◌, ◌≤◌}
+use Prim.Native.Nat.{ℕ, zero, suc, ◌+◌, ◌-◌, ◌*◌, ◌/◌, ◌%◌, ◌<◌, ◌≤◌}
 use native.Mathlib.Nat.{mod-lt, mul-zero, mul-le-mul_right, div-lt_iff_lt-mul, add-zero, zero-add, zero-mul, suc-mul}
 use native.Mathlib.Numerals.{add-one}
 use native.Mathlib.Omega.{arith}
 use lib.Arith.{digits_lt}
 use lib.Bits.{bit_xor}
-use lib.ListN.{length, get_or, take, drop, replicate, length-replicate, length-append}
-use lib.Seq.{ext_get_or, get_or-drop, get_or-take, length-take-le}
-use Rattle.buffer.specs.Splice.{spliced, put_of, tabulate}
-use Rattle.buffer.proofs.Splice.{put-fits, spliced-more}
+use lib.ListN.{length, get_or, take, drop, replicate, length-append, get_or-append}
+use lib.Seq.{ext_get_or, get_or-drop, get_or-take, get_or-append-add, length-take-le, drop-drop}
+use borrow.Rule.Slice.PartMut.{put_mid}
+use Rattle.buffer.specs.Splice.{spliced, tabulate}
+use Rattle.buffer.proofs.Splice.{spliced-more}
 use Rattle.buffer.proofs.Tabulate.{length-tabulate, get_or-tabulate, tabulate-cong}
 use Rattle.limits.specs.Limits.{max_parties, max_entry}
 use Rattle.gf256.specs.Field.{product}
-use Rattle.polynomial.specs.Polynomial.{value, sum}
+use Rattle.polynomial.specs.Polynomial.{value}
 use Rattle.polynomial.proofs.Value.{value-cong}
 use Rattle.buffer.specs.Bounds.{Bytes}
 use Rattle.erasure.specs.Bytes.{bytes}
 use Rattle.erasure.specs.Coding.{share_length, frame, block, share_byte, share_of, share, shares}
-use Rattle.erasure.specs.Arrays.{shares_of, combined, cell}
+use Rattle.erasure.specs.Arrays.{shares_of}
 use Rattle.erasure.proofs.Field.{byte-horner}
-use Rattle.erasure.proofs.Frame.{get_or-block, share_byte-at}
+use Rattle.erasure.proofs.Frame.{get_or-zeros, zeros-past, get_or-block, share_byte-at}
 
 -- byte i of b blocks of s bytes lies in a block, and within it
 filled : (b s i : ℕ) → i < b * s → 0 < s
@@ -34,31 +35,8 @@ block-lt b s i h = (div-lt_iff_lt-mul {k = s} {x = i} {y = b} (filled b s i h)).
 pub byte-lt : (b s i : ℕ) → i < b * s → i % s < s
 byte-lt b s i h = mod-lt i (filled b s i h)
 
--- zeros past the end of a list are what `get_or` gives there
-zeros-past : (m z : List ℕ) → ((j : ℕ) → get_or z j 0 ≡ 0) → (i : ℕ) → get_or (m ++ z) i 0 ≡ get_or m i 0
-zeros-past [] z h i = h i
-zeros-past (x ∷ m) z h zero = refl
-zeros-past (x ∷ m) z h (suc i) = zeros-past m z h i
-
 pub all-zero : (n j : ℕ) → ◌≡◌ {A = ℕ} (get_or (replicate n 0) j 0) 0
-all-zero zero j = refl
-all-zero (suc n) zero = refl
-all-zero (suc n) (suc j) = all-zero n j
-
-two-more : (hi lo : ℕ) (l : List ℕ) (n : ℕ) → drop (2 + n) (hi ∷ lo ∷ l) ≡ drop n l
-two-more hi lo l n = ap (λ k. drop k (hi ∷ lo ∷ l)) two
-  where
-    two : 2 + n ≡ suc (suc n)
-    two = omega arith
-
--- a message put behind two bytes of an array of zeros
-pub frame-array : (n hi lo : ℕ) (m : List ℕ) → length m ≤ n → (i : ℕ) → get_or (put_of (hi ∷ lo ∷ replicate n 0) 2 m) i 0 ≡ get_or (hi ∷ lo ∷ m) i 0
-unfolding spliced
-frame-array n hi lo m h i =
-    ap (λ l. get_or l i 0)
-    (put-fits (hi ∷ lo ∷ replicate n 0) 2 m (omega (arith, length-replicate {A = ℕ} n 0))
-    ∙ ap (λ l. hi ∷ lo ∷ (m ++ l)) (two-more hi lo (replicate n 0) (length m)))
-    ∙ zeros-past (hi ∷ lo ∷ m) (drop (length m) (replicate n 0)) (λ j. get_or-drop (length m) (replicate n 0) j 0 ∙ all-zero n (length m + j)) i
+all-zero = get_or-zeros
 
 -- the first n elements of a list, where each is known
 pub take-table : (l : List ℕ) (n : ℕ) (f : ℕ → ℕ) → n ≤ length l → ((i : ℕ) → i < n → get_or l i 0 ≡ f i) → take n l ≡ tabulate n f
@@ -92,11 +70,6 @@ pub share-all : (f : List ℕ) (b s c j : ℕ) → value bytes b (λ i. get_or (
 unfolding share_byte
 share-all f b s c j = value-cong bytes b j (λ i l. ap (λ (q : ℕ). get_or (block s f q) c 0) (zero-add i))
 
-pub length-combined : (b s : ℕ) (table es from : List ℕ) → length (combined b s table es from) ≡ b * s
-unfolding combined
-length-combined b s table es from =
-    length-tabulate (b * s) (λ i. sum bytes b (λ m. product (get_or table (cell (i / s) m) 0) (get_or es (get_or from m 0 + i % s) 0)))
-
 -- shares, one behind the other
 
 pub length-shares_of : (n b s : ℕ) (f : List ℕ) → length (shares_of n b s f) ≡ n * s
@@ -128,3 +101,47 @@ pub shares-frame : (n b : ℕ) (m : List ℕ) → shares n b m ≡ shares_of n b
 unfolding shares shares_of share
 shares-frame zero b m = refl
 shares-frame (suc n) b m = ap (λ (l : List ℕ). l ++ share_of b (share_length b (length m)) (frame b m) (suc n)) (shares-frame n b m)
+
+pub length-shares : (n b : ℕ) (m : List ℕ) → length (shares n b m) ≡ n * share_length b (length m)
+length-shares n b m = ap length (shares-frame n b m) ∙ length-shares_of n b (share_length b (length m)) (frame b m)
+
+-- a part that is written into an array: k is how long it is
+module _ (a k : ℕ) (xs ys : List ℕ) (long : length ys ≡ k) (fits : a + k ≤ length xs) where
+  pub put-inside : (c : ℕ) → c < k → get_or (put_mid a k xs ys) (a + c) 0 ≡ get_or ys c 0
+  put-inside c h =
+      let l : length (take a xs) ≡ a = length-take-le a xs (omega arith) in
+      ap (λ (n : ℕ). get_or (put_mid a k xs ys) (n + c) 0) (sym l)
+      ∙ get_or-append-add (take a xs) (ys ++ drop k (drop a xs)) c 0
+      ∙ get_or-append ys (drop k (drop a xs)) 0 c (omega arith)
+
+  pub put-below : (i : ℕ) → i < a → get_or (put_mid a k xs ys) i 0 ≡ get_or xs i 0
+  put-below i h =
+      get_or-append (take a xs) (ys ++ drop k (drop a xs)) 0 i (omega (arith, length-take-le a xs (omega arith)))
+      ∙ get_or-take a xs i 0 h
+
+  pub put-above : (i : ℕ) → a + k ≤ i → get_or (put_mid a k xs ys) i 0 ≡ get_or xs i 0
+  put-above i h =
+      let l : length (take a xs) ≡ a = length-take-le a xs (omega arith) in
+      let r : length (take a xs) + (length ys + (i - a - k)) ≡ i = omega (arith, l) in
+      let q : a + (k + (i - a - k)) ≡ i = omega arith in
+      ap (λ (n : ℕ). get_or (put_mid a k xs ys) n 0) (sym r)
+      ∙ get_or-append-add (take a xs) (ys ++ drop k (drop a xs)) (length ys + (i - a - k)) 0
+      ∙ get_or-append-add ys (drop k (drop a xs)) (i - a - k) 0
+      ∙ get_or-drop k (drop a xs) (i - a - k) 0 ∙ get_or-drop a xs (k + (i - a - k)) 0 ∙ ap (λ (n : ℕ). get_or xs n 0) q
+
+  pub put-spliced : put_mid a k xs ys ≡ spliced xs a ys
+  unfolding spliced
+  put-spliced = ap (λ (l : List ℕ). take a xs ++ (ys ++ l)) (drop-drop k a xs ∙ ap (λ (n : ℕ). drop (a + n) xs) (sym long))
+
+-- byte c of a part
+pub part-byte : (s : List ℕ) (at n c : ℕ) → c < n → get_or (take (at + n - at) (drop at s)) c 0 ≡ get_or s (at + c) 0
+part-byte s at n c h = get_or-take (at + n - at) (drop at s) c 0 (omega arith) ∙ get_or-drop at s c 0
+
+-- two bytes and a message put into an array of zeros
+pub frame-array : (hi lo k n : ℕ) (h y m : List ℕ) → h ≡ hi ∷ lo ∷ [] → y ≡ m → (i : ℕ)
+    → get_or (put_mid 2 k (h ++ drop 2 (replicate n 0)) y) i 0 ≡ get_or (hi ∷ lo ∷ m) i 0
+frame-array hi lo k n h y m e f i =
+    let z : List ℕ = drop 2 (replicate n 0) in
+    ap₂ (λ (p q : List ℕ). get_or (put_mid 2 k (p ++ z) q) i 0) e f
+    ∙ zeros-past (hi ∷ lo ∷ m) (drop k z)
+    (λ j. get_or-drop k z j 0 ∙ get_or-drop 2 (replicate n 0) (k + j) 0 ∙ all-zero n (2 + (k + j))) i

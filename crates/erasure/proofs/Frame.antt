@@ -7,12 +7,15 @@ use Prim.Native.Nat.{ℕ, zero, suc, ◌+◌, ◌-◌, ◌*◌, ◌/◌, ◌<◌
 use native.Mathlib.Nat.{mul_comm, mul-zero, suc-mul, mul-le-mul_left, mul-one, div-mul-le_self, lt-div-mul-add, div-lt_iff_lt-mul}
 use native.Mathlib.Decide.{dec_lt}
 use native.Mathlib.Omega.{arith}
+use Rattle.std.specs.Int.{div_ceil}
+use Rattle.std.proofs.lemmas.Grind.{div_ceil_times}
 use borrow.Author.Tests.{le-ltb, eq-eqb, ne_eqb, ltb-false, eqb-true}
 use lib.Dec.{ltb, eqb}
 use lib.ListN.{length, get_or, take, drop, replicate, length-append, length-drop, length-replicate, get_or-eq_default}
 use lib.Seq.{ext_get_or, get_or-take, get_or-drop, length-take-le, take-append_seam}
 use Rattle.limits.specs.Limits.{max_message, max_share, max_parties, max_entry}
 use Rattle.buffer.specs.Entries.{size, body, rest}
+use Rattle.buffer.proofs.Parts.{part-rest}
 use Rattle.buffer.proofs.Tabulate.{length-tabulate, get_or-tabulate}
 use Rattle.polynomial.specs.Polynomial.{value}
 use Rattle.polynomial.proofs.Value.{value-cong}
@@ -52,22 +55,36 @@ module _ (b l : ℕ) (low : 1 ≤ b) where
       let r : n / b < suc (l + 2) = (div-lt_iff_lt-mul low).1 h in
       omega arith
 
+pub rounded_up : (n b : ℕ) → 1 ≤ b → div_ceil n b ≡ (n + (b - 1)) / b
+rounded_up n b low =
+    let q = div_ceil n b in
+    let r = (n + (b - 1)) / b in
+    let t = div_ceil_times n b low in
+    let high : r < suc q = (div-lt_iff_lt-mul low).1 (omega (arith, suc-mul q b)) in
+    elim (dec_lt r q) [
+      | yes l ↦ absurd (omega (arith, (div-lt_iff_lt-mul {k = b} {x = n + (b - 1)} {y = q} low).0 l))
+      | no o ↦ omega arith
+    ]
+
 -- the bytes of a frame
 
-get_or-zeros : (n i : ℕ) → ◌≡◌ {A = ℕ} (get_or (replicate n 0) i 0) 0
+pub get_or-zeros : (n i : ℕ) → ◌≡◌ {A = ℕ} (get_or (replicate n 0) i 0) 0
 get_or-zeros zero i = refl
 get_or-zeros (suc n) zero = refl
 get_or-zeros (suc n) (suc i) = get_or-zeros n i
 
-get_or-filled : (l : List ℕ) (n i : ℕ) → get_or (l ++ replicate n 0) i 0 ≡ get_or l i 0
-get_or-filled [] n i = get_or-zeros n i
-get_or-filled (x ∷ l) n zero = refl
-get_or-filled (x ∷ l) n (suc i) = get_or-filled l n i
+-- zeros past the end of a list are what `get_or` gives there
+pub zeros-past : (m z : List ℕ) → ((j : ℕ) → get_or z j 0 ≡ 0) → (i : ℕ) → get_or (m ++ z) i 0 ≡ get_or m i 0
+zeros-past [] z h i = h i
+zeros-past (x ∷ m) z h zero = refl
+zeros-past (x ∷ m) z h (suc i) = zeros-past m z h i
 
 module _ (b : ℕ) (m : List ℕ) where
   pub get_or-frame : (i : ℕ) → get_or (frame b m) i 0 ≡ get_or (headed m) i 0
   unfolding frame
-  get_or-frame i = get_or-filled (headed m) (b * share_length b (length m) - (length m + 2)) i
+  get_or-frame =
+      let n : ℕ = b * share_length b (length m) - (length m + 2) in
+      zeros-past (headed m) (replicate n 0) (get_or-zeros n)
 
   -- the two bytes of the length hold it
   pub size-frame : size (frame b m) ≡ length m
@@ -235,3 +252,20 @@ long-share b s f low h = unstated b s f (λ k e. omega (arith, share-most b (siz
 -- nor a frame longer than the greatest message and its filling
 pub long-frame : (b s : ℕ) (f : List ℕ) → 1 ≤ b → b ≤ max_parties → max_share + max_parties < b * s → unframed b s f ≡ cause 12
 long-frame b s f low few h = unstated b s f (λ k e. omega (arith, ap (λ (n : ℕ). b * n) e, share-high b (size f) low))
+
+-- a frame whose length was read, and found to be as it gives
+module _ (b s len : ℕ) (f : List ℕ) (low : 1 ≤ b) (all : length f ≡ b * s) (read : len ≡ size f) (stated : s ≡ share_length b len) where
+  pub stated-inside : len + 2 ≤ length f
+  stated-inside = omega (arith, share-low b len low, ap (λ (n : ℕ). b * n) stated)
+
+  pub stated-rest : take (length f - (len + 2)) (drop (len + 2) f) ≡ rest f
+  unfolding rest
+  stated-rest =
+      let e : len + 2 ≡ 2 + size f = omega arith in
+      part-rest f (len + 2) ∙ ap (λ (n : ℕ). drop n f) e
+
+  pub stated-body : body f ≡ take (len + 2 - 2) (drop 2 f)
+  unfolding body
+  stated-body =
+      let e : size f ≡ len + 2 - 2 = omega arith in
+      ap (λ (n : ℕ). take n (drop 2 f)) e

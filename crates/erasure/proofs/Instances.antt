@@ -16,7 +16,7 @@ use Rattle.buffer.specs.Given.{written}
 use Rattle.erasure.specs.Coding.{share_length, headed, frame, block, share_byte, share_of, share}
 use Rattle.erasure.specs.Rebuild.{Recovered, point, present, recovered, message, answered, part_at, rebuild_at_of}
 use Rattle.erasure.specs.Arrays.{Lie}
-use Rattle.erasure.specs.declared.Places.{Places}
+use Rattle.erasure.specs.declared.Place.{Place}
 use Rattle.erasure.proofs.Complete.{complete}
 use Rattle.erasure.proofs.Sound.{sound}
 use Rattle.erasure.proofs.Injective.{injective}
@@ -51,8 +51,8 @@ first = 0x41 ∷ 0x40 ∷ 0x07 ∷ []
 abbrev second : List ℕ
 second = 0xEE ∷ 0x82 ∷ 0x86 ∷ []
 
-abbrev places : Places
-places = record { from = 0 ∷ 4 ∷ 3 ∷ []; len = 2 ∷ 2 ∷ 1 ∷ [] }
+abbrev places : List Place
+places = record { from = 0; len = 2 } ∷ record { from = 4; len = 2 } ∷ record { from = 3; len = 1 } ∷ []
 
 lie : Lie 3 3 3 places
 lie zero h = in-one-lies 3 3 0 2 (lit≤ tt) (λ q. lit≤ tt, lit≤ tt)

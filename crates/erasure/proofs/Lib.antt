@@ -7,8 +7,7 @@ pub mod Sound
 pub mod Injective
 pub mod Outcomes
 pub mod Placed
-pub mod Found
 pub mod Arrays
 pub mod Lagrange
-pub mod Joined
 pub mod Instances
+pub mod Points

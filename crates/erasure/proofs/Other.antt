@@ -1,15 +1,14 @@
--- Whether a number other than x stands in a list: it does not exactly where every element is x; and, at a place of the list, how the
--- search for one goes on or ends. Assumes nothing.
+-- Whether a number other than x stands in a list: it does not exactly where every element is x. Assumes nothing.
 use mathlib.Core.Path.{◌≡◌, refl, ap}
 use mathlib.Core.Bool.{Bool, true, false, not, ◌||◌}
-use mathlib.Core.List.{List, [], ◌∷◌}
-use Prim.Native.Nat.{ℕ, zero, suc, ◌+◌, ◌<◌, ◌≤◌}
-use native.Mathlib.Numerals.{add-one}
+use mathlib.Core.List.{List, [], ◌∷◌, map}
+use Prim.Native.Nat.{ℕ, zero, suc, ◌<◌}
 use native.Mathlib.Omega.{arith}
-use borrow.Author.Tests.{eq-eqb, ne_eqb, eqb-true}
+use borrow.Author.Tests.{eq-eqb, eqb-true}
 use lib.Dec.{eqb}
-use lib.ListN.{length, get_or, drop, drop_of_length-le}
-use lib.Seq.{drop-cons}
+use lib.ListN.{length, get_or}
+use Rattle.std.specs.List.{list_any}
+use Rattle.std.proofs.Common.{nat_eq}
 use Rattle.erasure.specs.Rebuild.{other}
 
 pub other_none : (x : ℕ) (l : List ℕ) → ((i : ℕ) → i < length l → get_or l i 0 ≡ x) → other x l ≡ false
@@ -29,15 +28,13 @@ none_other x [] h i k = absurd (omega arith)
 none_other x (y ∷ l) h zero k = eqb-true y x (neither (eqb y x) (other x l) h).0
 none_other x (y ∷ l) h (suc i) k = none_other x l (neither (eqb y x) (other x l) h).1 i (omega arith)
 
-pub other-end : (x : ℕ) (l : List ℕ) (i : ℕ) → length l ≤ i → other x (drop i l) ≡ false
+-- the same as whether an element passes the test
+pub other_any : (x : ℕ) (l : List ℕ) → list_any (λ y. not (nat_eq y x)) l ≡ other x l
 unfolding other
-other-end x l i h = ap (other x) (drop_of_length-le l h)
+other_any x [] = refl
+other_any x (y ∷ l) = ap (λ (t : Bool). not (eqb y x) || t) (other_any x l)
 
-module _ (x : ℕ) (l : List ℕ) (i : ℕ) (h : i < length l) where
-  pub other-here : (get_or l i 0 ≡ x → ⊥) → other x (drop i l) ≡ true
-  unfolding other
-  other-here ne = rw (drop-cons l i 0 h, ne_eqb (get_or l i 0) x ne)
-
-  pub other-more : get_or l i 0 ≡ x → other x (drop i l) ≡ other x (drop (i + 1) l)
-  unfolding other
-  other-more e = rw (drop-cons l i 0 h, eq-eqb (get_or l i 0) x e, add-one)
+pub other_any_of : {A : Type 0} (x : ℕ) (f : A → ℕ) (l : List A) → list_any (λ y. not (nat_eq (f y) x)) l ≡ other x (map f l)
+unfolding other
+other_any_of x f [] = refl
+other_any_of x f (y ∷ l) = ap (λ (t : Bool). not (eqb (f y) x) || t) (other_any_of x f l)

@@ -1,20 +1,27 @@
 -- The outcomes of the definitions, one law for each, from plain facts about numbers. Assumes nothing.
-use mathlib.Core.Path.{◌≡◌}
+use mathlib.Core.Path.{◌≡◌, refl}
 use mathlib.Core.Bool.{Bool, true, false, cond, not}
 use mathlib.Core.List.{List, ◌++◌, map}
-use Prim.Native.Nat.{ℕ, ◌-◌, ◌<◌, ◌≤◌}
+use Prim.Native.Nat.{ℕ, ◌-◌, ◌*◌, ◌<◌, ◌≤◌}
 use borrow.Author.Tests.{lt-ltb, le-ltb, eq-eqb, ne_eqb}
 use lib.Dec.{eqb}
 use lib.ListN.{length, take}
-use Rattle.limits.specs.Limits.{max_message, group_cause}
+use Rattle.limits.specs.Limits.{max_message, max_parties, group_cause}
+use Rattle.limits.proofs.Group.{group_of}
 use Rattle.buffer.specs.Entries.{size, body, rest, fills, bodies}
-use Rattle.buffer.specs.Given.{Given, gave, written}
+use Rattle.cause.specs.Cause.{number, cause_of, IsCause}
+use Rattle.cause.specs.declared.Cause.{Cause}
+use Rattle.cause.specs.declared.Refusal.{Refusal}
+use Rattle.cause.proofs.Numbers.{number-nonzero}
+use Rattle.buffer.specs.Given.{Given, said, gave, written}
+use Rattle.buffer.proofs.Given.{gave-because}
+use Rattle.std.proofs.Common.{Option, None, Result, Err, IsErrAnd, ◌≢◌, ap, ◌∙◌}
+use Rattle.std.specs.Option.{ok_or}
 use Rattle.erasure.specs.Coding.{share_length, shares, encode_of}
 use Rattle.erasure.specs.Rebuild.{Point, point, present, framed, other, unframed, joined, recovered, answered, rebuild_of}
 use Rattle.erasure.specs.Rebuild.{cause, message, parts_at, all_lie, rebuild_at_of}
-use Rattle.erasure.specs.Arrays.{judged_frame}
-use Rattle.erasure.specs.declared.Places.{Places}
-use Rattle.buffer.specs.declared.Written.TheVariants.{Refused}
+use Rattle.erasure.specs.declared.Place.{Place}
+use Rattle.buffer.specs.Given.{Refused}
 
 module _ (n t : ℕ) (m out : List ℕ) where
   pub encode-refused : (group_cause n t ≡ 0 → ⊥) → encode_of n t m out ≡ gave (Refused (group_cause n t)) out
@@ -45,33 +52,34 @@ module _ (b s : ℕ) (f : List ℕ) where
       unfolding unframed
       unframed-stated h = rw (le-ltb (length f) 2 whole, le-ltb max_message (size f) within, ne_eqb s (share_length b (size f)) h)
 
-      pub unframed-judged : s ≡ share_length b (size f) → unframed b s f ≡ judged_frame f
-      unfolding unframed judged_frame
-      unframed-judged stated = rw (le-ltb (length f) 2 whole, le-ltb max_message (size f) within, eq-eqb s (share_length b (size f)) stated)
+      module _ (stated : s ≡ share_length b (size f)) where
+        pub unframed-filled : other 0 (rest f) ≡ true → unframed b s f ≡ cause 12
+        unfolding unframed
+        unframed-filled h =
+            rw (le-ltb (length f) 2 whole, le-ltb max_message (size f) within, eq-eqb s (share_length b (size f)) stated, h)
 
-module _ (f : List ℕ) where
-  pub judged-nonzero : other 0 (rest f) ≡ true → judged_frame f ≡ cause 12
-  unfolding judged_frame
-  judged-nonzero h = rw h
-
-  pub judged-found : other 0 (rest f) ≡ false → judged_frame f ≡ message (body f)
-  unfolding judged_frame
-  judged-found h = rw h
+        pub unframed-found : other 0 (rest f) ≡ false → unframed b s f ≡ message (body f)
+        unfolding unframed
+        unframed-found h =
+            rw (le-ltb (length f) 2 whole, le-ltb max_message (size f) within, eq-eqb s (share_length b (size f)) stated, h)
 
 module _ (b : ℕ) (ps : List Point) where
   pub recovered-few : length ps < b → recovered b ps ≡ cause 11
   unfolding recovered
   recovered-few h = rw (lt-ltb (length ps) b h)
 
-  module _ (enough : b ≤ length ps) (s : ℕ) (first : length (point ps 0).share ≡ s) where
-    pub recovered-uneven : other s (map (λ p. length p.share) (take b ps)) ≡ true → recovered b ps ≡ cause 12
-    unfolding recovered joined
-    recovered-uneven h = rw (le-ltb (length ps) b enough, first, h)
+  pub recovered-enough : b ≤ length ps → recovered b ps ≡ joined b (length (point ps 0).share) (take b ps)
+  unfolding recovered
+  recovered-enough h = rw (le-ltb (length ps) b h)
 
-    pub recovered-even : other s (map (λ p. length p.share) (take b ps)) ≡ false
-        → recovered b ps ≡ unframed b s (framed b s (take b ps))
-    unfolding recovered joined
-    recovered-even h = rw (le-ltb (length ps) b enough, first, h)
+module _ (b s : ℕ) (us : List Point) where
+  pub joined-uneven : other s (map (λ p. length p.share) us) ≡ true → joined b s us ≡ cause 12
+  unfolding joined
+  joined-uneven h = rw h
+
+  pub joined-even : other s (map (λ p. length p.share) us) ≡ false → joined b s us ≡ unframed b s (framed b s us)
+  unfolding joined
+  joined-even h = rw h
 
 -- causes 1 and 2, then 8, then what the shares give
 module _ (g : ℕ) (laid : Bool) (out : List ℕ) (r : Given) where
@@ -103,7 +111,7 @@ module _ (n t : ℕ) (es out : List ℕ) where
   unfolding rebuild_of
   rebuild-answered = checked-fine (group_cause n t) (fills n es) out given
 
-module _ (n t : ℕ) (x y : List ℕ) (p : Places) (out : List ℕ) where
+module _ (n t : ℕ) (x y : List ℕ) (p : List Place) (out : List ℕ) where
   abbrev given-at : Given
   given-at = answered (recovered (n - t) (present 1 (parts_at n (x ++ y) p))) out
 
@@ -118,3 +126,17 @@ module _ (n t : ℕ) (x y : List ℕ) (p : Places) (out : List ℕ) where
   pub rebuild-at-answered : group_cause n t ≡ 0 → all_lie n (length x) (length y) p ≡ true → rebuild_at_of n t x y p out ≡ given-at
   unfolding rebuild_at_of
   rebuild-at-answered = checked-fine (group_cause n t) (all_lie n (length x) (length y) p) out given-at
+
+-- the bounds where neither cause 1 nor cause 2 applies; the first part gives a tactic the term to look for
+pub group_fits : (n t : ℕ) → group_cause n t ≡ 0 → (group_cause n t ≡ group_cause n t) × (1 ≤ n) × (n ≤ max_parties) × (2 * t < n)
+group_fits n t e = let g = group_of n t e in (refl, g.low, g.high, g.faults)
+
+-- the answer of an Option that is None, by `ok_or` and `?`
+pub none-because : {A : Type 0} (o : Option A) (k e : Cause) (r : Result ℕ Refusal) (out : List ℕ) → o ≡ None → Err e ≡ ok_or o k
+    → IsErrAnd r (IsCause e) → gave (said r) out ≡ gave (Refused (number k)) out
+none-because {A} o k e r out none is h = gave-because r e (number k) out h (ap cause_of is ∙ ap (λ (p : Option A). cause_of (ok_or p k)) none)
+
+-- the same of an answer that is itself a cause
+pub err-because : (n t : ℕ) (e : Cause) (r : Result ℕ Refusal) (out : List ℕ) → number e ≡ group_cause n t
+    → IsErrAnd r (IsCause e) → (group_cause n t ≢ 0) × (gave (said r) out ≡ gave (Refused (group_cause n t)) out)
+err-because n t e r out is h = (λ q. number-nonzero e (is ∙ q), gave-because r e (group_cause n t) out h is)

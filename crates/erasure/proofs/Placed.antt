@@ -1,6 +1,6 @@
--- Shares by their places: what it is that one lies well, the same of n of them, the arrays of places as they are filled, and what is rebuilt
+-- Shares by their places: what it is that one lies well, the same of n of them, and what is rebuilt
 -- from shares that lie well. Assumes nothing.
-use mathlib.Core.Path.{◌≡◌, refl, sym, ap, ap₂, ◌∙◌}
+use mathlib.Core.Path.{◌≡◌, refl, sym, ap, ◌∙◌}
 use mathlib.Core.Bool.{Bool, true, false, ◌&&◌, ◌||◌, true≢false}
 use mathlib.Core.List.{List, [], ◌∷◌, ◌++◌}
 use Prim.Native.Nat.{ℕ, zero, suc, ◌+◌, ◌-◌, ◌<◌, ◌≤◌}
@@ -10,22 +10,19 @@ use native.Mathlib.Omega.{arith}
 use borrow.Author.Count.{below_more}
 use borrow.Author.Tests.{le-leb, lt-leb, leb-true, leb-false, eq-eqb, ne_eqb}
 use lib.Dec.{leb, eqb}
-use lib.ListN.{length, get_or, take, drop, set, length-drop, get_or-append}
-use lib.Seq.{get_or-set_same, get_or-set_other, get_or-drop, get_or-append-add, take-append-le, drop-append-le, drop-append-add}
+use lib.ListN.{length, get_or, take, drop, length-drop}
+use lib.Seq.{get_or-take, take-append-le, drop-append-le, drop-append-add}
 use Rattle.limits.specs.Limits.{max_entry, group_cause}
 use Rattle.buffer.specs.Splice.{tabulate}
-use Rattle.buffer.specs.Entries.{size, bodies}
-use Rattle.buffer.proofs.Entries.{size-drop}
+use Rattle.buffer.specs.Entries.{bodies}
 use Rattle.buffer.proofs.Parts.{part-rest}
-use Rattle.buffer.proofs.Tabulate.{tabulate-cong, tabulate-get_or}
-use Rattle.erasure.specs.Rebuild.{present, recovered, answered, part_at, parts_at, lies, all_lie, rebuild_at_of}
+use Rattle.std.proofs.Common.{Option, Some, None, MatchOption, Bor, inl, inr, ◌⊎◌}
+use native.Mathlib.Nat.{sub-zero}
+use Rattle.buffer.proofs.Tabulate.{length-tabulate, tabulate-cong, tabulate-get_or}
+use Rattle.erasure.specs.Rebuild.{present, recovered, answered, place_at, part_at, parts_at, lies, all_lie, rebuild_at_of}
 use Rattle.erasure.specs.Arrays.{InOne, Lie}
-use Rattle.erasure.specs.declared.Places.{Places}
+use Rattle.erasure.specs.declared.Place.{Place}
 use Rattle.erasure.proofs.Outcomes.{rebuild-at-answered}
-
--- a length in two bytes is one that an entry may have
-pub size_small : (s : List ℕ) (at : ℕ) → ((i : ℕ) → get_or s i 0 < 256) → size (drop at s) ≤ max_entry
-size_small s at h = omega (arith, size-drop at s, h at, h (at + 1))
 
 or-false : (t : Bool) → t || false ≡ t
 or-false true = refl
@@ -74,22 +71,6 @@ module _ (f g from len : ℕ) where
           same true e = le-leb (from - f) (g - len) (omega (arith, leb-true (from + len) (f + g) e))
           same false e = lt-leb (from - f) (g - len) (omega (arith, leb-false (from + len) (f + g) e))
 
-    pub lies-in-one : lies f g from len ≡ true → (1 ≤ len) × (len ≤ max_entry) × InOne f g from len
-    lies-in-one e = elim (dec_lt max_entry len) [
-      | yes l ↦ absurd (true≢false (sym e ∙ lies-long l))
-      | no n ↦
-          let short : len ≤ max_entry = omega arith in (
-            some,
-            short,
-            elim (dec_lt from f) [
-              | yes l ↦
-                  let h = leb-true (from + len) f (sym (lies-begun short l) ∙ e) in
-                  (λ k. h, omega arith)
-              | no o ↦ (λ k. absurd (omega arith), leb-true (from + len) (f + g) (sym (lies-behind short (omega arith)) ∙ e))
-            ],
-          )
-    ]
-
   -- a share that may be an entry's, and lies whole in one of the two, lies well
   pub in-one-lies : len ≤ max_entry → InOne f g from len → lies f g from len ≡ true
   in-one-lies short w = elim (dec_lt 0 len) [
@@ -106,7 +87,7 @@ both : (a b : Bool) → a && b ≡ true → (a ≡ true) × (b ≡ true)
 both true b e = (refl, e)
 both false b e = absurd (true≢false (sym e))
 
-module _ (f g : ℕ) (p : Places) where
+module _ (f g : ℕ) (p : List Place) where
   pub all-lie : (n : ℕ) → Lie n f g p → all_lie n f g p ≡ true
   unfolding all_lie
   all-lie zero h = refl
@@ -116,65 +97,43 @@ module _ (f g : ℕ) (p : Places) where
   unfolding all_lie
   lie-each zero e i l = absurd (omega arith)
   lie-each (suc n) e i l =
-      let h = both (all_lie n f g p) (lies f g (get_or p.from n 0) (get_or p.len n 0)) e in
-      below_more (λ k. lies f g (get_or p.from k 0) (get_or p.len k 0) ≡ true) n (lie-each n h.0) h.1 i (omega arith)
+      let h = both (all_lie n f g p) (lies f g (place_at p n).from (place_at p n).len) e in
+      below_more (λ k. lies f g (place_at p k).from (place_at p k).len ≡ true) n (lie-each n h.0) h.1 i (omega arith)
 
-  pub one-strays : (n i : ℕ) → i < n → lies f g (get_or p.from i 0) (get_or p.len i 0) ≡ false → all_lie n f g p ≡ false
+  pub all-lie-more : (n : ℕ) → all_lie n f g p ≡ true → lies f g (place_at p n).from (place_at p n).len ≡ true → all_lie (n + 1) f g p ≡ true
+  unfolding all_lie
+  all-lie-more n h k = rw (add-one, h, k)
+
+  pub one-strays : (n i : ℕ) → i < n → lies f g (place_at p i).from (place_at p i).len ≡ false → all_lie n f g p ≡ false
   one-strays n i l e = go (all_lie n f g p) refl
     where
       go : (t : Bool) → all_lie n f g p ≡ t → t ≡ false
       go true h = absurd (true≢false (sym (lie-each n h i l) ∙ e))
       go false h = refl
 
--- arrays as they are filled, element k last
-
-pub set_other : (l : List ℕ) (k m y : ℕ) → m < k → get_or (set l k y) m 0 ≡ get_or l m 0
-set_other l k m y h = get_or-set_other l k m y 0 (λ e. omega arith)
-
-pub set_same : (l : List ℕ) (k y : ℕ) → k < length l → get_or (set l k y) k 0 ≡ y
-set_same l k y h = get_or-set_same l k y 0 h
-
-pub both-set : (P : ℕ → ℕ → Type 0) (F L : List ℕ) (k a l : ℕ) → k < length F → k < length L
-    → ((m : ℕ) → m < k → P (get_or F m 0) (get_or L m 0)) → P a l
-    → (m : ℕ) → m < k + 1 → P (get_or (set F k a) m 0) (get_or (set L k l) m 0)
-both-set P F L k a l hF hL all here =
-    below_more (λ m. P (get_or (set F k a) m 0) (get_or (set L k l) m 0)) k
-    (λ m h. rw (set_other F k m a h, set_other L k m l h) (all m h))
-    (rw (set_same F k a hF, set_same L k l hL) here)
-
-pub tabulate-more : {A : Type 0} (k : ℕ) (f g : ℕ → A) (x : A) → ((i : ℕ) → i < k → g i ≡ f i) → g k ≡ x
-    → tabulate (k + 1) g ≡ tabulate k f ++ (x ∷ [])
-unfolding tabulate
-tabulate-more {A} k f g x e q =
-    ap (λ (n : ℕ). tabulate n g) (add-one k) ∙ ap₂ {C = List A} (λ l y. l ++ (y ∷ [])) (tabulate-cong k g f e) q
-
-pub parts-set : (s F L : List ℕ) (k a l : ℕ) → k < length F → k < length L
-    → parts_at (k + 1) s (record { from = set F k a; len = set L k l })
-    ≡ parts_at k s (record { from = F; len = L }) ++ (take l (drop a s) ∷ [])
-unfolding parts_at
-parts-set s F L k a l hF hL =
-    tabulate-more k (λ m. take (get_or L m 0) (drop (get_or F m 0) s)) (λ m. take (get_or (set L k l) m 0) (drop (get_or (set F k a) m 0) s))
-    (take l (drop a s))
-    (λ m h. rw (set_other F k m a h, set_other L k m l h))
-    (rw (set_same F k a hF, set_same L k l hL))
-
 pub bodies-none : (n : ℕ) (s : List ℕ) → n ≡ 0 → bodies n s ≡ []
 unfolding bodies
 bodies-none n s e = rw e
 
--- a byte of what follows a place of the first, and of the second
+-- the first n places stand for n shares
+pub all-lie-take : (f g : ℕ) (p : List Place) (n k : ℕ) → k ≤ n → all_lie k f g (take n p) ≡ all_lie k f g p
+unfolding all_lie
+all-lie-take f g p n zero h = refl
+all-lie-take f g p n (suc k) h = rw (all-lie-take f g p n k (omega arith), get_or-take n p k _ (omega arith)) refl
 
-byte-rest : (x : List ℕ) (at c : ℕ) → get_or (take (length x - at) (drop at x)) c 0 ≡ get_or x (at + c) 0
-byte-rest x at c = ap (λ (l : List ℕ). get_or l c 0) (part-rest x at) ∙ get_or-drop at x c 0
+pub parts-take : (n : ℕ) (s : List ℕ) (p : List Place) → parts_at n s (take n p) ≡ parts_at n s p
+unfolding parts_at
+parts-take n s p =
+    tabulate-cong n (part_at s (take n p)) (part_at s p) (λ i h. ap (λ (q : Place). take q.len (drop q.from s)) (get_or-take n p i _ h))
 
-pub byte-first : (x y : List ℕ) (at c : ℕ) → at + c < length x → get_or (take (length x - at) (drop at x)) c 0 ≡ get_or (x ++ y) (at + c) 0
-byte-first x y at c h = byte-rest x at c ∙ sym (get_or-append x y 0 (at + c) h)
+pub length-parts : (n : ℕ) (s : List ℕ) (p : List Place) → length (parts_at n s p) ≡ n
+unfolding parts_at
+length-parts n s p = length-tabulate n (part_at s p)
 
-pub byte-second : (x y : List ℕ) (at c : ℕ) → length x ≤ at
-    → get_or (take (length y - (at - length x)) (drop (at - length x) y)) c 0 ≡ get_or (x ++ y) (at + c) 0
-byte-second x y at c h =
-    let n : length x + (at - length x + c) ≡ at + c = omega arith in
-    byte-rest y (at - length x) c ∙ sym (get_or-append-add x y (at - length x + c) 0) ∙ ap (λ (k : ℕ). get_or (x ++ y) k 0) n
+-- one share more
+pub parts_more : (s : List ℕ) (p : List Place) (n : ℕ) (x : List ℕ) → x ≡ part_at s p n → parts_at n s p ++ (x ∷ []) ≡ parts_at (n + 1) s p
+unfolding parts_at tabulate
+parts_more s p n x e = rw (add-one, e)
 
 -- a share that lies in the first, and one that lies in the second
 
@@ -187,8 +146,50 @@ part-second x y from len h =
     let n : from ≡ length x + (from - length x) = omega arith in
     ap (λ (k : ℕ). take len (drop k (x ++ y))) n ∙ ap (take len) (drop-append-add x y (from - length x))
 
+-- A share as it is read: the first `len` bytes of what follows its place, if there are as many.
+module _ (x y : List ℕ) (from len : ℕ) (some : 1 ≤ len) (short : len ≤ max_entry) where
+  abbrev Found : List ℕ → Option (Bor (List ℕ)) → Type 0
+  Found z r = MatchOption r ((len < 0) ⊎ (length z < len))
+      (λ w. (0 ≤ len) × (len ≤ length z) × (w.now ≡ take (len - 0) (drop 0 z)) × (length w.now + 0 ≡ len))
+
+  abbrev Read : Option (Bor (List ℕ)) → Type 0
+  Read r = MatchOption r (lies (length x) (length y) from len ≡ false)
+      (λ share. (lies (length x) (length y) from len ≡ true) × (share.now ≡ take len (drop from (x ++ y))))
+
+  pub read-first : from < length x → (r : Option (Bor (List ℕ))) → Found (take (length x - from) (drop from x)) r → Read r
+  read-first h None (inl a) = absurd (omega arith)
+  read-first h None (inr a) =
+      let e : length (take (length x - from) (drop from x)) ≡ length x - from = ap length (part-rest x from) ∙ length-drop from x in
+      lies-first (length x) (length y) from len some short h ∙ lt-leb len (length x - from) (omega arith)
+  read-first h (Some w) p =
+      let e : length (take (length x - from) (drop from x)) ≡ length x - from = ap length (part-rest x from) ∙ length-drop from x in (
+        lies-first (length x) (length y) from len some short h ∙ le-leb len (length x - from) (omega (arith, p.1)),
+        p.2 ∙ rw (sub-zero, part-rest x from) (sym (part-first x y from len (omega (arith, p.1)))),
+      )
+
+  pub read-none : length x ≤ from → length y < from - length x → lies (length x) (length y) from len ≡ false
+  read-none h a = elim (dec_lt (length y) len) [
+    | yes l ↦ lies-none (length x) (length y) from len some short h l
+    | no o ↦ lies-second (length x) (length y) from len some short h (omega arith)
+        ∙ lt-leb (from - length x) (length y - len) (omega arith)
+  ]
+
+  pub read-second : length x ≤ from → (z : List ℕ) → z ≡ take (length y - (from - length x)) (drop (from - length x) y)
+      → length z + (from - length x) ≡ length y → (r : Option (Bor (List ℕ))) → Found z r → Read r
+  read-second h z e n None (inl a) = absurd (omega arith)
+  read-second h z e n None (inr a) = elim (dec_lt (length y) len) [
+    | yes l ↦ lies-none (length x) (length y) from len some short h l
+    | no o ↦ lies-second (length x) (length y) from len some short h (omega arith)
+        ∙ lt-leb (from - length x) (length y - len) (omega arith)
+  ]
+  read-second h z e n (Some w) p = (
+    lies-second (length x) (length y) from len some short h (omega (arith, p.1))
+        ∙ le-leb (from - length x) (length y - len) (omega (arith, p.1)),
+    p.2 ∙ rw sub-zero (ap (take len) (e ∙ part-rest y (from - length x)) ∙ sym (part-second x y from len h)),
+  )
+
 -- what is rebuilt from shares es that lie well
-pub rebuild-at-fine : (n t : ℕ) (x y : List ℕ) (p : Places) (out : List ℕ) (es : List (List ℕ)) → group_cause n t ≡ 0
+pub rebuild-at-fine : (n t : ℕ) (x y : List ℕ) (p : List Place) (out : List ℕ) (es : List (List ℕ)) → group_cause n t ≡ 0
     → Lie n (length x) (length y) p → length es ≡ n → ((i : ℕ) → i < n → part_at (x ++ y) p i ≡ get_or es i [])
     → rebuild_at_of n t x y p out ≡ answered (recovered (n - t) (present 1 es)) out
 unfolding parts_at

@@ -25,7 +25,7 @@ use Rattle.erasure.specs.Coding.{share_length, frame, share}
 use Rattle.buffer.specs.Given.{Given, gave, written}
 use Rattle.erasure.specs.Rebuild.{Point, present, point, framed, other, unframed, joined, recovered, answered, rebuild_of}
 use Rattle.erasure.specs.Rebuild.{Recovered, cause, message}
-use Rattle.buffer.specs.declared.Written.TheVariants.{Refused, Short, Done}
+use Rattle.buffer.specs.Given.{Refused, Short, Done}
 use Rattle.erasure.proofs.Field.{through-lt, byte-through-value}
 use Rattle.erasure.proofs.Other.{none_other}
 use Rattle.erasure.proofs.Frame.{length-share, get_or-share, frame-unframed, frame-bytes-message}

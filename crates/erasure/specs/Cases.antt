@@ -10,7 +10,7 @@ use Rattle.polynomial.specs.Polynomial.{sum, pow, value, factor, unit, numerator
 use Rattle.buffer.specs.Given.{gave, written}
 use Rattle.erasure.specs.Coding.{share_length, headed, frame, block, share_byte, share_of, share, shares, encode_of}
 use Rattle.erasure.specs.Rebuild.{present, point, framed, other, unframed, joined, recovered, rebuild_of}
-use Rattle.buffer.specs.declared.Written.TheVariants.{Done}
+use Rattle.buffer.specs.Given.{Done}
 
 -- the message 0x41 0x42, and the entries of its shares 2 and 3 alone, for n 3 and t 1
 abbrev ab : List ℕ

@@ -6,7 +6,7 @@ use Rattle.buffer.specs.Splice.{tabulate}
 use Rattle.polynomial.specs.Polynomial.{value}
 use Rattle.erasure.specs.Bytes.{bytes}
 use Rattle.buffer.specs.Given.{Given, gave, written}
-use Rattle.buffer.specs.declared.Written.TheVariants.{Refused}
+use Rattle.buffer.specs.Given.{Refused}
 
 -- s = ceil((L + 2) / b)
 unfoldable pub share_length : ℕ → ℕ → ℕ

@@ -7,8 +7,8 @@ use Rattle.polynomial.specs.Polynomial.{through}
 use Rattle.erasure.specs.Bytes.{bytes}
 use Rattle.buffer.specs.Given.{Given, gave, written}
 use Rattle.erasure.specs.Coding.{share_length}
-use Rattle.erasure.specs.declared.Places.{Places}
-use Rattle.buffer.specs.declared.Written.TheVariants.{Refused}
+use Rattle.erasure.specs.declared.Place.{Place}
+use Rattle.buffer.specs.Given.{Refused}
 
 -- a share with its number
 pub record Point : Type 0 where
@@ -65,12 +65,16 @@ rebuild_of n t es out =
     (cond (not (fills n es)) (gave (Refused 8) out)
     (answered (recovered (n - t) (present 1 (bodies n es))) out))
 
+-- where share i + 1 lies
+abbrev pub place_at : List Place → ℕ → Place
+place_at places i = get_or places i (record { from = 0; len = 0 })
+
 -- share i + 1 where it lies in s
-abbrev pub part_at : List ℕ → Places → ℕ → List ℕ
-part_at s places i = take (get_or places.len i 0) (drop (get_or places.from i 0) s)
+abbrev pub part_at : List ℕ → List Place → ℕ → List ℕ
+part_at s places i = take (place_at places i).len (drop (place_at places i).from s)
 
 -- shares 1 to n where they lie
-unfoldable pub parts_at : ℕ → List ℕ → Places → List (List ℕ)
+unfoldable pub parts_at : ℕ → List ℕ → List Place → List (List ℕ)
 parts_at n s places = tabulate n (part_at s places)
 
 -- len bytes from an offset on are none; or they are no more than an entry may have, and lie whole in the first f bytes or in the g behind these
@@ -79,12 +83,12 @@ lies f g from len =
     eqb len 0 || (leb len max_entry && (leb (from + len) f || (leb f from && leb (from + len) (f + g))))
 
 -- shares 1 to n lie so
-unfoldable pub all_lie : ℕ → ℕ → ℕ → Places → Bool
+unfoldable pub all_lie : ℕ → ℕ → ℕ → List Place → Bool
 all_lie zero f g places = true
-all_lie (suc n) f g places = all_lie n f g places && lies f g (get_or places.from n 0) (get_or places.len n 0)
+all_lie (suc n) f g places = all_lie n f g places && lies f g (place_at places n).from (place_at places n).len
 
 -- the same as `rebuild_of`, of shares where they lie in x and in y behind it: cause 8 where one does not
-unfoldable pub rebuild_at_of : ℕ → ℕ → List ℕ → List ℕ → Places → List ℕ → Given
+unfoldable pub rebuild_at_of : ℕ → ℕ → List ℕ → List ℕ → List Place → List ℕ → Given
 rebuild_at_of n t x y places out =
     cond (not (eqb (group_cause n t) 0)) (gave (Refused (group_cause n t)) out)
     (cond (not (all_lie n (length x) (length y) places)) (gave (Refused 8) out)

@@ -1,44 +1,35 @@
--- `erasure::add_share` meets its contract: after k turns the first k blocks are the new ones, and the others as they were. Assumes
--- nothing.
-use mathlib.Core.Path.{refl, ap, ◌∙◌}
-use Prim.Native.Nat.{ℕ, ◌+◌, ◌*◌}
-use native.Mathlib.Nat.{le_refl}
+-- After each turn the blocks passed have their multiple of the share, and the others are as they were.
+use Rattle.std.proofs.Common.{◌≡◌, ℕ, ◌+◌, ◌-◌, ◌*◌, ◌≤◌, length, get_or, take, drop, ap, ◌∙◌, arith}
+use Rattle.std.specs.Int.Bits.{bit_xor}
 use native.Mathlib.Decide.{ℕ_discrete}
-use native.Mathlib.Omega.{arith}
-use lib.Bits.{bit_xor}
-use lib.ListN.{get_or}
-use Rattle.gf256.specs.Field.{product}
+use native.Mathlib.Nat.{le_refl}
+use Rattle.buffer.proofs.Parts.{length_part}
 use Rattle.buffer.proofs.Rows.{row_inside}
-use Rattle.erasure.specs.Arrays.{cell}
-use Rattle.erasure.proofs.Arrays.{inside}
+use Rattle.gf256.specs.Field.{product}
+use Rattle.erasure.proofs.Arrays.{inside, put-inside, put-below, put-above, part-byte}
 use Rattle.erasure.proofs.add_share.Goals as goal
-
-pub loop-k-init : goal.loop-k-init
-loop-k-init c = (omega arith, refl, λ q i h g. absurd (omega arith), λ q i h g. refl)
-
-pub overflow_mul-k : goal.overflow_mul-k
-overflow_mul-k c =
-    omega (arith, row_inside c.args.b c.loop-k.k c.args.s c.loop-k-test.true)
-
-pub add_multiple-requires : goal.add_multiple-requires
-add_multiple-requires c =
-    omega (arith, row_inside c.args.b c.loop-k.k c.args.s c.loop-k-test.true)
 
 pub loop-k-preserved : goal.loop-k-preserved
 loop-k-preserved c =
     let a = c.args in
-    let k = c.loop-k.k in
+    let s = length a.share.now in
+    let l = c.loop-k in
+    let k = l.k in
+    let at = k * s in
+    let f = l.frame in
+    let n = at + s - at in
+    let count : n ≡ s = omega arith in
+    let fits : at + n ≤ length f = omega (arith, row_inside (length a.coefficients.now) k s c.loop-k-test.true) in
+    let part : length (take n (drop at f)) ≡ n = length_part f at n fits in
+    let long : length c.add_multiple.new.block ≡ n = c.add_multiple.auto.block ∙ part in
     let e = c.add_multiple.ensures in (
-      omega arith,
-      c.add_multiple.auto.frame ∙ c.loop-k.invariant.1,
       λ q i h g. elim (ℕ_discrete q k) [
         | yes same ↦ rw same
-            (e.1 i g ∙ ap (λ (x : ℕ). bit_xor x (product (get_or a.table.now (cell k a.m) 0) (get_or a.share.now i 0)))
-            (c.loop-k.invariant.3 k i (le_refl k) g))
-        | no other ↦ e.0 (q * a.s + i) (inside k a.s q i (omega arith) g) ∙ c.loop-k.invariant.2 q i (omega arith) g
+            (put-inside at n f c.add_multiple.new.block long fits i (omega arith) ∙ e i (omega arith)
+            ∙ ap (λ (x : ℕ). bit_xor x (product (get_or a.coefficients.now k 0) (get_or a.share.now i 0)))
+            (part-byte f at s i g ∙ l.invariant.1 k i (le_refl k) g))
+        | no other ↦ put-below at n f c.add_multiple.new.block long fits (q * s + i) (inside k s q i (omega arith) g) ∙ l.invariant.0 q i (omega arith) g
       ],
-      λ q i h g. e.2 (q * a.s + i) (omega (arith, row_inside q k a.s (omega arith))) ∙ c.loop-k.invariant.3 q i (omega arith) g,
+      λ q i h g. put-above at n f c.add_multiple.new.block long fits (q * s + i) (omega (arith, row_inside q k s (omega arith)))
+          ∙ l.invariant.1 q i (omega arith) g,
     )
-
-pub returns : goal.returns
-returns c = λ q i h g. c.loop-k.invariant.2 q i (omega arith) g

@@ -1,19 +1,15 @@
--- `erasure::frame_of` meets its contract: two bytes and the message stand in an array of zeros. Assumes nothing.
-use mathlib.Core.Path.{◌≡◌, ap, ◌∙◌}
-use mathlib.Core.List.{List, ◌∷◌}
-use Prim.Native.Nat.{ℕ, ◌+◌, ◌/◌, ◌%◌, ◌≤◌}
-use lib.ListN.{length, get_or}
-use Rattle.limits.specs.Limits.{max_message, max_parties}
+-- Two bytes of the length and the message stand in an array of zeros.
+use Rattle.std.proofs.Common.{◌≡◌, ℕ, ◌+◌, ◌-◌, ◌/◌, ◌%◌, ◌∷◌, length, get_or, ap, ◌∙◌, arith}
 use Rattle.erasure.specs.Coding.{headed}
 use Rattle.erasure.proofs.Arrays.{frame-array}
-use native.Mathlib.Omega.{arith}
 use Rattle.erasure.proofs.frame_of.Goals as goal
 
 pub returns : goal.returns
 unfolding headed
-returns c =
-    λ i. let m = c.args.message.now in
-    let e : length m / 256 % 256 ≡ length m / 256 = omega arith in
-    let few : length m ≤ max_message + max_parties = omega arith in
-    ap (λ (l : List ℕ). get_or l i 0) c.put.ensures.1 ∙ frame-array (max_message + max_parties) (length m / 256 % 256) (length m % 256) m few i
-    ∙ ap (λ (h : ℕ). get_or (h ∷ length m % 256 ∷ m) i 0) e
+returns c = λ i.
+    let m = c.args.message.now in
+    let n = length m in
+    let e : n / 256 % 256 ≡ n / 256 = omega arith in
+    frame-array (n / 256 % 256) (n % 256) (n + 2 - 2) 3090 c.copy_from_slice.new.self c.copy_from_slice-2.new.self m
+    (c.copy_from_slice.ensures.after ∙ c.to_be_bytes.ensures) c.copy_from_slice-2.ensures.after i
+    ∙ ap (λ (h : ℕ). get_or (h ∷ n % 256 ∷ m) i 0) e

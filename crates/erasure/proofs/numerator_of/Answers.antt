@@ -1,38 +1,28 @@
--- `erasure::numerator_of` meets its contract. After m turns w has the coefficients of the product over the points below m.
--- Assumes nothing.
-use mathlib.Core.Path.{◌≡◌, sym, ap, ◌∙◌}
-use Prim.Native.Nat.{ℕ}
-use native.Mathlib.Omega.{arith}
-use lib.ListN.{get_or}
+-- After each turn w has the coefficients of the product over the shares passed.
+use Rattle.std.proofs.Common.{ℕ, get_or, sym, ap, ◌∙◌}
 use Rattle.limits.specs.Limits.{max_parties}
-use Rattle.polynomial.specs.Polynomial.{numerator}
+use Rattle.polynomial.specs.Polynomial.{factor, numerator}
 use Rattle.erasure.specs.Bytes.{bytes}
+use Rattle.erasure.specs.Arrays.{number_of}
 use Rattle.erasure.proofs.Lagrange.{one_unit, factor-below, numerator-skip, numerator-more}
+use Rattle.erasure.proofs.Points.{none, number_at}
 use Rattle.erasure.proofs.numerator_of.Goals as goal
 use Rattle.erasure.proofs.numerator_of.Goals.{then-m-i, else-m-i}
 
 pub loop-m-init : goal.loop-m-init
 unfolding numerator
-loop-m-init c = (omega arith, omega arith, λ k l. one_unit max_parties k (omega arith))
+loop-m-init c = λ k l. one_unit max_parties k l
 
 pub loop-m-preserved : goal.loop-m-preserved
-loop-m-preserved c =
+loop-m-preserved c = λ k h.
     let l = c.loop-m in
-    let a = c.args in
-    let x : ℕ → ℕ = λ j. get_or a.numbers.now j 0 in (
-      omega arith,
-      l.invariant.1,
-      λ k b. elim c.if-m-i.branch [
-        | then-m-i w ↦ ap (λ v. get_or v k 0) w.w-is ∙ w.times_factor-v.ensures k b
-            ∙ factor-below bytes a.b (x l.m) l.invariant.2 k b
-            ∙ sym (numerator-more bytes l.m x a.i w.if-m-i.true k)
-        | else-m-i w ↦ ap (λ v. get_or v k 0) w.w-is ∙ l.invariant.2 k b ∙ sym (numerator-skip bytes l.m x a.i w.if-m-i.false k)
-      ],
-    )
-
-pub returns : goal.returns
-returns c =
-    let l = c.loop-m in
-    let a = c.args in
-    let e : l.m ≡ a.b = omega arith in
-    λ k b. l.invariant.2 k b ∙ ap (λ n. numerator bytes n (λ j. get_or a.numbers.now j 0) a.i k) e
+    let i = c.args.i in
+    let xs = c.args.shares.now in
+    let x : ℕ → ℕ = number_of xs in
+    elim c.if-m-i.branch [
+      | then-m-i w ↦ ap (λ v. get_or v k 0) w.w-is ∙ w.times_factor.ensures k h
+          ∙ factor-below bytes max_parties (get_or xs l.m none).number l.invariant k h
+          ∙ ap (λ r. factor bytes r (numerator bytes l.m x i) k) (sym (number_at xs l.m c.loop-m-test.true))
+          ∙ sym (numerator-more bytes l.m x i w.if-m-i.true k)
+      | else-m-i w ↦ ap (λ v. get_or v k 0) w.w-is ∙ l.invariant k h ∙ sym (numerator-skip bytes l.m x i w.if-m-i.false k)
+    ]

@@ -1,35 +1,20 @@
--- `erasure::whole_frame` meets its contract: after m turns each byte is the sum over the first m shares. Assumes nothing.
-use mathlib.Core.Path.{◌≡◌, sym, ap, ◌∙◌}
-use mathlib.Core.List.{List, ◌++◌}
-use Prim.Native.Nat.{ℕ, ◌+◌, ◌-◌, ◌*◌, ◌/◌, ◌%◌}
+-- After each turn each byte is the sum over the shares passed.
+use Rattle.std.proofs.Common.{◌≡◌, ℕ, ◌+◌, ◌*◌, ◌/◌, ◌%◌, length, take, get_or, sym, ap, ap₂, ◌∙◌, arith, length-take-le}
+use Rattle.std.specs.Int.Bits.{bit_xor}
+use borrow.Author.Rules.{rules}
 use native.Mathlib.Nat.{div-add-mod'}
 use native.Mathlib.Numerals.{add-one}
-use native.Mathlib.Omega.{arith}
-use lib.Bits.{bit_xor}
-use lib.ListN.{length, get_or, length-replicate, length-drop}
-use Rattle.limits.specs.Limits.{max_parties, max_share}
-use Rattle.buffer.proofs.Parts.{part-rest}
+use lib.ListN.{length-replicate}
+use lib.Seq.{get_or-take}
+use Rattle.limits.specs.Limits.{max_parties}
 use Rattle.gf256.specs.Field.{product}
-use Rattle.polynomial.specs.Polynomial.{sum}
+use Rattle.polynomial.specs.Polynomial.{sum, basis, through}
 use Rattle.erasure.specs.Bytes.{bytes}
-use Rattle.erasure.specs.Arrays.{InOne, combined, cell}
+use Rattle.erasure.specs.Rebuild.{Point, point, framed}
+use Rattle.erasure.specs.Arrays.{points, number_of}
 use Rattle.erasure.proofs.Arrays.{all-zero, take-table, block-lt, byte-lt}
-use Rattle.erasure.proofs.Placed.{byte-first, byte-second}
-use Rattle.erasure.proofs.whole_frame.Lts as lts
-use Rattle.erasure.proofs.whole_frame.Reads as reads
-use Rattle.erasure.proofs.whole_frame.Tie as tie
+use Rattle.erasure.proofs.Points.{none, point_at}
 use Rattle.erasure.proofs.whole_frame.Goals as goal
-use Rattle.erasure.proofs.whole_frame.Goals.{then-at-first, else-at-first}
-
--- Places of the code that the helpers below speak of.
-abbrev After-at-1 : Type 0
-After-at-1 = lts.After-at tie.the-claims reads.Pre reads.Post goal.the-invariant-loop-m goal.the-decreases-loop-m
-
-abbrev At-loop-m : Type 0
-At-loop-m = lts.At-loop tie.the-claims reads.Pre reads.Post goal.the-invariant-loop-m goal.the-decreases-loop-m
-
-abbrev Start : Type 0
-Start = lts.Start tie.the-claims reads.Pre reads.Post goal.the-invariant-loop-m goal.the-decreases-loop-m
 
 sum_more : (m : ℕ) (f : ℕ → ℕ) (x : ℕ) → x ≡ sum bytes m f → bit_xor x (f m) ≡ sum bytes (m + 1) f
 unfolding sum
@@ -37,72 +22,51 @@ sum_more m f x e = ap (λ (y : ℕ). bit_xor y (f m)) e ∙ ap (λ (n : ℕ). su
 
 pub loop-m-init : goal.loop-m-init
 unfolding sum
-loop-m-init c =
-    let a = c.args in
-    (omega arith, length-replicate {A = ℕ} (max_share + max_parties) 0, λ k i h g. all-zero (max_share + max_parties) (k * a.s + i))
-
--- where the share in_one
-abbrev Turn : After-at-1 → At-loop-m
-Turn d = d.before.before.before
-
-abbrev Entry : After-at-1 → Start
-Entry d = (Turn d).before.before.before
-
-in_one : (d : After-at-1)
-    → let a = (Entry d).args in InOne (length a.first.now) (length a.second.now) (get_or a.from.now (Turn d).loop-m.m 0) a.s
-in_one d = (Entry d).requires.2 (Turn d).loop-m.m d.loop-m-test.true
+loop-m-init c = (length-replicate {A = ℕ} 3090 0, λ k i h g. all-zero 3090 (k * c.args.s + i))
 
 pub add_share-requires : goal.add_share-requires
 add_share-requires c =
-    let a = (Entry c.before.before.before.before).args in
-    let at = get_or a.from.now (Turn c.before.before.before.before).loop-m.m 0 in
-    rw (part-rest a.first.now at) (omega (arith, (in_one c.before.before.before.before).0 c.if-at-first.true, length-drop at a.first.now))
-
-pub slice_bounds-add_share-count-else-at-first : goal.slice_bounds-add_share-count-else-at-first
-slice_bounds-add_share-count-else-at-first c = omega (arith, in_one c.before.before.before)
-
-pub slice_bounds-add_share-start-else-at-first : goal.slice_bounds-add_share-start-else-at-first
-slice_bounds-add_share-start-else-at-first c = omega (arith, in_one c.before.before.before)
-
-pub add_share-requires-else-at-first : goal.add_share-requires-else-at-first
-add_share-requires-else-at-first c =
-    let a = (Entry c.before.before.before.before).args in
-    let start = get_or a.from.now (Turn c.before.before.before.before).loop-m.m 0 - length a.first.now in
-    rw (part-rest a.second.now start) (omega (arith, (in_one c.before.before.before.before).1, length-drop start a.second.now))
+    let xs = c.args.shares.now in
+    let b = length xs in
+    let cs = c.basis_of-row.result in
+    let whole : length cs ≡ max_parties = search rules in
+    let long : length (take b cs) ≡ b = length-take-le b cs (omega arith) in
+    let each : length (get_or xs c.loop-m.m none).bytes.now ≡ c.args.s =
+    ap (λ (p : Point). length p.share) (sym (point_at xs c.loop-m.m c.loop-m-test.true)) ∙ c.requires.2 c.loop-m.m c.loop-m-test.true in
+    rw (long, each) (omega arith)
 
 pub loop-m-preserved : goal.loop-m-preserved
-loop-m-preserved c =
-    let l = (Turn c.before.before).loop-m in
-    let a = (Entry c.before.before).args in
-    let x = a.first.now in
-    let y = a.second.now in
-    let at = get_or a.from.now l.m 0 in (
-      omega arith,
-      elim c.if-at-first.branch [
-        | then-at-first w ↦ ap length w.frame-is ∙ w.add_share.auto.frame ∙ l.invariant.1
-        | else-at-first w ↦ ap length w.frame-is ∙ w.add_share-else-at-first.auto.frame ∙ l.invariant.1
-      ],
-      λ k i h g.
-          let f : ℕ → ℕ = λ q. product (get_or a.table.now (cell k q) 0) (get_or (x ++ y) (get_or a.from.now q 0 + i) 0) in
-          let z : ℕ = get_or l.frame (k * a.s + i) 0 in
-          let e : ℕ → ℕ = λ v. bit_xor z (product (get_or a.table.now (cell k l.m) 0) v) in
-          let added : get_or c.if-at-first.frame (k * a.s + i) 0 ≡ bit_xor z (f l.m) =
-          elim c.if-at-first.branch [
-            | then-at-first w ↦ ap (λ (v : List ℕ). get_or v (k * a.s + i) 0) w.frame-is ∙ w.add_share.ensures k i h g
-                ∙ ap e (byte-first x y at i (omega (arith, (in_one c.before.before).0 w.if-at-first.true)))
-            | else-at-first w ↦ ap (λ (v : List ℕ). get_or v (k * a.s + i) 0) w.frame-is ∙ w.add_share-else-at-first.ensures k i h g
-                ∙ ap e (byte-second x y at i w.if-at-first.false)
-          ] in
-          added ∙ sum_more l.m f z (l.invariant.2 k i h g),
-    )
+loop-m-preserved c = (
+  c.add_share.auto.frame ∙ c.loop-m.invariant.0,
+  λ k i h g.
+      let l = c.loop-m in
+      let s = c.args.s in
+      let xs = c.args.shares.now in
+      let b = length xs in
+      let row = c.basis_of-row.result in
+      let u = (get_or xs l.m none).bytes.now in
+      let at = point_at xs l.m c.loop-m-test.true in
+      let whole : length row ≡ max_parties = search rules in
+      let long : length (take b row) ≡ b = length-take-le b row (omega arith) in
+      let each : length u ≡ s = ap (λ (p : Point). length p.share) (sym at) ∙ c.requires.2 l.m c.loop-m-test.true in
+      let f : ℕ → ℕ = λ q. product (basis bytes b (number_of xs) q k) (get_or (point (points xs) q).share i 0) in
+      let z : ℕ = get_or l.frame (k * s + i) 0 in
+      ap (λ n. get_or c.add_share.new.frame (k * n + i) 0) (sym each)
+      ∙ c.add_share.ensures k i (omega (arith, long)) (omega (arith, each))
+      ∙ ap₂ bit_xor (ap (λ n. get_or l.frame (k * n + i) 0) each)
+      (ap₂ product (get_or-take b row k 0 h ∙ c.basis_of-row.ensures k (omega arith)) (ap (λ (p : Point). get_or p.share i 0) (sym at)))
+      ∙ sum_more l.m f z (l.invariant.1 k i h g),
+)
 
 pub returns : goal.returns
-unfolding combined
+unfolding framed through
 returns c =
-    let a = c.args in
-    let all : c.loop-m.m ≡ a.b = omega arith in
-    let f : ℕ → ℕ → ℕ → ℕ = λ i j m. product (get_or a.table.now (cell i m) 0) (get_or (a.first.now ++ a.second.now) (get_or a.from.now m 0 + j) 0) in
-    take-table c.loop-m.frame (a.b * a.s) (λ i. sum bytes a.b (f (i / a.s) (i % a.s))) (omega arith)
-    (λ i h. ap (λ (n : ℕ). get_or c.loop-m.frame n 0) (sym (div-add-mod' i a.s))
-    ∙ c.loop-m.invariant.2 (i / a.s) (i % a.s) (block-lt a.b a.s i h) (byte-lt a.b a.s i h)
-    ∙ ap (λ (n : ℕ). sum bytes n (f (i / a.s) (i % a.s))) all)
+    let s = c.args.s in
+    let xs = c.args.shares.now in
+    let b = length xs in
+    let all : c.loop-m.m ≡ b = omega arith in
+    let f : ℕ → ℕ → ℕ → ℕ = λ i j m. product (basis bytes b (number_of xs) m i) (get_or (point (points xs) m).share j 0) in
+    take-table c.loop-m.frame (b * s) (λ i. sum bytes b (f (i / s) (i % s))) (omega arith)
+    (λ i h. ap (λ (n : ℕ). get_or c.loop-m.frame n 0) (sym (div-add-mod' i s))
+    ∙ c.loop-m.invariant.1 (i / s) (i % s) (block-lt b s i h) (byte-lt b s i h)
+    ∙ ap (λ (n : ℕ). sum bytes n (f (i / s) (i % s))) all)
