@@ -1,62 +1,48 @@
 -- What `finish` gives is the answer to the whole message: to one without blocks before its end, and to one whose first block was put together
 -- from a front and the bytes behind it. Assumes nothing.
-use Rattle.std.proofs.Common.{◌≡◌, ℕ, ◌+◌, ◌-◌, ◌<◌, ◌≤◌, List, ◌++◌, length, take, drop, sym, ap, ◌∙◌, ap₂, append_assoc, append-nil, arith, length-append, take-append-drop, drop_of_length-le, length-take-le, take_all, take_at}
+use Rattle.std.proofs.Common.{◌≡◌, ℕ, ◌+◌, ◌-◌, ◌<◌, ◌≤◌, List, ◌++◌, length, take, drop, replicate, sym, ap, ◌∙◌, ap₂, append_assoc, arith, length-append, take-append-drop, length-take-le, take_all}
+use Rattle.std.proofs.lemmas.List.{take_rest}
 use Rattle.limits.specs.Limits.{max_hashed}
-use Rattle.buffer.specs.Splice.{spliced, put_of}
-use Rattle.buffer.proofs.Splice.{put-fits}
-use Rattle.sha256.specs.declared.Hashed.{Hashed}
+use Rattle.sha256.specs.Sha256.{Hashed}
 use Rattle.sha256.specs.Sha256.{pad, compress, initial, sha256, hash_of}
 use Rattle.sha256.specs.Rest.{digest_from}
 use Rattle.sha256.proofs.Blocks.{digest-block}
-use Rattle.sha256.proofs.Laws.{hash-fine}
+use Rattle.sha256.proofs.Laws.{hash-long, hash-fine}
 
 abbrev pub answer : List ℕ → Hashed
 answer d = record { cause = 0; digest = d }
 
 -- a message without blocks before it
-pub answer-whole : (m : List ℕ) (n : ℕ) → n ≡ length m → n ≤ max_hashed → answer (digest_from initial m n) ≡ hash_of m
+pub answer_whole : (m d : List ℕ) (n : ℕ) → n ≡ length m → n ≤ max_hashed → d ≡ digest_from initial m n → answer d ≡ hash_of m
 unfolding sha256 pad digest_from
-answer-whole m n e h = ap (λ (j : ℕ). answer (digest_from initial m j)) e ∙ sym (hash-fine m (omega arith))
+answer_whole m d n e h q = ap answer (q ∙ ap (digest_from initial m) e) ∙ sym (hash-fine m (omega arith))
 
 -- the first k bytes of f with s behind them
 module _ (f : List ℕ) (k : ℕ) (s : List ℕ) (long : length f ≡ 64) (few : k ≤ 64) where
-  pub length_front : length (take k f ++ s) ≡ k + length s
+  length_front : length (take k f ++ s) ≡ k + length s
   length_front = length-append (take k f) s ∙ ap (λ (j : ℕ). j + length s) (length-take-le k f (omega arith))
 
-  -- where they are less than a block
-  pub block-short : length s < 64 - k → take (k + length s) (put_of f k s) ≡ take k f ++ take (64 - k) s
-  unfolding spliced
-  block-short h =
-      ap (take (k + length s)) (put-fits f k s (omega arith) ∙ sym (append_assoc (take k f) s (drop (k + length s) f)))
-      ∙ take_at (take k f ++ s) (drop (k + length s) f) (k + length s) length_front
-      ∙ ap (λ (l : List ℕ). take k f ++ l) (sym (take_all (64 - k) s (omega arith)))
+  pub answer_long : max_hashed < k + length s → record { cause = 4; digest = replicate 32 0 } ≡ hash_of (take k f ++ s)
+  answer_long h = sym (hash-long (take k f ++ s) (omega (arith, length_front)))
 
-  -- and where they fill one
-  module _ (fill : 64 - k ≤ length s) where
-    length-start : length (take k f ++ take (64 - k) s) ≡ 64
-    length-start =
-        length-append (take k f) (take (64 - k) s)
-        ∙ ap₂ (λ (i j : ℕ). i + j) (length-take-le k f (omega arith)) (length-take-le (64 - k) s fill) ∙ omega arith
+  -- b is the block that they begin with, as far as it is known
+  module _ (b : List ℕ) (begins : take (k + length s) b ≡ take k f ++ take (64 - k) s) (size : length b ≡ 64) (fits : k + length s ≤ max_hashed) where
+    -- where they are less than a block
+    pub answer_short : (d : List ℕ) → k + length s < 64 → d ≡ digest_from initial (take (k + length s) b) (k + length s)
+        → answer d ≡ hash_of (take k f ++ s)
+    answer_short d h q =
+        let e = begins ∙ ap (λ (l : List ℕ). take k f ++ l) (take_all (64 - k) s (omega arith)) in
+        answer_whole (take k f ++ s) d (k + length s) (sym length_front) fits (q ∙ ap (λ (m : List ℕ). digest_from initial m (k + length s)) e)
 
-    pub block-full : take (k + length s) (put_of f k (take (64 - k) s)) ≡ take k f ++ take (64 - k) s
-    unfolding spliced
-    block-full =
-        let t : List ℕ = take (64 - k) s in
-        let l : length t ≡ 64 - k = length-take-le (64 - k) s fill in
-        let p : length f ≤ k + length t = omega arith in
-        ap (take (k + length s))
-        (put-fits f k t (omega arith) ∙ ap (λ (x : List ℕ). take k f ++ (t ++ x)) (drop_of_length-le f p)
-        ∙ ap (λ (x : List ℕ). take k f ++ x) (append-nil t))
-        ∙ take_all (k + length s) (take k f ++ t) (omega (arith, length-start))
-
-    pub answer-behind : (b r : List ℕ) → b ≡ take k f ++ take (64 - k) s → r ≡ drop (64 - k) s → k + length s ≤ max_hashed
-        → answer (digest_from (compress initial b) r (k + length s)) ≡ hash_of (take k f ++ s)
-    answer-behind b r e d h =
+    -- and where they fill one
+    pub answer_behind : (h d : List ℕ) → 64 ≤ k + length s → h ≡ compress initial b
+        → d ≡ digest_from h (take (length s - (64 - k)) (drop (64 - k) s)) (k + length s) → answer d ≡ hash_of (take k f ++ s)
+    answer_behind h d fill first q =
         let n = k + length s in
-        let whole : b ++ r ≡ take k f ++ s =
-        ap₂ (λ (x y : List ℕ). x ++ y) e d ∙ append_assoc (take k f) (take (64 - k) s) (drop (64 - k) s)
-        ∙ ap (λ (x : List ℕ). take k f ++ x) (take-append-drop (64 - k) s)
+        let full : b ++ drop (64 - k) s ≡ take k f ++ s =
+        ap (λ (x : List ℕ). x ++ drop (64 - k) s) (sym (take_all n b (omega arith)) ∙ begins)
+        ∙ append_assoc (take k f) (take (64 - k) s) (drop (64 - k) s) ∙ ap (λ (x : List ℕ). take k f ++ x) (take-append-drop (64 - k) s)
         in
-        ap answer
-        (sym (digest-block initial b r n (ap length e ∙ length-start)) ∙ ap (λ (m : List ℕ). digest_from initial m n) whole)
-        ∙ answer-whole (take k f ++ s) n (sym length_front) h
+        answer_whole (take k f ++ s) d n (sym length_front) fits
+        (q ∙ ap₂ (λ (x y : List ℕ). digest_from x y n) first (take_rest s (64 - k)) ∙ sym (digest-block initial b (drop (64 - k) s) n size)
+        ∙ ap (λ (m : List ℕ). digest_from initial m n) full)

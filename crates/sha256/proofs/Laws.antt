@@ -1,7 +1,10 @@
 -- What holds of every digest and of the padding, and what `hash` answers, for the crates above. Assumes nothing.
-use Rattle.std.proofs.Common.{◌≡◌, ℕ, zero, suc, ◌+◌, ◌*◌, ◌/◌, ◌%◌, ◌<◌, ◌≤◌, List, [], ◌∷◌, length, replicate, refl, ap, ◌∙◌, arith, length-append, le-ltb, lt-ltb}
+use Rattle.std.proofs.Common.{◌≡◌, ℕ, zero, suc, ◌+◌, ◌*◌, ◌/◌, ◌%◌, ◌<◌, ◌≤◌, List, [], ◌∷◌, length, replicate, refl, sym, ap, ◌∙◌, Result, Ok, Err, arith, length-append, le-ltb, lt-ltb}
+use Rattle.std.specs.Prelude.{IsOk}
+use Rattle.cause.specs.declared.Cause.{Cause}
+use Rattle.cause.proofs.Numbers.{number-nonzero}
 use Rattle.limits.specs.Limits.{max_hashed}
-use Rattle.sha256.specs.Sha256.{zero_bits, big_endian, padding, pad, initial, sums, compress, hash_value, digest_of, sha256, hash_of}
+use Rattle.sha256.specs.Sha256.{zero_bits, big_endian, padding, pad, initial, sums, compress, hash_value, digest_of, sha256, Hashed, hashed, hash_of}
 use Rattle.sha256.proofs.Blocks.{length-padding}
 
 length-hash-value : (i : ℕ) (l : List ℕ) → length (hash_value initial i l) ≡ 8
@@ -38,3 +41,11 @@ hash-long m h = simp lt-ltb
 pub hash-fine : (m : List ℕ) → length m ≤ max_hashed → hash_of m ≡ record { cause = 0; digest = sha256 m }
 unfolding hash_of
 hash-fine m h = simp le-ltb
+
+-- and what comes of it where a message is short enough
+pub hash-ok : (r : Result (List ℕ) Cause) (m : List ℕ) → hashed r ≡ hash_of m → length m ≤ max_hashed → IsOk r
+hash-ok (Ok d) m h short = refl
+hash-ok (Err c) m h short = elim (number-nonzero c (ap (λ (x : Hashed). x.cause) (h ∙ hash-fine m short))) [ ]
+
+pub hash-digest : (r : Result (List ℕ) Cause) (m d : List ℕ) → hashed r ≡ hash_of m → length m ≤ max_hashed → r ≡ Ok d → d ≡ sha256 m
+hash-digest r m d h short e = ap (λ (x : Hashed). x.digest) (sym (ap hashed e) ∙ h ∙ hash-fine m short)

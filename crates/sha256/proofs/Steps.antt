@@ -1,22 +1,37 @@
 -- One step more of the schedule, of the rounds and of the digest, as the loops take them. Assumes nothing.
-use Rattle.std.proofs.Common.{◌≡◌, ℕ, ◌+◌, ◌-◌, ◌*◌, ◌/◌, ◌%◌, ◌^◌, ◌<◌, ◌≤◌, cond, ltb, List, [], ◌∷◌, ◌++◌, length, get_or, take, set, sym, refl, ap, ◌∙◌, ap₂, append_assoc, add-one, arith, length-set, get_or-take, take-suc, take-suc-set, le-ltb, lt-ltb}
+use Rattle.std.proofs.Common.{◌≡◌, ℕ, ◌+◌, ◌-◌, ◌*◌, ◌/◌, ◌%◌, ◌^◌, ◌<◌, ◌≤◌, cond, ltb, List, [], ◌∷◌, ◌++◌, length, get_or, take, drop, set, sym, refl, ap, ◌∙◌, ap₂, add-zero, add-one, arith, get_or-take, get_or-drop, take-suc, take-suc-set, le-ltb, lt-ltb, w32}
+use Rattle.std.proofs.lemmas.Slice.{take-put_mid}
+use borrow.Rule.Slice.PartMut.{put_mid}
+use Rattle.std.specs.Int.{to_be_bytes, from_be_bytes}
+use Rattle.std.specs.Simd.{first_chunks}
+use Rattle.sha256.proofs.Blocks.{chunk-at}
 use Rattle.sha256.specs.Sha256.{K, word_at, later_word, schedule, round, rounds, big_endian, digest_of}
 use Rattle.sha256.specs.declared.Working.{Working}
 
-pub rounds-more : (t u : ℕ) (w : List ℕ) (first v r : Working) → u ≡ t + 1 → v ≡ rounds t w first
-    → r ≡ round (get_or K t 0) (get_or w t 0) v → r ≡ rounds u w first
+-- a round more
+pub rounds_more : (t : ℕ) (k w : List ℕ) (first v r : Working) → k ≡ K → v ≡ rounds t w first
+    → r ≡ round (get_or k t 0) (get_or w t 0) v → r ≡ rounds (t + 1) w first
 unfolding rounds
-rounds-more t u w first v r n e h =
-    h ∙ ap (round (get_or K t 0) (get_or w t 0)) e ∙ ap (λ (m : ℕ). rounds m w first) (sym (n ∙ add-one t))
+rounds_more t k w first v r known e h =
+    rw add-one (h ∙ ap₂ (λ (l : List ℕ) (u : Working). round (get_or l t 0) (get_or w t 0) u) known e)
 
--- a word of the block
-pub schedule-first : (w block : List ℕ) (t r : ℕ) → t < 16 → t < length w → take t w ≡ schedule t block
-    → r ≡ word_at block t → take (t + 1) (set w t r) ≡ schedule (t + 1) block
+-- a word of the block, as the four bytes of its chunk
+word_from_chunk : (M : List ℕ) (t : ℕ) → t < length M / 4 → from_be_bytes w32 (get_or (first_chunks 4 (length M / 4) M) t []) ≡ word_at M t
+unfolding word_at
+word_from_chunk M t h =
+    let at = λ (j : ℕ) (l : j < 4). get_or-take 4 (drop (4 * t) M) j 0 l ∙ get_or-drop (4 * t) M j 0 in
+    rw (chunk-at 4 (length M / 4) M t [] h)
+    (cc (at 0 (omega arith), at 1 (omega arith), at 2 (omega arith), at 3 (omega arith), ap (λ (k : ℕ). get_or M k 0) (add-zero (4 * t))))
+
+pub schedule_first : (w M : List ℕ) (words : List (List ℕ)) (t r : ℕ) → length M ≡ 64 → words ≡ first_chunks 4 (length M / 4) M → t < length words
+    → length words ≡ length M / 4 → t < length w → take t w ≡ schedule t M → r ≡ from_be_bytes w32 (get_or words t [])
+    → take (t + 1) (set w t r) ≡ schedule (t + 1) M
 unfolding schedule
-schedule-first w block t r l h e q =
-    let n = later_word t (schedule t block) in
-    let c : word_at block t ≡ cond (ltb t 16) (word_at block t) n = ap (λ b. cond b (word_at block t) n) (sym (lt-ltb t 16 l)) in
-    rw add-one (take-suc-set w t r h ∙ ap₂ {C = List ℕ} (λ u x. u ++ (x ∷ [])) e (q ∙ c))
+schedule_first w M words t r whole chunks l count h e q =
+    let n = later_word t (schedule t M) in
+    let c : word_at M t ≡ cond (ltb t 16) (word_at M t) n = ap (λ b. cond b (word_at M t) n) (sym (lt-ltb t 16 (omega arith))) in
+    let x : r ≡ word_at M t = q ∙ ap (λ (z : List (List ℕ)). from_be_bytes w32 (get_or z t [])) chunks ∙ word_from_chunk M t (omega arith) in
+    rw add-one (take-suc-set w t r h ∙ ap₂ {C = List ℕ} (λ u x. u ++ (x ∷ [])) e (x ∙ c))
 
 -- the words that a later word is made of stand among the first t
 later-at : (w : List ℕ) (t : ℕ) → 16 ≤ t → later_word t (take t w) ≡ later_word t w
@@ -28,32 +43,14 @@ later-at w t l =
     cc (get_or-take t w (t - 2) 0 p2, get_or-take t w (t - 7) 0 p7, get_or-take t w (t - 15) 0 p15, get_or-take t w (t - 16) 0 p16)
 
 -- a later word
-pub schedule-later : (w block : List ℕ) (t r : ℕ) → 16 ≤ t → t < length w → take t w ≡ schedule t block
+pub schedule_later : (w block : List ℕ) (t r : ℕ) → 16 ≤ t → t < length w → take t w ≡ schedule t block
     → r ≡ later_word t w → take (t + 1) (set w t r) ≡ schedule (t + 1) block
 unfolding schedule
-schedule-later w block t r l h e q =
+schedule_later w block t r l h e q =
     let n = later_word t (schedule t block) in
     let c : n ≡ cond (ltb t 16) (word_at block t) n = ap (λ b. cond b (word_at block t) n) (sym (le-ltb t 16 l)) in
     rw add-one
     (take-suc-set w t r h ∙ ap₂ {C = List ℕ} (λ u x. u ++ (x ∷ [])) e (q ∙ sym (later-at w t l) ∙ ap (later_word t) e ∙ c))
-
--- one element more, and four
-one : (d : List ℕ) (n m a : ℕ) → n < length d → m ≡ n + 1 → take m (set d n a) ≡ take n d ++ (a ∷ [])
-one d n m a h e = rw (e, add-one) (take-suc-set d n a h)
-
-four : (d : List ℕ) (n m a b c e : ℕ) → n + 3 < length d → m ≡ n + 4
-    → take m (set (set (set (set d n a) (n + 1) b) (n + 2) c) (n + 3) e) ≡ take n d ++ (a ∷ b ∷ c ∷ e ∷ [])
-four d n m a b c e h k =
-    let d1 = set d n a in
-    let d2 = set d1 (n + 1) b in
-    let d3 = set d2 (n + 2) c in
-    one d3 (n + 3) m e (simp length-set (omega arith)) (omega arith)
-    ∙ ap (λ (l : List ℕ). l ++ (e ∷ []))
-    (one d2 (n + 2) (n + 3) c (simp length-set (omega arith)) (omega arith)
-    ∙ ap (λ (l : List ℕ). l ++ (c ∷ []))
-    (one d1 (n + 1) (n + 2) b (simp length-set (omega arith)) (omega arith)
-    ∙ ap (λ (l : List ℕ). l ++ (b ∷ [])) (one d n (n + 1) a (omega arith) refl)))
-    ∙ simp append_assoc
 
 digest-snoc : (H : List ℕ) (x : ℕ) → digest_of (H ++ (x ∷ [])) ≡ digest_of H ++ big_endian 4 x
 unfolding digest_of big_endian
@@ -61,24 +58,17 @@ digest-snoc [] x = refl
 digest-snoc (y ∷ H) x =
     ap (λ (l : List ℕ). y / 2 ^ 24 % 256 ∷ y / 2 ^ 16 % 256 ∷ y / 2 ^ 8 % 256 ∷ y / 2 ^ 0 % 256 ∷ l) (digest-snoc H x)
 
-word_bytes : (x : ℕ) → big_endian 4 x ≡ x / 16777216 % 256 ∷ x / 65536 % 256 ∷ x / 256 % 256 ∷ x % 256 ∷ []
+word_bytes : (x : ℕ) → to_be_bytes w32 x ≡ big_endian 4 x
 unfolding big_endian
 word_bytes x = let e : x / 2 ^ 0 % 256 ≡ x % 256 = omega arith in cc
 
 -- a word more of a digest
-pub digest-more : (d H : List ℕ) (i : ℕ) → i < length H → 4 * i + 3 < length d → take (4 * i) d ≡ digest_of (take i H)
-    → take (4 * (i + 1))
-    (set
-    (set
-    (set (set d (4 * i) (get_or H i 0 / 16777216 % 256)) (4 * i + 1) (get_or H i 0 / 65536 % 256))
-    (4 * i + 2)
-    (get_or H i 0 / 256 % 256))
-    (4 * i + 3)
-    (get_or H i 0 % 256))
-    ≡ digest_of (take (i + 1) H)
-digest-more d H i h l e =
+pub digest_more : (d H s : List ℕ) (i : ℕ) → i < length H → 4 * i + 4 ≤ length d → take (4 * i) d ≡ digest_of (take i H)
+    → s ≡ to_be_bytes w32 (get_or H i 0) → take (4 * (i + 1)) (put_mid (4 * i) (4 * i + 4 - 4 * i) d s) ≡ digest_of (take (i + 1) H)
+digest_more d H s i h l e q =
     let x = get_or H i 0 in
-    four d (4 * i) (4 * (i + 1)) (x / 16777216 % 256) (x / 65536 % 256) (x / 256 % 256) (x % 256) l (omega arith)
-    ∙ ap₂ {C = List ℕ} (λ u v. u ++ v) e (sym (word_bytes x))
+    let n : length s ≡ 4 = ap length q in
+    take-put_mid (4 * i) _ d s (4 * (i + 1)) (omega arith) (omega arith)
+    ∙ ap₂ {C = List ℕ} (λ u v. u ++ v) e (q ∙ word_bytes x)
     ∙ sym (digest-snoc (take i H) x)
     ∙ ap digest_of (sym (take-suc H i 0 h) ∙ ap (λ (m : ℕ). take m H) (sym (add-one i)))

@@ -1,7 +1,8 @@
 -- SHA-256 of a list of bytes, in the order and the letters of FIPS 180-4. Assumes nothing.
-use Rattle.std.specs.Prelude.{ℕ, zero, suc, ◌+◌, ◌-◌, ◌*◌, ◌/◌, ◌%◌, ◌^◌, cond, List, [], ◌∷◌, ◌++◌, length, take, drop, replicate, bit_and, bit_or, bit_xor, nat_lt, slice_index, slice_index_or}
+use Rattle.std.specs.Prelude.{ℕ, zero, suc, ◌+◌, ◌-◌, ◌*◌, ◌/◌, ◌%◌, ◌^◌, cond, List, [], ◌∷◌, ◌++◌, length, take, drop, replicate, bit_and, bit_or, bit_xor, nat_lt, slice_index, slice_index_or, Result, Ok, Err}
 use Rattle.limits.specs.Limits.{max_hashed}
-use Rattle.sha256.specs.declared.Hashed.{Hashed}
+use Rattle.cause.specs.Cause.{number}
+use Rattle.cause.specs.declared.Cause.{Cause}
 use Rattle.sha256.specs.declared.Working.{Working}
 
 -- 2.2.2 and 3.2: a word is a number below 2^32, and words are added modulo 2^32
@@ -139,7 +140,17 @@ digest_of (x ∷ H) = big_endian 4 x ++ digest_of H
 unfoldable pub sha256 : List ℕ → List ℕ
 sha256 message = let padded = pad message in digest_of (hash_value initial (length padded / 64) padded)
 
--- what the public function answers: a message that is too long is cause 4
+-- what the public functions answer: document 01's number of the cause for which a message was turned away, 0 if it was not; and its digest, or zeros
+pub record Hashed : Type 0 where
+  pub cause : ℕ
+  pub digest : List ℕ
+
+-- the answer that a result says
+abbrev pub hashed : Result (List ℕ) Cause → Hashed
+hashed (Ok d) = record { cause = 0; digest = d }
+hashed (Err c) = record { cause = number c; digest = replicate 32 0 }
+
+-- a message that is too long is cause 4
 unfoldable pub hash_of : List ℕ → Hashed
 hash_of message =
     cond (nat_lt max_hashed (length message)) (record { cause = 4; digest = replicate 32 0 }) (record { cause = 0; digest = sha256 message })
