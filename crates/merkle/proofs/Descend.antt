@@ -1,26 +1,23 @@
 -- One step from a node down to the half that holds a leaf: where the node divides, where the halves lie, what the step says of sides,
 -- root and path, and how arrays note it. By the law of a node's shape, in the two cases of the test. Assumes nothing.
-use mathlib.Core.Path.{◌≡◌, refl, sym, ap, subst, ◌∙◌}
-use mathlib.Core.Bool.{Bool, true, false}
+use mathlib.Core.Path.{◌≡◌, refl, sym, ap, ◌∙◌}
+use mathlib.Core.Bool.{true, false}
 use mathlib.Core.List.{List, [], ◌∷◌, ◌++◌}
 use Prim.Native.Nat.{ℕ, suc, ◌+◌, ◌-◌, ◌*◌, ◌^◌, ◌≤◌, ◌<◌}
 use native.Mathlib.Nat.{two-pow-succ}
 use native.Mathlib.Numerals.{add-one}
 use native.Mathlib.Omega.{arith}
-use borrow.Author.Tests.{lt-ltb, le-ltb, ltb-true, ltb-false}
+use borrow.Author.Tests.{lt-ltb, le-ltb}
 use lib.Dec.{ltb}
-use lib.ListN.{length, get_or, take, drop, set, replicate, length-append, length-replicate, replicate-append-replicate}
+use lib.ListN.{length, get_or, drop, set, replicate, length-append, length-replicate, replicate-append-replicate}
 use lib.Pow.{pow_mono, pow_pos}
-use lib.Seq.{take-suc-set, set_split, drop_at, length-take-le}
+use lib.Seq.{drop_at, drop-cons, set_at, append_snoc}
 use Rattle.limits.specs.Limits.{max_parties, max_path}
-use Rattle.merkle.specs.Tree.{split, shape, size, sides}
+use Rattle.merkle.specs.Tree.{Shape, leaf, node, split, shape, size, sides, on_left, on_right}
 use Rattle.merkle.specs.Hashes.{top_at, path_at}
-use Rattle.merkle.specs.Turns.{side_of, upward}
-use Rattle.merkle.specs.declared.Halves.{Halves}
-use Rattle.merkle.proofs.Upward.{upward-append}
-use Rattle.merkle.proofs.Way.{sides-left, sides-right}
+use Rattle.merkle.proofs.Way.{Way, left, right, way, sides-left, sides-right}
 use Rattle.merkle.proofs.Hashes.{path_at-left, path_at-right}
-use Rattle.merkle.proofs.Shape.{LargestPower, pow_below, split-largest, split-most}
+use Rattle.merkle.proofs.Shape.{pow_below, split-largest, split-most}
 use Rattle.merkle.proofs.Shape.{shape-leaf, shape-node, size-shape, sides-bound}
 
 -- a power of two smaller than n, whose double is not, is split n
@@ -59,105 +56,39 @@ pub top-node : (n i : ℕ) (hs ns : List (List ℕ)) → 2 ≤ n → top_at (sha
 unfolding top_at
 top-node n i hs ns h = rw (shape-node n h, top_at, size-shape (split n) (split-largest n h).positive)
 
--- the half of a tree that holds a leaf, and the other half, as `halve` gives them
-pub record Down (first width at : ℕ) (h : Halves) : Type 0 where
-  pub some : 1 ≤ h.width
-  pub less : h.width < width
-  pub within : h.at < h.width
-  pub inside : h.first + h.width ≤ first + width
-  pub others-some : 1 ≤ h.others
-  pub others-inside : h.other + h.others ≤ first + width
-  pub sides-more : sides (shape width) at ≡ sides (shape h.width) h.at ++ (side_of h.right ∷ [])
-  pub path-more : (hs ns : List (List ℕ)) → path_at (shape width) at first hs ns
-      ≡ path_at (shape h.width) h.at h.first hs ns ++ (top_at (shape h.others) h.other hs ns ∷ [])
-
-abbrev pub left_half : ℕ → ℕ → ℕ → Halves
-left_half first width at =
-    record { first = first; width = split width; at = at; other = first + split width; others = width - split width; right = true }
-
-abbrev pub right_half : ℕ → ℕ → ℕ → Halves
-right_half first width at =
-    record {
-      first = first + split width;
-      width = width - split width;
-      at = at - split width;
-      other = first;
-      others = split width;
-      right = false;
-    }
-
-module _ (first width at : ℕ) (two : 2 ≤ width) where
-  abbrev parts : LargestPower width (split width)
-  parts = split-largest width two
-
+-- one step down from the root over two leaves or more, to the half that holds leaf `at`
+module _ (width at : ℕ) (two : 2 ≤ width) where
   left-size : size (shape (split width)) ≡ split width
-  left-size = size-shape (split width) parts.positive
+  left-size = size-shape (split width) (split-largest width two).positive
 
-  down-left : at < split width → Down first width at (left_half first width at)
-  down-left h =
-      let s = parts in
-      let t : ltb at (size (shape (split width))) ≡ true = rw left-size (lt-ltb at (split width) h) in
-      record {
-        some = omega arith;
-        less = omega arith;
-        within = h;
-        inside = omega arith;
-        others-some = omega arith;
-        others-inside = omega arith;
-        sides-more = rw (shape-node width two) (sides-left (shape (split width)) (shape (width - split width)) at t);
-        path-more = λ hs ns. rw (shape-node width two)
-            (path_at-left (shape (split width)) (shape (width - split width)) at first hs ns t ∙ rw left-size);
-      }
+  module _ (h : at < split width) where
+    goes-left : ltb at (size (shape (split width))) ≡ true
+    goes-left = rw left-size (lt-ltb at (split width) h)
 
-  down-right : at < width → split width ≤ at → Down first width at (right_half first width at)
-  down-right g h =
-      let s = parts in
-      let t : ltb at (size (shape (split width))) ≡ false = rw left-size (le-ltb at (split width) h) in
-      record {
-        some = omega arith;
-        less = omega arith;
-        within = omega arith;
-        inside = omega arith;
-        others-some = omega arith;
-        others-inside = omega arith;
-        sides-more = rw (shape-node width two)
-            (sides-right (shape (split width)) (shape (width - split width)) at t ∙ rw left-size);
-        path-more = λ hs ns. rw (shape-node width two)
-            (path_at-right (shape (split width)) (shape (width - split width)) at first hs ns t ∙ rw left-size);
-      }
+    pub left-sides : sides (shape width) at ≡ sides (shape (split width)) at ++ (on_right ∷ [])
+    left-sides = rw (shape-node width two) (sides-left (shape (split width)) (shape (width - split width)) at goes-left)
 
-  pub down : at < width → (h : Halves) → (at < split width → h ≡ left_half first width at)
-      → (split width ≤ at → h ≡ right_half first width at) → Down first width at h
-  down g h f k = go (ltb at (split width)) refl
-    where
-      go : (b : Bool) → ltb at (split width) ≡ b → Down first width at h
-      go true e =
-          let i : at < split width = ltb-true at (split width) e in
-          subst (Down first width at) (sym (f i)) (down-left i)
-      go false e =
-          let i : split width ≤ at = ltb-false at (split width) e in
-          subst (Down first width at) (sym (k i)) (down-right g i)
+    pub left-path : (first : ℕ) (hs ns : List (List ℕ)) → path_at (shape width) at first hs ns
+        ≡ path_at (shape (split width)) at first hs ns ++ (top_at (shape (width - split width)) (first + split width) hs ns ∷ [])
+    left-path first hs ns =
+        rw (shape-node width two)
+        (path_at-left (shape (split width)) (shape (width - split width)) at first hs ns goes-left ∙ rw left-size)
 
--- a step makes the way shorter by one
-pub down-length : (first width at : ℕ) (h : Halves) → Down first width at h
-    → length (sides (shape width) at) ≡ length (sides (shape h.width) h.at) + 1
-down-length first width at h d =
-    ap length d.sides-more ∙ length-append (sides (shape h.width) h.at) (side_of h.right ∷ [])
+  module _ (h : split width ≤ at) where
+    goes-right : ltb at (size (shape (split width))) ≡ false
+    goes-right = rw left-size (le-ltb at (split width) h)
 
-pub length-upward : (bs : List Bool) → length (upward bs) ≡ length bs
-unfolding upward
-length-upward [] = refl
-length-upward (b ∷ bs) = length-append (upward bs) (side_of b ∷ []) ∙ omega (arith, length-upward bs)
+    pub right-sides : sides (shape width) at ≡ sides (shape (width - split width)) (at - split width) ++ (on_left ∷ [])
+    right-sides =
+        rw (shape-node width two)
+        (sides-right (shape (split width)) (shape (width - split width)) at goes-right ∙ rw left-size)
 
--- a turn noted in an array
-pub upward-set : (bs : List Bool) (i : ℕ) (b : Bool) → i < length bs
-    → upward (take (i + 1) (set bs i b)) ≡ side_of b ∷ upward (take i bs)
-upward-set bs i b h = rw (add-one, take-suc-set bs i b h) (upward-append (take i bs) b)
-
--- a hash written in front of those that lie from i + 1 on
-pub drop-set-here : (p : List (List ℕ)) (i : ℕ) (h : List ℕ) → i < length p → drop i (set p i h) ≡ h ∷ drop (suc i) p
-drop-set-here p i h k =
-    ap (drop i) (set_split p i h k) ∙ drop_at (take i p) (h ∷ drop (suc i) p) i (length-take-le i p (omega arith))
+    pub right-path : (first : ℕ) (hs ns : List (List ℕ)) → path_at (shape width) at first hs ns
+        ≡ path_at (shape (width - split width)) (at - split width) (first + split width) hs ns
+        ++ (top_at (shape (split width)) first hs ns ∷ [])
+    right-path first hs ns =
+        rw (shape-node width two)
+        (path_at-right (shape (split width)) (shape (width - split width)) at first hs ns goes-right ∙ rw left-size)
 
 -- what is left of equal elements
 pub drop-replicate : {A : Type 0} (k n : ℕ) (a : A) → k ≤ n → drop k (replicate n a) ≡ replicate (n - k) a
@@ -166,3 +97,31 @@ drop-replicate k n a h =
     ap (λ (j : ℕ). drop k (replicate j a)) e
     ∙ ap (drop k) (sym (replicate-append-replicate k (n - k) a))
     ∙ drop_at (replicate k a) (replicate (n - k) a) k (length-replicate k a)
+
+-- a path has as many hashes as sides
+pub length-path_at : (t : Shape) (m i : ℕ) (hs ns : List (List ℕ)) → length (path_at t m i hs ns) ≡ length (sides t m)
+unfolding path_at sides
+length-path_at leaf m i hs ns = refl
+length-path_at (node l r) m i hs ns =
+    go (way l m) (length-path_at l m i hs ns) (length-path_at r (m - size l) (i + size l) hs ns)
+  where
+    go : Way l m → length (path_at l m i hs ns) ≡ length (sides l m)
+        → length (path_at r (m - size l) (i + size l) hs ns) ≡ length (sides r (m - size l))
+        → length (path_at (node l r) m i hs ns) ≡ length (sides (node l r) m)
+    go (left e h) p q = rw (e, path_at, sides) (simp length-append (omega arith))
+    go (right e h) p q = rw (e, path_at, sides) (simp length-append (omega arith))
+
+-- a hash written behind k others
+pub path-put : (p old : List (List ℕ)) (k : ℕ) (h : List ℕ) → length p ≡ k → k < length old
+    → set (p ++ drop k old) k h ≡ (p ++ (h ∷ [])) ++ drop (k + 1) old
+path-put p old k h e i =
+    ap (λ (l : List (List ℕ)). set (p ++ l) k h) (drop-cons old k [] i)
+    ∙ set_at p (get_or old k []) (drop (suc k) old) h k e
+    ∙ sym (append_snoc p h (drop (suc k) old))
+    ∙ ap (λ (j : ℕ). (p ++ (h ∷ [])) ++ drop j old) (sym (add-one k))
+
+-- what `Spot::down` says of its halves
+pub ruleset descends = (sides-fit, sides-end, path-end, left-sides, left-path, right-sides, right-path)
+
+-- what `Tree::top` reads
+pub ruleset tops = (top-end, top-node)

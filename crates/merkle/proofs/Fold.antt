@@ -3,7 +3,7 @@ use mathlib.Core.Path.{◌≡◌, refl, ap}
 use mathlib.Core.List.{List, [], ◌∷◌, ◌++◌}
 use Prim.Native.Nat.{ℕ}
 use native.Mathlib.Omega.{arith}
-use lib.ListN.{length}
+use lib.ListN.{length, length-append}
 use Rattle.merkle.specs.Tree.{Side, beside, folded}
 use Rattle.merkle.specs.Strings.{fold_strings, check_strings}
 
@@ -15,6 +15,14 @@ module _ (H : List ℕ → List ℕ) where
   folded-append [] (x ∷ p) d q h e = absurd (omega arith)
   folded-append (c ∷ a) [] d q h e = absurd (omega arith)
   folded-append (c ∷ a) (x ∷ p) d q h e = folded-append a p d q (H (beside c h x)) (omega arith)
+
+  -- the same, by the last side and the last hash of a list
+  pub folded-step : (es a : List Side) (r p : List (List ℕ)) (d : Side) (q h : List ℕ) → es ≡ a ++ (d ∷ []) → r ≡ p ++ (q ∷ [])
+      → length r ≡ length es → folded H es r h ≡ H (beside d (folded H a p h) q)
+  folded-step es a r p d q h e f k =
+      let long : length a ≡ length p =
+      omega (arith, ap length e, ap length f, length-append a (d ∷ []), length-append p (q ∷ [])) in
+      rw (e, f) (folded-append a p d q h long)
 
   pub fold_strings-append : (a : List Side) (p : List (List ℕ)) (d : Side) (q h : List ℕ) → length a ≡ length p
       → fold_strings H (a ++ (d ∷ [])) (p ++ (q ∷ [])) h ≡ fold_strings H a p h ++ (beside d (folded H a p h) q ∷ [])

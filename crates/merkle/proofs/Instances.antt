@@ -17,7 +17,7 @@ use Rattle.merkle.specs.Strings.{Collision}
 use Rattle.merkle.specs.Shares.{session_bytes, leaf_string, leaf_strings, front_length, blank, shares_cause, leaves_of, root_of, sides_of, path_of, passes}
 use Rattle.merkle.specs.Shares.{coding_strings, strings_of, check_of}
 use Rattle.merkle.specs.Answer.{checked}
-use Rattle.merkle.specs.declared.Checked.TheVariants.{Yes}
+use Rattle.merkle.specs.Answer.{Yes}
 use Rattle.merkle.proofs.Depends.{Agree}
 use Rattle.merkle.proofs.Trees.{roots-differ, path-wide, path-passes, path-checks, passes-sound}
 use Rattle.merkle.proofs.Trees.{root-hashed, path-hashed, check-hashed}

@@ -5,7 +5,6 @@ pub mod Complete
 pub mod Sound
 pub mod Depends
 pub mod Hashes
-pub mod Upward
 pub mod Descend
 pub mod Judged
 pub mod Outcomes

@@ -124,6 +124,16 @@ module _ (H : List ℕ → List ℕ) where
       (ap (λ (j : ℕ). drop j (replicate max_parties blank)) (zero-add n) ∙ drop-replicate n max_parties blank high)
       ∙ sym (nodes-all H n leaves low high)
 
+  -- the root over one leaf, and over two or more
+  pub top-leaf : (n i : ℕ) (hs : List (List ℕ)) → n < 2 → top_hash H (shape n) i hs ≡ get_or hs i []
+  unfolding top_hash
+  top-leaf n i hs h = rw (shape-leaf n h)
+
+  pub top-halves : (n i : ℕ) (hs : List (List ℕ)) → 2 ≤ n → top_hash H (shape n) i hs
+      ≡ H (node_string (top_hash H (shape (split n)) i hs) (top_hash H (shape (n - split n)) (i + split n) hs))
+  unfolding top_hash
+  top-halves n i hs h = rw (shape-node n h, top_hash, size-shape (split n) (split-largest n h).positive)
+
   -- a tree over one leaf has no node
   pub fill_end : (n i : ℕ) (hs N : List (List ℕ)) → 1 ≤ n → n < 2
       → N ≡ take (i + 1) N ++ (node_hashes H (shape n) i hs ++ drop (i + n) N)
@@ -188,32 +198,21 @@ module _ (H : List ℕ → List ℕ) where
       apart : O ≡ before ++ (old ∷ (Rights ++ after))
       apart = both ∙ append_snoc before old (Rights ++ after)
 
-      lie-lefts : Lie (shape k) i hs O
-      lie-lefts =
-          record {
-            front = take (i + 1) N;
-            back = old ∷ (Rights ++ after);
-            start = length-take-le (i + 1) N (omega arith);
-            whole = apart ∙ append_assoc (take (i + 1) N) Lefts (old ∷ (Rights ++ after));
-          }
-
-      lie-rights : Lie (shape (n - k)) (i + k) hs O
-      lie-rights = record { front = before ++ (old ∷ []); back = after; start = length-next; whole = both }
-
-      -- the halves' hashes, as they are read, give the node's
-      pub fill-node : (x y h : List ℕ) → x ≡ top_at (shape k) i hs O → y ≡ top_at (shape (n - k)) (i + k) hs O → h ≡ H (node_string x y)
+      -- the node's hash is written into its slot
+      pub fill-node : (h : List ℕ) → h ≡ top_hash H (shape n) i hs
           → set O (i + k) h ≡ take (i + 1) N ++ (node_hashes H (shape n) i hs ++ after)
-      unfolding node_hashes top_hash
-      fill-node x y h u v q =
-          let w : h ≡ H (node_string (top_hash H (shape k) i hs) (top_hash H (shape (n - k)) (i + k) hs)) =
-          q ∙ ap₂ (λ (a b : List ℕ). H (node_string a b)) (u ∙ top_at-read (shape k) i hs O lie-lefts)
-          (v ∙ top_at-read (shape (n - k)) (i + k) hs O lie-rights)
-          in
+      unfolding node_hashes
+      fill-node h q =
           let all : node_hashes H (shape n) i hs ≡ Lefts ++ (h ∷ Rights) =
-          rw (shape-node n two, ← halved, node_hashes, top_hash, size-shape k parts.0, w)
+          rw (q, shape-node n two, ← halved, node_hashes, size-shape k parts.0)
           in
           ap (λ (l : List (List ℕ)). set l (i + k) h) apart
           ∙ set_at before old (Rights ++ after) h (i + k) length_before
           ∙ append_assoc (take (i + 1) N) Lefts (h ∷ (Rights ++ after))
           ∙ ap (λ (l : List (List ℕ)). take (i + 1) N ++ l)
           (sym (append_assoc Lefts (h ∷ Rights) after) ∙ ap (λ (l : List (List ℕ)). l ++ after) (sym all))
+
+-- for `Part::fill`, and for what reads the filled array
+pub ruleset fills = (top-leaf, top-halves, fill_end, fill-node)
+
+pub ruleset reads = (root-read, path-read, nodes-filled)

@@ -20,7 +20,7 @@ use Rattle.merkle.specs.Strings.{tree_strings, check_strings, Collision}
 use Rattle.merkle.specs.Shares.{leaf_string, leaf_strings, front_length, blank, shares_cause, leaves_of, root_of, sides_of, path_of, same, passes}
 use Rattle.merkle.specs.Shares.{coding_strings, strings_of, check_of}
 use Rattle.merkle.specs.Answer.{checked, answer_of}
-use Rattle.merkle.specs.declared.Checked.TheVariants.{Yes}
+use Rattle.merkle.specs.Answer.{Yes}
 use Rattle.merkle.proofs.Way.{Way, left, right, way, length-path}
 use Rattle.merkle.proofs.Shape.{size-shape}
 use Rattle.merkle.proofs.Complete.{complete}

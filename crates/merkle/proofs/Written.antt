@@ -6,19 +6,16 @@ use Prim.Native.Nat.{ℕ, ◌+◌, ◌≤◌}
 use native.Mathlib.Decide.{ℕ_discrete}
 use native.Mathlib.Omega.{arith}
 use borrow.Author.Tests.{eq-eqb, ne_eqb}
-use lib.ListN.{length, replicate, length-append, drop_of_length-le}
+use lib.ListN.{length, take, drop, replicate, length-append, drop_of_length-le}
+use lib.Seq.{take_at, drop_at}
 use Rattle.limits.specs.Limits.{max_hashed}
-use Rattle.buffer.specs.Splice.{spliced, put_of}
 use Rattle.buffer.specs.Numbers.{four_bytes}
-use Rattle.buffer.proofs.Splice.{put-fits, spliced-more, length-spliced}
-use Rattle.sha256.specs.Sha256.{sha256, hash_of}
-use Rattle.sha256.specs.declared.Hashed.{Hashed}
-use Rattle.sha256.proofs.Laws.{hash-fine}
+use Rattle.std.specs.Prelude.{Result, Ok, IsOk}
+use Rattle.cause.specs.declared.Cause.{Cause}
+use Rattle.sha256.specs.Sha256.{sha256, hashed, hash_of}
+use Rattle.sha256.proofs.Laws.{hash-ok, hash-digest}
 use Rattle.merkle.specs.Tree.{node_string}
 use Rattle.merkle.specs.Shares.{session_bytes, leaf_string, front_length}
-
-pub digest-of : (m : List ℕ) → length m ≤ max_hashed → (hash_of m).digest ≡ sha256 m
-digest-of m h = ap (λ (r : Hashed). r.digest) (hash-fine m h)
 
 pub length-leaf_string : (session j : ℕ) (s : List ℕ) → length (leaf_string session j s) ≡ front_length session + length s
 unfolding leaf_string front_length
@@ -52,22 +49,31 @@ pub leaf-behind : (session j : ℕ) (s : List ℕ) → leaf_string session j [] 
 unfolding leaf_string
 leaf-behind session j s = ap (λ (l : List ℕ). 0x00 ∷ l) (append_assoc (session_bytes session) (j ∷ []) s)
 
-pub node-written : (a b : List ℕ) → length a ≡ 32 → length b ≡ 32
-    → put_of (put_of (1 ∷ replicate 64 0) 1 a) 33 b ≡ node_string a b
-unfolding spliced node_string
-node-written a b ha hb =
-    let d : List ℕ = 1 ∷ replicate 64 0 in
-    let fits : 1 + length a ≤ length d = omega arith in
-    let at : 33 ≡ 1 + length a = omega arith in
-    let both : length (a ++ b) ≡ 64 = length-append a b ∙ omega arith in
-    let past : length d ≤ 1 + length (a ++ b) = omega arith in
-    ap (λ (l : List ℕ). put_of l 33 b) (put-fits d 1 a fits)
-    ∙ put-fits (spliced d 1 a) 33 b (omega (arith, length-spliced d 1 a fits))
-    ∙ ap (λ (k : ℕ). spliced (spliced d 1 a) k b) at
-    ∙ spliced-more d 1 a b fits
-    ∙ ap (λ (l : List ℕ). 1 ∷ ((a ++ b) ++ l)) (drop_of_length-le d past)
-    ∙ ap (λ (l : List ℕ). 1 ∷ l) (append-nil (a ++ b))
+-- the node string as two writes put it together, over zeros
+pub node-written : (x y a b : List ℕ) → x ≡ a → y ≡ b → length a ≡ 32 → length b ≡ 32
+    → 1 ∷ (take 32 (x ++ replicate 32 0) ++ (y ++ drop 32 (drop 32 (x ++ replicate 32 0)))) ≡ node_string a b
+unfolding node_string
+node-written x y a b e f ha hb =
+    let z : List ℕ = replicate 32 0 in
+    let past : length z ≤ 32 = omega arith in
+    rw (e, f, take_at a z 32 ha, drop_at a z 32 ha, drop_of_length-le z past, append-nil)
 
 pub length-node_string : (a b : List ℕ) → length a ≡ 32 → length b ≡ 32 → length (node_string a b) ≡ 65
 unfolding node_string
 length-node_string a b ha hb = omega (arith, length-append a b)
+
+-- what hashing a leaf string gives, by its front of k bytes with the share behind it; and what hashing a node string gives
+module _ (r : Result (List ℕ) Cause) where
+  module _ (session j k : ℕ) (f s : List ℕ) (size : k ≡ front_length session) (front : take (front_length session) f ≡ leaf_string session j [])
+      (given : hashed r ≡ hash_of (take k f ++ s)) (short : front_length session + length s ≤ max_hashed) where
+    leaf-given : hashed r ≡ hash_of (leaf_string session j s)
+    leaf-given = given ∙ ap hash_of (ap (λ (i : ℕ). take i f ++ s) size ∙ ap (λ (l : List ℕ). l ++ s) front ∙ leaf-behind session j s)
+
+    leaf-short : length (leaf_string session j s) ≤ max_hashed
+    leaf-short = omega (arith, length-leaf_string session j s)
+
+    pub leaf-ok : IsOk r
+    leaf-ok = hash-ok r (leaf_string session j s) leaf-given leaf-short
+
+    pub leaf-digest : (d : List ℕ) → r ≡ Ok d → d ≡ sha256 (leaf_string session j s)
+    leaf-digest d e = hash-digest r (leaf_string session j s) d leaf-given leaf-short e

@@ -4,5 +4,5 @@ pub mod Height
 pub mod Hashes
 pub mod Answer
 pub mod Shares
-pub mod Turns
+pub mod Steps
 pub mod Cases

@@ -9,7 +9,7 @@ use Rattle.merkle.specs.Tree.{Side, shape, sides, folded}
 use Rattle.merkle.specs.Strings.{tree_strings, check_strings}
 use Rattle.merkle.specs.Hashes.{top_hash, path_hashes, node_hashes, top_at, path_at}
 use Rattle.merkle.specs.Answer.{Count, not_counted, count_of, Check, not_checked, answer_of}
-use Rattle.merkle.specs.declared.Rooted.{Rooted}
+use Rattle.merkle.specs.Answer.{Rooted}
 
 -- a session's number in a leaf string: four bytes, the highest first; under number 0 none
 unfoldable pub session_bytes : ℕ → List ℕ

@@ -1,35 +1,28 @@
 -- `merkle::node_hash` meets its contract: the two writes put the node string together. Assumes nothing.
-use mathlib.Core.Path.{◌≡◌, ap, ◌∙◌}
-use mathlib.Core.List.{List}
-use Prim.Native.Nat.{ℕ}
-use native.Mathlib.Omega.{arith}
-use lib.ListN.{length}
-use Rattle.buffer.specs.Splice.{put_of}
+use Rattle.std.proofs.Common.{length, sym, ap, ◌∙◌, arith}
 use Rattle.sha256.specs.Sha256.{hash_of}
+use Rattle.sha256.proofs.Laws.{hash-ok, hash-digest}
 use Rattle.merkle.specs.Tree.{node_string}
-use Rattle.merkle.proofs.Written.{digest-of, node-written, length-node_string}
-use borrow.Author.Rules.{rules}
-use Rattle.merkle.proofs.node_hash.Lts as lts
-use Rattle.merkle.proofs.node_hash.Reads as reads
-use Rattle.merkle.proofs.node_hash.Tie as tie
+use Rattle.merkle.proofs.Written.{node-written, length-node_string}
 use Rattle.merkle.proofs.node_hash.Goals as goal
 
--- Places of the code that the helpers below speak of.
-abbrev Start : Type 0
-Start = lts.Start tie.the-claims reads.Pre reads.Post
+pub slice_bounds-hash-end : goal.slice_bounds-hash-end
+slice_bounds-hash-end c =
+    let l = c.args.left.now in
+    let r = c.args.right.now in
+    let e = node-written c.copy_from_slice.new.self c.copy_from_slice-2.new.self l r c.copy_from_slice.ensures.after c.copy_from_slice-2.ensures.after c.told-left c.told-right in
+    sym (ap length e ∙ length-node_string l r c.told-left c.told-right)
 
-left-long : (c : Start) → length c.args.left ≡ 32
-left-long c = search rules
-
-right-long : (c : Start) → length c.args.right ≡ 32
-right-long c = search rules
+pub unwrap-requires : goal.unwrap-requires
+unwrap-requires c =
+    let l = c.args.left.now in
+    let r = c.args.right.now in
+    let e = node-written c.copy_from_slice.new.self c.copy_from_slice-2.new.self l r c.copy_from_slice.ensures.after c.copy_from_slice-2.ensures.after c.told-left c.told-right in
+    hash-ok _ (node_string l r) (c.hash.ensures ∙ ap hash_of e) (omega (arith, length-node_string l r c.told-left c.told-right))
 
 pub returns : goal.returns
 returns c =
-    let l = c.args.left in
-    let r = c.args.right in
-    ap (λ h. h.digest)
-    (c.hash.ensures
-    ∙ ap hash_of (c.put-2.ensures.1 ∙ ap (λ (d : List ℕ). put_of d 33 r) c.put.ensures.1
-    ∙ node-written l r (left-long c.before.before.before.before.before.before.before.before.before.before.before) (right-long c.before.before.before.before.before.before.before.before.before.before.before)))
-    ∙ digest-of (node_string l r) (omega (arith, length-node_string l r (left-long c.before.before.before.before.before.before.before.before.before.before.before) (right-long c.before.before.before.before.before.before.before.before.before.before.before)))
+    let l = c.args.left.now in
+    let r = c.args.right.now in
+    let e = node-written c.copy_from_slice.new.self c.copy_from_slice-2.new.self l r c.copy_from_slice.ensures.after c.copy_from_slice-2.ensures.after c.told-left c.told-right in
+    hash-digest _ (node_string l r) _ (c.hash.ensures ∙ ap hash_of e) (omega (arith, length-node_string l r c.told-left c.told-right)) c.unwrap.ensures

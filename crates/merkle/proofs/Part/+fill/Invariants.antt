@@ -1,5 +1,5 @@
 -- Each half of a tree has fewer leaves than the tree.
-use Rattle.merkle.proofs.+fill.Given as goal
+use Rattle.merkle.proofs.Part.+fill.Given as goal
 
 abbrev pub decreases-fill : goal.decreases-fill
-decreases-fill l = l.n
+decreases-fill l = l.self.width
