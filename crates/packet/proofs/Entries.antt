@@ -1,22 +1,21 @@
 -- The entry at a place: one law for each outcome, from plain facts about numbers, and what is read of an entry of an inbox that is laid out
 -- well, whose rest is laid out well again. By the tests of the definitions. Assumes nothing.
 use mathlib.Core.Path.{◌≡◌, ap, ◌∙◌}
-use mathlib.Core.Bool.{true, false}
+use mathlib.Core.Bool.{true}
 use mathlib.Core.List.{List}
-use Prim.Native.Nat.{ℕ, suc, ◌+◌, ◌≤◌, ◌<◌}
+use Prim.Native.Nat.{ℕ, suc, ◌+◌, ◌≤◌}
 use native.Mathlib.Omega.{arith}
-use borrow.Author.Tests.{lt-ltb, le-ltb}
+use borrow.Author.Tests.{le-ltb}
 use lib.ListN.{length, take, drop}
-use Rattle.limits.specs.Limits.{max_parties, parties}
+use Rattle.limits.specs.Limits.{max_parties}
 use Rattle.limits.proofs.Ranges.{parties-some}
 use Rattle.buffer.specs.Entries.{size, fills}
 use Rattle.buffer.proofs.Entries.{whole}
 use Rattle.packet.specs.Format.{read_of}
 use Rattle.packet.specs.Answer.{placed, read_at, ToldEntry, told_entry, next_at, entry_read}
 use Rattle.packet.specs.Private.{body_at}
-use Rattle.packet.specs.declared.Entry.{Entry}
-use Rattle.packet.specs.declared.Packet.{Packet}
-use Rattle.packet.specs.declared.Packet.TheVariants.{Refused}
+use Rattle.packet.specs.Packet.{Entry}
+use Rattle.packet.specs.Packet.{Packet}
 use Rattle.packet.proofs.Reading.{at_read}
 use Rattle.packet.proofs.Slices.{drop-take}
 
@@ -25,15 +24,7 @@ pub entry-one : {a b : Entry} → told_entry a ≡ told_entry b → a ≡ b
 entry-one e = ap (λ (t : ToldEntry). t.answer) e
 
 module _ (n : ℕ) (s : List ℕ) (at : ℕ) where
-  pub entry-parties : parties n ≡ false → entry_read n s at ≡ record { packet = Refused 1; next = at }
-  unfolding entry_read
-  entry-parties h = rw h
-
   module _ (low : 1 ≤ n) (high : n ≤ max_parties) where
-    pub entry-short : length s < next_at s at → entry_read n s at ≡ record { packet = Refused 8; next = at }
-    unfolding entry_read
-    entry-short h = rw (parties-some n low high, lt-ltb (length s) (next_at s at) h)
-
     module _ (inside : next_at s at ≤ length s) where
       pub entry_whole : entry_read n s at ≡ record { packet = read_at n (take (next_at s at) s) (at + 2); next = next_at s at }
       unfolding entry_read

@@ -15,8 +15,8 @@ use Rattle.packet.specs.Inbox.{inbox_of}
 use Rattle.packet.specs.Class.{class_of}
 use Rattle.packet.specs.Answer.{placed, judge_of}
 use Rattle.packet.specs.Private.{body_at, TakenAt}
-use Rattle.packet.specs.declared.Packet.TheVariants.{Share}
-use Rattle.packet.specs.declared.Judged.TheVariants.{Valid}
+use Rattle.packet.specs.Packet.{Share}
+use Rattle.packet.specs.Judged.{Valid}
 use Rattle.packet.proofs.Inverse.{written_read, read-written}
 use Rattle.packet.proofs.Inbox.{inbox-fills, inbox-bodies}
 use Rattle.packet.proofs.Entries.{Stands, entry-stands}

@@ -1,6 +1,5 @@
 pub mod Path
 pub mod Chain
-pub mod Owned
 pub mod Parts
 pub mod Slices
 pub mod Reading

@@ -6,23 +6,21 @@ use mathlib.Core.List.{List, [], ◌∷◌}
 use Prim.Native.Nat.{ℕ, zero, suc, ◌+◌, ◌*◌, ◌/◌, ◌%◌, ◌<◌, ◌≤◌}
 use native.Mathlib.Decide.{dec_lt}
 use native.Mathlib.Omega.{arith}
-use borrow.Author.Tests.{lt-ltb, le-ltb, eq-eqb, ne_eqb, ltb-false, eqb-true}
+use borrow.Author.Tests.{le-ltb, eq-eqb, ne_eqb, ltb-false, eqb-true}
 use lib.Dec.{ltb, eqb, lit<}
 use lib.ListN.{length, get_or, drop, length-drop}
 use Rattle.limits.specs.Limits.{max_message}
 use Rattle.buffer.specs.Bounds.{Bytes}
-use Rattle.buffer.specs.Entries.{size}
 use Rattle.buffer.specs.Splice.{spliced, put_of}
 use Rattle.buffer.specs.Given.{Given, gave, value_of}
-use Rattle.buffer.specs.declared.Written.{Written}
-use Rattle.buffer.specs.declared.Written.TheVariants.{Refused, Short, Done}
-use Rattle.buffer.proofs.Entries.{size-drop}
+use Rattle.buffer.specs.Given.{Written}
+use Rattle.buffer.specs.Given.{Short, Done}
 use Rattle.buffer.proofs.Given.{written-short, written-done}
 use Rattle.buffer.proofs.Splice.{put-fits, length-spliced, spliced-more}
 use Rattle.packet.specs.Format.{packet_of, read_of}
 use Rattle.packet.specs.Format as share
 use Rattle.packet.specs.Message.{Reading, silence, unreadable, message, message_packet, length_in, message_in, read_message, placed, write_message_of}
-use Rattle.packet.specs.declared.MessagePacket.TheVariants.{Message}
+use Rattle.packet.specs.MessagePacket.{Message}
 
 -- the packet has three bytes more than the message, and is of bytes if the message is
 pub packet-length : (m : List ℕ) → length (message_packet m) ≡ 3 + length m
@@ -36,30 +34,10 @@ packet-bytes m small short (suc zero) = omega arith
 packet-bytes m small short (suc (suc zero)) = omega arith
 packet-bytes m small short (suc (suc (suc i))) = small i
 
--- the stated length is what the bytes behind the map say as an entry's length
-pub length_at : (p : List ℕ) → length_in p ≡ size (drop 1 p)
-length_at p = sym (size-drop 1 p)
-
 module _ (p : List ℕ) where
-  pub message-short : length p < 3 → message_in p ≡ unreadable
-  unfolding message_in
-  message-short h = rw (lt-ltb (length p) 3 h)
-
-  pub message-long : 3 ≤ length p → max_message < length_in p → message_in p ≡ unreadable
-  unfolding message_in
-  message-long h l = rw (le-ltb (length p) 3 h, lt-ltb max_message (length_in p) l)
-
-  pub message-misfit : 3 ≤ length p → length_in p ≤ max_message → (length p ≡ 3 + length_in p → ⊥) → message_in p ≡ unreadable
-  unfolding message_in
-  message-misfit h l d = rw (le-ltb (length p) 3 h, le-ltb max_message (length_in p) l, ne_eqb (length p) (3 + length_in p) d)
-
   pub message-told : length_in p ≤ max_message → length p ≡ 3 + length_in p → message_in p ≡ message (drop 3 p)
   unfolding message_in
   message-told l e = rw (le-ltb (length p) 3 (omega arith), le-ltb max_message (length_in p) l, eq-eqb (length p) (3 + length_in p) e)
-
-  pub read-empty : length p ≡ 0 → read_message p ≡ silence
-  unfolding read_message
-  read-empty e = rw (eq-eqb (length p) 0 e)
 
   pub read_whole : 1 ≤ length p → get_or p 0 0 ≡ 8 → read_message p ≡ message_in p
   unfolding read_message
@@ -68,16 +46,6 @@ module _ (p : List ℕ) where
   pub read-other : 1 ≤ length p → (get_or p 0 0 ≡ 8 → ⊥) → (get_or p 0 0 ≡ 0 → ⊥) → read_message p ≡ unreadable
   unfolding read_message
   read-other h d f = rw (ne_eqb (length p) 0 (λ q. omega arith), ne_eqb (get_or p 0 0) 8 d, ne_eqb (get_or p 0 0) 0 f)
-
-  pub read-alone : length p ≡ 1 → get_or p 0 0 ≡ 0 → read_message p ≡ silence
-  unfolding read_message
-  read-alone h e =
-      rw (ne_eqb (length p) 0 (λ q. omega arith), ne_eqb (get_or p 0 0) 8 (λ q. omega arith), eq-eqb (get_or p 0 0) 0 e, eq-eqb (length p) 1 h)
-
-  pub read_more : 1 ≤ length p → (length p ≡ 1 → ⊥) → get_or p 0 0 ≡ 0 → read_message p ≡ unreadable
-  unfolding read_message
-  read_more h d e =
-      rw (ne_eqb (length p) 0 (λ q. omega arith), ne_eqb (get_or p 0 0) 8 (λ q. omega arith), eq-eqb (get_or p 0 0) 0 e, ne_eqb (length p) 1 d)
 
 -- a message's packet is read back
 pub message-read : (m : List ℕ) → length m ≤ max_message → read_message (message_packet m) ≡ message m
@@ -95,10 +63,10 @@ pub record Whole (p m : List ℕ) : Type 0 where
   pub is : drop 3 p ≡ m
 
 not-silence : (m : List ℕ) → silence ≡ message m → ⊥
-not-silence m e = let z : ◌≡◌ {A = ℕ} 0 1 = cc in omega arith
+not-silence m e = cc
 
 not-unreadable : (m : List ℕ) → unreadable ≡ message m → ⊥
-not-unreadable m e = let z : ◌≡◌ {A = ℕ} 0 1 = cc in omega arith
+not-unreadable m e = cc
 
 tests : (a b c : Bool) (p m : List ℕ) → cond (a || b || not c) unreadable (message (drop 3 p)) ≡ message m
     → (b ≡ false) × (c ≡ true) × (drop 3 p ≡ m)
@@ -172,10 +140,6 @@ message-joined out m room short =
 
 -- the writer's answers
 module _ (m out : List ℕ) where
-  pub write-long : max_message < length m → write_message_of m out ≡ gave (Refused 4) out
-  unfolding write_message_of
-  write-long h = rw (lt-ltb max_message (length m) h)
-
   pub write-short : length m ≤ max_message → length out < 3 + length m → write_message_of m out ≡ gave (Short (3 + length m)) out
   unfolding write_message_of
   write-short h l =
@@ -197,7 +161,7 @@ module _ (m out : List ℕ) where
     answer-done k e = elim (dec_lt (length out) (3 + length m)) [
       | yes l ↦ let q = told ∙ write-short short l in
           let f : Done k ≡ Short (3 + length m) = sym e ∙ ap (λ (g : Given). g.answer) q in
-          absurd (let z : ◌≡◌ {A = ℕ} 0 1 = cc in omega arith)
+          absurd cc
       | no d ↦ let q = told ∙ write_done short (omega arith) in
           (omega arith, ap (λ (g : Given). g.value) q, ap (λ (g : Given). g.buffer) q)
     ]
@@ -212,6 +176,6 @@ module _ (m out : List ℕ) where
 
 -- what the reader's answer tells of what was read
 pub placed-message : (r : Reading) (l : ℕ) → placed r ≡ Message l → (m : List ℕ) × (r ≡ message m) × (length m ≡ l)
-placed-message silence l e = absurd (let z : ◌≡◌ {A = ℕ} 0 1 = cc in omega arith)
-placed-message unreadable l e = absurd (let z : ◌≡◌ {A = ℕ} 0 1 = cc in omega arith)
+placed-message silence l e = absurd cc
+placed-message unreadable l e = absurd cc
 placed-message (message m) l e = (m, refl, cc)

@@ -1,63 +1,68 @@
 -- A packet and an entry as they are put together in a buffer, and how long they are. By the laws of writing into a buffer.
 -- Assumes nothing.
-use mathlib.Core.Path.{◌≡◌, ap, ap₂, ◌∙◌}
-use mathlib.Core.List.{List, [], ◌∷◌, ◌++◌}
-use Prim.Native.Nat.{ℕ, ◌+◌, ◌*◌, ◌/◌, ◌%◌, ◌<◌, ◌≤◌}
+use mathlib.Core.Path.{◌≡◌, refl, sym, ap, ◌∙◌}
+use mathlib.Core.List.{List, [], ◌∷◌, ◌++◌, append_assoc}
+use Prim.Native.Nat.{ℕ, ◌+◌, ◌*◌, ◌/◌, ◌%◌, ◌≤◌}
 use native.Mathlib.Omega.{arith}
-use lib.ListN.{length, take, length-append}
-use lib.Seq.{length-take-le}
+use lib.ListN.{length, length-append}
+use Rattle.std.specs.List.{flat_map}
 use Rattle.limits.specs.Limits.{max_entry}
 use Rattle.buffer.specs.Splice.{spliced, put_of}
 use Rattle.buffer.proofs.Splice.{put-fits, spliced-more, length-spliced}
-use Rattle.merkle.proofs.Sound.{Wide, wide-take}
+use Rattle.merkle.proofs.Sound.{Wide}
+use Rattle.packet.specs.Private.{laid}
 use Rattle.packet.specs.Format.{chained, packet_of, entry_of}
-use Rattle.packet.proofs.Chain.{length-chained}
+use Rattle.packet.proofs.Chain.{length-chained, chained_flat}
 
 pub packet-length : (number : ℕ) (share : List ℕ) (path : List (List ℕ)) → Wide 32 path
     → length (packet_of number share path) ≡ 4 + length share + 32 * length path
 unfolding packet_of
 packet-length number share path z = omega (arith, length-append share (chained path), length-chained path z)
 
--- of the first `count` hashes of a path
-pub packet-taken : (number : ℕ) (share : List ℕ) (path : List (List ℕ)) (count : ℕ) → Wide 32 path → count ≤ length path
-    → length (packet_of number share (take count path)) ≡ 4 + length share + 32 * count
-packet-taken number share path count z h =
-    packet-length number share (take count path) (wide-take 32 count path h z)
-    ∙ ap (λ (k : ℕ). 4 + length share + 32 * k) (length-take-le count path h)
-
 pub entry-length : (p : List ℕ) → length (entry_of p) ≡ 2 + length p
 unfolding entry_of
 entry-length p = omega arith
 
-module _ (o : List ℕ) (at number : ℕ) (share : List ℕ) (path : List (List ℕ)) where
-  pub packet-joined : number < 256 → length share ≤ max_entry → at + (4 + length share) ≤ length o
-      → spliced (put_of (put_of o at (0x07 ∷ number % 256 ∷ length share / 256 % 256 ∷ length share % 256 ∷ [])) (at + 4) share)
-      (at + 4 + length share) (chained path)
-      ≡ spliced o at (packet_of number share path)
-  unfolding packet_of
-  packet-joined small short h =
-      let head : List ℕ = 0x07 ∷ number % 256 ∷ length share / 256 % 256 ∷ length share % 256 ∷ [] in
-      let fits : at + length head ≤ length o = omega arith in
-      let both : length (head ++ share) ≡ 4 + length share = omega (arith, length-append head share) in
-      let past : at + 4 + length share ≡ at + length (head ++ share) = omega arith in
-      let byte : number % 256 ≡ number = omega arith in
-      let high : length share / 256 % 256 ≡ length share / 256 = omega arith in
-      ap (λ (d : List ℕ). spliced (put_of d (at + 4) share) (at + 4 + length share) (chained path)) (put-fits o at head fits)
-      ∙ ap (λ (d : List ℕ). spliced d (at + 4 + length share) (chained path))
-      (put-fits (spliced o at head) (at + 4) share (omega (arith, length-spliced o at head fits))
-      ∙ spliced-more o at head share fits)
-      ∙ ap (λ (k : ℕ). spliced (spliced o at (head ++ share)) k (chained path)) past
-      ∙ spliced-more o at (head ++ share) (chained path) (omega arith)
-      ∙ ap₂ (λ (x y : ℕ). spliced o at (0x07 ∷ x ∷ y ∷ length share % 256 ∷ (share ++ chained path))) byte high
+-- a packet and an entry, with their path's bytes as they stand one behind the other
+pub packet-laid : (number : ℕ) (share flat : List ℕ) (path : List (List ℕ)) → flat ≡ flat_map (λ x. x) path
+    → laid number share flat ≡ packet_of number share path
+unfolding packet_of
+packet-laid number share flat path e = ap (laid number share) (e ∙ chained_flat path)
 
-pub entry-joined : (o p : List ℕ) (size : ℕ) → size ≡ length p → size ≤ max_entry → 2 ≤ length o
-    → spliced (put_of o 0 (size / 256 % 256 ∷ size % 256 ∷ [])) 2 p ≡ spliced o 0 (entry_of p)
+pub entry-laid : (number size : ℕ) (share flat : List ℕ) (path : List (List ℕ)) → flat ≡ flat_map (λ x. x) path
+    → size ≡ 4 + length share + length flat → size ≤ max_entry
+    → (size / 256 % 256 ∷ size % 256 ∷ []) ++ laid number share flat ≡ entry_of (packet_of number share path)
 unfolding entry_of
-entry-joined o p size e short h =
-    let head : List ℕ = size / 256 % 256 ∷ size % 256 ∷ [] in
-    let fits : 0 + length head ≤ length o = omega arith in
+entry-laid number size share flat path e long short =
+    let all : size ≡ length (laid number share flat) = omega (arith, length-append share flat) in
     let high : size / 256 % 256 ≡ size / 256 = omega arith in
-    ap (λ (d : List ℕ). spliced d 2 p) (put-fits o 0 head fits)
-    ∙ spliced-more o 0 head p fits
-    ∙ ap (λ (x : ℕ). spliced o 0 (x ∷ size % 256 ∷ p)) high
-    ∙ ap (λ (k : ℕ). spliced o 0 (k / 256 ∷ k % 256 ∷ p)) e
+    ap (λ (x : ℕ). x ∷ size % 256 ∷ laid number share flat) high
+    ∙ ap (λ (k : ℕ). k / 256 ∷ k % 256 ∷ laid number share flat) all
+    ∙ ap entry_of (packet-laid number share flat path e)
+
+-- what is put behind what stands at the start of a buffer
+pub put-more : (o a b : List ℕ) (k : ℕ) → k ≡ length a → k + length b ≤ length o → put_of (spliced o 0 a) k b ≡ spliced o 0 (a ++ b)
+put-more o a b k e h =
+    let here : k ≡ 0 + length a = omega arith in
+    put-fits (spliced o 0 a) k b (omega (arith, length-spliced o 0 a (omega arith)))
+    ∙ ap (λ (i : ℕ). spliced (spliced o 0 a) i b) here
+    ∙ spliced-more o 0 a b (omega arith)
+
+pub put-laid : (o front share path : List ℕ) (number : ℕ) → length share ≤ max_entry → length front + 4 + length share + length path ≤ length o
+    → (let head = 0x07 ∷ number ∷ length share / 256 % 256 ∷ length share % 256 ∷ [] in
+    put_of (put_of (put_of (put_of o 0 front) (length front) head) (length front + 4) share) (length front + 4 + length share) path)
+    ≡ spliced o 0 (front ++ laid number share path)
+put-laid o front share path number short room =
+    let head : List ℕ = 0x07 ∷ number ∷ length share / 256 % 256 ∷ length share % 256 ∷ [] in
+    let high : length share / 256 % 256 ≡ length share / 256 = omega arith in
+    let two : length (front ++ head) ≡ length front + 4 = omega (arith, length-append front head) in
+    let three : length ((front ++ head) ++ share) ≡ length front + 4 + length share = omega (arith, length-append (front ++ head) share) in
+    ap (λ (d : List ℕ). put_of (put_of (put_of d (length front) head) (length front + 4) share) (length front + 4 + length share) path)
+    (put-fits o 0 front (omega arith))
+    ∙ ap (λ (d : List ℕ). put_of (put_of d (length front + 4) share) (length front + 4 + length share) path)
+    (put-more o front head (length front) refl (omega arith))
+    ∙ ap (λ (d : List ℕ). put_of d (length front + 4 + length share) path)
+    (put-more o (front ++ head) share (length front + 4) (sym two) (omega arith))
+    ∙ put-more o ((front ++ head) ++ share) path (length front + 4 + length share) (sym three) (omega arith)
+    ∙ ap (spliced o 0) (simp append_assoc)
+    ∙ ap (λ (x : ℕ). spliced o 0 (front ++ (0x07 ∷ number ∷ x ∷ length share % 256 ∷ (share ++ path)))) high

@@ -3,26 +3,27 @@
 use mathlib.Core.Path.{◌≡◌, refl, sym, ap, ap₂, subst, ◌∙◌}
 use mathlib.Core.Bool.{Bool, true, false, cond, not, ◌&&◌, ◌||◌}
 use mathlib.Core.List.{List}
-use Prim.Native.Nat.{ℕ, ◌+◌, ◌*◌, ◌≤◌, ◌<◌}
-use native.Mathlib.Nat.{add-zero}
+use Prim.Native.Nat.{ℕ, ◌+◌, ◌-◌, ◌*◌, ◌≤◌, ◌<◌}
 use native.Mathlib.Omega.{arith}
-use borrow.Author.Tests.{lt-ltb, le-ltb, eq-eqb, ne_eqb, ltb-false, eqb-true}
+use borrow.Author.Tests.{le-ltb, eq-eqb, ne_eqb, ltb-false, eqb-true}
 use lib.Dec.{ltb, eqb}
 use lib.ListN.{length, get_or, take, drop, length-drop}
 use lib.Seq.{get_or-drop, length-take-le}
-use Rattle.limits.specs.Limits.{max_parties, max_share, parties, numbered}
-use Rattle.limits.proofs.Ranges.{parties-some, numbered_within, numbered-range}
+use Rattle.std.proofs.lemmas.Bool.Decides.{nat_tests}
+use Rattle.limits.specs.Limits.{max_parties, max_path, max_share, parties, numbered}
+use Rattle.limits.proofs.Ranges.{parties-some, parties-range, numbered_within, numbered-range}
 use Rattle.buffer.specs.Entries.{size}
 use Rattle.buffer.proofs.Entries.{size-drop}
 use Rattle.merkle.specs.Shares.{sides_of, path_length_of}
 use Rattle.merkle.specs.Answer.{Count, counted, not_counted, count_of}
-use Rattle.merkle.specs.declared.Counted.{Counted}
-use Rattle.merkle.specs.declared.Counted.TheVariants as count
+use Rattle.merkle.specs.Answer.{Counted}
+use Rattle.merkle.specs.Answer as count
+use Rattle.merkle.proofs.Descend.{sides-fit}
 use Rattle.merkle.proofs.Sound.{Wide}
 use Rattle.packet.specs.Format.{Reading, silence, unreadable, shared, hashes, number_in, length_in, count_in, share_in, read_of}
 use Rattle.packet.specs.Answer.{Told, told, placed, read_at}
-use Rattle.packet.specs.declared.Packet.{Packet}
-use Rattle.packet.specs.declared.Packet.TheVariants.{Refused, Silence, Share}
+use Rattle.packet.specs.Packet.{Packet}
+use Rattle.packet.specs.Packet.{Refused, Silence, Share}
 use Rattle.packet.proofs.Path.{length-hashes, wide-hashes}
 
 -- what is told of an answer has the answer itself
@@ -39,68 +40,18 @@ length_at s at =
     ap₂ (λ (x y : ℕ). x * 256 + y) (get_or-drop at s 2 0) (get_or-drop at s 3 0 ∙ ap (λ (k : ℕ). get_or s k 0) e)
     ∙ sym (size-drop (at + 2) s)
 
-pub map_at : (s : List ℕ) (at : ℕ) → get_or (drop at s) 0 0 ≡ get_or s at 0
-map_at s at = get_or-drop at s 0 0 ∙ ap (λ (k : ℕ). get_or s k 0) (add-zero at)
-
--- the second and later of five tests
-second : (a b c d e : Bool) (r : Reading) → b ≡ true → cond (a || b || c || d || e) unreadable r ≡ unreadable
-second true b c d e r h = refl
-second false b c d e r h = rw h
-
-third : (a b c d e : Bool) (r : Reading) → c ≡ true → cond (a || b || c || d || e) unreadable r ≡ unreadable
-third true b c d e r h = refl
-third false true c d e r h = refl
-third false false c d e r h = rw h
-
-fourth : (a b c d e : Bool) (r : Reading) → d ≡ true → cond (a || b || c || d || e) unreadable r ≡ unreadable
-fourth true b c d e r h = refl
-fourth false true c d e r h = refl
-fourth false false true d e r h = refl
-fourth false false false d e r h = rw h
-
-fifth : (a b c d e : Bool) (r : Reading) → e ≡ true → cond (a || b || c || d || e) unreadable r ≡ unreadable
-fifth true b c d e r h = refl
-fifth false true c d e r h = refl
-fifth false false true d e r h = refl
-fifth false false false true e r h = refl
-fifth false false false false e r h = rw h
-
 module _ (n : ℕ) (p : List ℕ) where
-  -- the tests of a packet of map 7, and what it says where none holds
-  abbrev unnumbered : Bool
-  unnumbered = not (numbered n (number_in p))
-
-  abbrev misfit : Bool
-  misfit = not (eqb (length p) (4 + length_in p + 32 * count_in n p))
-
-  abbrev read : Reading
-  read = shared (number_in p) (take (length_in p) (drop 4 p)) (hashes (count_in n p) (drop (4 + length_in p) p))
-
-  pub share-short : length p < 4 → share_in n p ≡ unreadable
-  unfolding share_in
-  share-short h = rw (lt-ltb (length p) 4 h)
-
-  pub share-unnumbered : numbered n (number_in p) ≡ false → share_in n p ≡ unreadable
-  unfolding share_in
-  share-unnumbered h =
-      second (ltb (length p) 4) unnumbered (ltb (length_in p) 1) (ltb max_share (length_in p)) misfit read (ap not h)
-
   pub share-empty : length_in p < 1 → share_in n p ≡ unreadable
   unfolding share_in
-  share-empty h =
-      third (ltb (length p) 4) unnumbered (ltb (length_in p) 1) (ltb max_share (length_in p)) misfit read (lt-ltb (length_in p) 1 h)
+  share-empty h = grind (arith, nat_tests)
 
   pub share-long : max_share < length_in p → share_in n p ≡ unreadable
   unfolding share_in
-  share-long h =
-      fourth (ltb (length p) 4) unnumbered (ltb (length_in p) 1) (ltb max_share (length_in p)) misfit read
-      (lt-ltb max_share (length_in p) h)
+  share-long h = grind (arith, nat_tests)
 
   pub share-misfit : (length p ≡ 4 + length_in p + 32 * count_in n p → ⊥) → share_in n p ≡ unreadable
   unfolding share_in
-  share-misfit h =
-      fifth (ltb (length p) 4) unnumbered (ltb (length_in p) 1) (ltb max_share (length_in p)) misfit read
-      (ap not (ne_eqb (length p) (4 + length_in p + 32 * count_in n p) h))
+  share-misfit h = grind (arith, nat_tests)
 
   pub share-told : 4 ≤ length p → 1 ≤ number_in p → number_in p ≤ n → 1 ≤ length_in p → length_in p ≤ max_share
       → length p ≡ 4 + length_in p + 32 * count_in n p
@@ -139,38 +90,20 @@ module _ (n : ℕ) (p : List ℕ) where
     unfolding read_of
     read-share h = rw (any, eq-eqb (get_or p 0 0) 7 h)
 
-    module _ (other : get_or p 0 0 ≡ 7 → ⊥) where
-      pub read-other : (get_or p 0 0 ≡ 0 → ⊥) → read_of n p ≡ unreadable
-      unfolding read_of
-      read-other h = rw (any, ne_eqb (get_or p 0 0) 7 other, ne_eqb (get_or p 0 0) 0 h)
-
-      module _ (zero : get_or p 0 0 ≡ 0) where
-        pub read-alone : length p ≡ 1 → read_of n p ≡ silence
-        unfolding read_of
-        read-alone h = rw (any, ne_eqb (get_or p 0 0) 7 other, eq-eqb (get_or p 0 0) 0 zero, eq-eqb (length p) 1 h)
-
-        pub read_more : (length p ≡ 1 → ⊥) → read_of n p ≡ unreadable
-        unfolding read_of
-        read_more h = rw (any, ne_eqb (get_or p 0 0) 7 other, eq-eqb (get_or p 0 0) 0 zero, ne_eqb (length p) 1 h)
-
 -- the answer at a place
 module _ (n : ℕ) (s : List ℕ) (at : ℕ) where
-  pub at-parties : parties n ≡ false → read_at n s at ≡ Refused 1
-  unfolding read_at
-  at-parties h = rw h
-
   pub at_read : 1 ≤ n → n ≤ max_parties → read_at n s at ≡ placed at (read_of n (drop at s))
   unfolding read_at
   at_read low high = rw (parties-some n low high)
 
 -- which of the two answers it is
-refused : (t : Bool) (c k : ℕ) → (cond (not t) (not_counted 3) (count_of c)).answer ≡ count.Refused k → t ≡ false
-refused true c k e = absurd (let z : ◌≡◌ {A = ℕ} 0 1 = cc in omega arith)
+refused : (t : Bool) (c k : ℕ) → (cond (not t) (not_counted 3) (count_of c)).answer ≡ count.Uncounted k → t ≡ false
+refused true c k e = absurd cc
 refused false c k e = refl
 
 hashed : (t : Bool) (c k : ℕ) → (cond (not t) (not_counted 3) (count_of c)).answer ≡ count.Hashes k → (t ≡ true) × (k ≡ c)
 hashed true c k e = (refl, cc)
-hashed false c k e = absurd (let z : ◌≡◌ {A = ℕ} 0 1 = cc in omega arith)
+hashed false c k e = absurd cc
 
 -- the length of a path is told just where the number is that of a party
 module _ (n j : ℕ) (low : 1 ≤ n) (high : n ≤ max_parties) (r : Counted) (told : counted r ≡ path_length_of n j) where
@@ -181,13 +114,28 @@ module _ (n j : ℕ) (low : 1 ≤ n) (high : n ≤ max_parties) (r : Counted) (t
   within : (cond (not (numbered n j)) (not_counted 3) (count_of (length (sides_of n j)))).answer ≡ r
   within = sym (ap (λ (c : Count). c.answer) (told ∙ ranged))
 
-  pub count-refused : (k : ℕ) → r ≡ count.Refused k → numbered n j ≡ false
+  pub count-refused : (k : ℕ) → r ≡ count.Uncounted k → numbered n j ≡ false
   count-refused k e = refused (numbered n j) (length (sides_of n j)) k (within ∙ e)
 
   pub count-hashes : (k : ℕ) → r ≡ count.Hashes k → (1 ≤ j) × (j ≤ n) × (k ≡ length (sides_of n j))
   count-hashes k e =
       let h = hashed (numbered n j) (length (sides_of n j)) k (within ∙ e) in
       let (first, last) = numbered-range n j h.0 in (first, last, h.1)
+
+-- and then it is that of a path
+pub few_hashes : (n j k : ℕ) (r : Counted) → counted r ≡ path_length_of n j → r ≡ count.Hashes k → k ≤ max_path
+unfolding path_length_of
+few_hashes n j k r told e = go (parties n) refl (numbered n j) refl (sym (ap (λ (c : Count). c.answer) told) ∙ e)
+  where
+    go : (a : Bool) → parties n ≡ a → (b : Bool) → numbered n j ≡ b
+        → (cond (not a) (not_counted 1) (cond (not b) (not_counted 3) (count_of (length (sides_of n j))))).answer ≡ count.Hashes k → k ≤ max_path
+    go false p b q h = absurd cc
+    go true p false q h = absurd cc
+    go true p true q h =
+        let c : k ≡ length (sides_of n j) = cc in
+        let r = parties-range n p in
+        let w = numbered-range n j q in
+        omega (arith, sides-fit n (j - 1) r.1 (omega arith))
 
 -- p is the packet of a share among n parties
 pub record Readable (n : ℕ) (p : List ℕ) : Type 0 where
@@ -211,10 +159,10 @@ readable-read n p s =
 -- only where every test is passed is a share read
 module _ (number : ℕ) (share : List ℕ) (path : List (List ℕ)) where
   not-silence : silence ≡ shared number share path → ⊥
-  not-silence q = let z : ◌≡◌ {A = ℕ} 0 1 = cc in omega arith
+  not-silence q = cc
 
   not-unreadable : unreadable ≡ shared number share path → ⊥
-  not-unreadable q = let z : ◌≡◌ {A = ℕ} 0 1 = cc in omega arith
+  not-unreadable q = cc
 
   passed : (r : Reading) (a b c d e f g h : Bool)
       → cond a silence (cond b (cond (c || not d || e || f || not g) unreadable r) (cond h silence unreadable)) ≡ shared number share path

@@ -25,7 +25,7 @@ pub part-part : (a len k at : ℕ) (s : List ℕ) → a + len ≤ k → take len
 part-part a len k at s h =
     ap (take len) (drop-part a k at s (omega arith)) ∙ take-take len (k - a) (drop (at + a) s) (omega arith)
 
-hashes-take : (c k : ℕ) (s : List ℕ) → 32 * c ≤ k → hashes c (take k s) ≡ hashes c s
+pub hashes-take : (c k : ℕ) (s : List ℕ) → 32 * c ≤ k → hashes c (take k s) ≡ hashes c s
 unfolding hashes
 hashes-take zero k s h = refl
 hashes-take (suc c) k s h =

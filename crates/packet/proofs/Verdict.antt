@@ -2,35 +2,36 @@
 -- says of its class, for any hash. By the tests of the definitions; of a path only the hashes that are counted matter. Assumes nothing.
 use mathlib.Core.Path.{◌≡◌, refl, sym, ap, ap₂, subst, ◌∙◌}
 use mathlib.Core.Bool.{Bool, true, false, cond, ◌&&◌}
-use mathlib.Core.List.{List, [], ◌∷◌, ◌++◌}
+use mathlib.Core.List.{List, ◌++◌}
 use Prim.Native.Nat.{ℕ, ◌+◌, ◌-◌, ◌*◌, ◌≤◌, ◌<◌}
 use native.Mathlib.Omega.{arith}
-use borrow.Author.Tests.{eq-eqb, ne_eqb, le-leb, lt-leb}
-use types.Run.{OneOf, miss}
-use denote.Enum.Declared.{tag_of}
+use borrow.Author.Tests.{eq-eqb, le-leb, lt-leb}
 use lib.Dec.{leb, eqb}
-use lib.ListN.{length, take, drop}
-use lib.Seq.{take_at, take_all}
+use lib.ListN.{length, take, drop, length-drop, replicate}
+use lib.Seq.{take_at, take_all, length-take-le}
+use Rattle.std.specs.Prelude.{Result, Ok, Err, IsOk, is_ok}
+use Rattle.cause.specs.Cause.{number}
+use Rattle.cause.specs.declared.Cause.{Cause}
 use Rattle.sha256.specs.Sha256.{sha256}
-use Rattle.limits.specs.Limits.{max_parties, max_share, max_path, parties, numbered}
+use Rattle.limits.specs.Limits.{max_parties, max_share, max_path}
 use Rattle.limits.proofs.Ranges.{parties-some, numbered_within}
 use Rattle.buffer.proofs.Parts.{length_part}
-use Rattle.merkle.specs.Shares.{passes}
+use Rattle.merkle.specs.Shares.{blank, passes, check_of}
 use Rattle.merkle.specs.Answer.{Check, checked, answer_of}
-use Rattle.merkle.specs.contracts.Checked.{the_type as checked-type}
 use Rattle.merkle.proofs.Descend.{sides-fit}
-use Rattle.merkle.proofs.Judged.{passes-miscount}
-use Rattle.merkle.specs.declared.Checked.{Checked}
-use Rattle.merkle.specs.declared.Checked.TheVariants as check
+use Rattle.merkle.proofs.Judged.{passes-miscount, check-judged}
+use Rattle.merkle.proofs.Written.{front-short}
+use Rattle.merkle.specs.Answer.{Checked, Unchecked, No, Yes, check_said}
 use Rattle.packet.specs.Format.{Reading, silence, unreadable, shared, hashes, read_of}
 use Rattle.packet.specs.Class.{Class, faulty, valid, judged, class_of}
-use Rattle.packet.specs.Answer.{placed, Verdict, verdict, verdict_on, judge_of}
-use Rattle.packet.specs.Private.{verdict_for, PassedOver, TakenAt}
-use Rattle.packet.specs.declared.Packet.{Packet}
-use Rattle.packet.specs.declared.Packet.TheVariants as packet
-use Rattle.packet.specs.declared.Judged.{Judged}
-use Rattle.packet.specs.declared.Judged.TheVariants.{Refused, Faulty, Valid}
-use Rattle.packet.specs.contracts.Packet.{the_type as packet-type}
+use Rattle.packet.specs.Answer.{placed, path_at, Verdict, verdict, verdict_on, judge_of}
+use Rattle.packet.specs.Private.{verdict_for, NoShare, PassedOver, TakenAt}
+use Rattle.packet.specs.Packet.{Packet}
+use Rattle.packet.specs.Packet as packet
+use Rattle.packet.specs.Judged.{Judged}
+use Rattle.packet.specs.Judged.{Faulty, Valid}
+use Rattle.packet.proofs.Path.{padded, length-hashes}
+use Rattle.packet.proofs.Path as path
 use Rattle.packet.proofs.Reading.{Fields, fields-of}
 use Rattle.packet.proofs.Slices.{part-part, hashes-part}
 
@@ -46,14 +47,41 @@ passes-take session n j x p r c z e =
     let h : length p ≤ c = omega (arith, e) in
     rw (take_at p r c e, take_all c p h)
 
--- a check that answers yes passed, and one that answers otherwise did not
-pub told-true : (x : Checked) (t : Bool) → checked x ≡ answer_of t → x ≡ check.Yes → t ≡ true
-told-true x t e y = sym (ap (λ (c : Check). c.passed) (ap checked (sym y) ∙ e))
+-- a check of whether t holds is not refused, and says t
+pub check-told : (r : Result Bool Cause) (t : Bool) → checked (check_said r) ≡ answer_of t → r ≡ Ok t
+check-told (Ok true) true e = refl
+check-told (Ok false) false e = refl
+check-told (Ok true) false e = let y : Yes ≡ No = ap (λ (c : Check). c.answer) e in absurd cc
+check-told (Ok false) true e = let y : No ≡ Yes = ap (λ (c : Check). c.answer) e in absurd cc
+check-told (Err k) true e = let y : Unchecked (number k) ≡ Yes = ap (λ (c : Check). c.answer) e in absurd cc
+check-told (Err k) false e = let y : Unchecked (number k) ≡ No = ap (λ (c : Check). c.answer) e in absurd cc
 
-pub told-false : (x : Checked) (t : Bool) → checked x ≡ answer_of t → OneOf (0 ∷ 1 ∷ []) (tag_of checked-type x) → t ≡ false
-told-false (check.Refused i) t e k = sym (ap (λ (c : Check). c.passed) e)
-told-false check.No t e k = sym (ap (λ (c : Check). c.passed) e)
-told-false check.Yes t e k = absurd (miss (0 ∷ 1 ∷ []) 2 tt k)
+pub check-says : (r : Result Bool Cause) (t x : Bool) → checked (check_said r) ≡ answer_of t → r ≡ Ok x → t ≡ x
+check-says r t x e q = let y : Ok t ≡ Ok x = sym (check-told r t e) ∙ q in cc
+
+-- the check of a share that is no longer than any is not refused
+pub check-ok : (session n j : ℕ) (x : List ℕ) (hs : List (List ℕ)) (count : ℕ) (root : List ℕ) (r : Result Bool Cause)
+    → (1 ≤ n) × (n ≤ max_parties) × (1 ≤ j) × (j ≤ n) × (length root ≡ 32) → length x ≤ max_share
+    → checked (check_said r) ≡ check_of sha256 session n j x hs count root → IsOk r
+check-ok session n j x hs count root r h short e =
+    ap is_ok (check-told r (passes sha256 session n j x hs count root)
+    (e ∙ check-judged sha256 session n j x hs count root h.0 h.1 h.2 h.3 (omega (arith, short, front-short session)) h.4))
+
+-- a check of the share and the path that lie in s tells whether they lead to the root
+pub checked_leads : (session n j : ℕ) (root s : List ℕ) (from len count : ℕ) (hs : List (List ℕ)) (r : Checked)
+    → (1 ≤ n) × (n ≤ max_parties) × (1 ≤ j) × (j ≤ n) × (length root ≡ 32) → len ≤ max_share → count ≤ max_path → from + len + 32 * count ≤ length s
+    → hs ≡ path_at s (from + len) count
+    → checked r ≡ check_of sha256 session n j (take (from + len - from) (drop from s)) hs count root
+    → checked r ≡ answer_of (passes sha256 session n j (take len (drop from s)) (hashes count (drop (from + len) s)) count root)
+checked_leads session n j root s from len count hs r h short few inside p e =
+    let rest : List ℕ = drop (from + len) s in
+    let share : List ℕ = take len (drop from s) in
+    let k : from + len - from ≡ len = omega arith in
+    let long : length share ≡ len = length-take-le len (drop from s) (omega (arith, length-drop from s)) in
+    e ∙ ap₂ (λ (i : ℕ) (q : List (List ℕ)). check_of sha256 session n j (take i (drop from s)) q count root) k
+    (p ∙ path.path-there s (from + len) count few (omega arith))
+    ∙ check-judged sha256 session n j share (padded count rest) count root h.0 h.1 h.2 h.3 (omega (arith, long, front-short session)) h.4
+    ∙ ap answer_of (passes-take session n j share (hashes count rest) (replicate (max_path - count) blank) count root (length-hashes count rest))
 
 -- the last of four tests fails
 last-fails : (a b c d : Bool) → d ≡ false → cond (a && b && c && d) Valid Faulty ≡ Faulty
@@ -71,35 +99,13 @@ two-left true b c false x q f g = rw (f, g)
 
 module _ (H : List ℕ → List ℕ) (session n j : ℕ) (root s : List ℕ) where
   module _ (x : Packet) where
-    pub judge-parties : parties n ≡ false → judge_of H session n j root s x ≡ Refused 1
-    unfolding judge_of
-    judge-parties h = rw h
-
     module _ (low : 1 ≤ n) (high : n ≤ max_parties) where
-      pub judge-number : numbered n j ≡ false → judge_of H session n j root s x ≡ Refused 3
-      unfolding judge_of
-      judge-number h = rw (parties-some n low high, h)
-
       module _ (first : 1 ≤ j) (last : j ≤ n) where
-        pub judge-root : (length root ≡ 32 → ⊥) → judge_of H session n j root s x ≡ Refused 7
-        unfolding judge_of
-        judge-root h = rw (parties-some n low high, numbered_within n j first last, ne_eqb (length root) 32 h)
-
         pub judge-on : length root ≡ 32 → judge_of H session n j root s x ≡ verdict_on H session n j root s x
         unfolding judge_of
         judge-on h = rw (parties-some n low high, numbered_within n j first last, eq-eqb (length root) 32 h)
 
-  -- neither silence nor a share
-  pub on-refused : (x : Packet) → OneOf (0 ∷ 2 ∷ []) (tag_of packet-type x) → OneOf (0 ∷ 1 ∷ []) (tag_of packet-type x)
-      → verdict_on H session n j root s x ≡ Faulty
-  on-refused (packet.Refused k) a b = refl
-  on-refused packet.Silence a b = absurd (miss (0 ∷ 2 ∷ []) 1 tt a)
-  on-refused (packet.Share number from len count) a b = absurd (miss (0 ∷ 1 ∷ []) 2 tt b)
-
   module _ (from len count : ℕ) where
-    pub on-other : (number : ℕ) → (number ≡ j → ⊥) → verdict_on H session n j root s (packet.Share number from len count) ≡ Faulty
-    on-other number d = rw (ne_eqb number j d)
-
     -- a share of the number demanded, and whether its path leads to the root
     abbrev Ours : Judged
     Ours = verdict_on H session n j root s (packet.Share j from len count)
@@ -162,10 +168,10 @@ module _ (H : List ℕ → List ℕ) (session n j : ℕ) (root s : List ℕ) (at
       (le-leb (at + 4 + length share + 32 * c) (length s) (inside number share path e))
 
   -- no share was read
-  unread : (r : Reading) → OneOf (0 ∷ 1 ∷ []) (tag_of packet-type (placed at r)) → PassedOver (judged H session n j root r)
+  unread : (r : Reading) → NoShare (placed at r) → PassedOver (judged H session n j root r)
   unread silence h = tt
   unread unreadable h = tt
-  unread (shared number share path) h = absurd (miss (0 ∷ 1 ∷ []) 2 tt h)
+  unread (shared number share path) h = absurd h
 
   abbrev TakenIn : Class → Packet → Type 0
   TakenIn c (packet.Refused cause) = Unit {0}
@@ -180,7 +186,7 @@ module _ (H : List ℕ → List ℕ) (session n j : ℕ) (root s : List ℕ) (at
     where
       go : (t : Bool) → verdict_for (cond t (valid share path) faulty) ≡ Valid
           → TakenAt s (at + 4) (length share) (length path) (cond t (valid share path) faulty)
-      go false q = absurd (let z : ◌≡◌ {A = ℕ} 0 1 = cc in omega arith)
+      go false q = absurd cc
       go true q =
           let f = fields number share path e in record {
             some = f.some;
@@ -192,9 +198,9 @@ module _ (H : List ℕ → List ℕ) (session n j : ℕ) (root s : List ℕ) (at
           }
 
   module _ (x : Packet) (read : x ≡ placed at (read_of n P)) where
-    pub class-unread : OneOf (0 ∷ 1 ∷ []) (tag_of packet-type x) → PassedOver (class_of H session n j root P)
+    pub class-unread : NoShare x → PassedOver (class_of H session n j root P)
     unfolding class_of
-    class-unread h = unread (read_of n P) (subst (λ (y : Packet). OneOf (0 ∷ 1 ∷ []) (tag_of packet-type y)) read h)
+    class-unread h = unread (read_of n P) (subst NoShare read h)
 
     module _ (low : 1 ≤ n) (high : n ≤ max_parties) (first : 1 ≤ j) (last : j ≤ n) (wide : length root ≡ 32) where
       -- it is judged by its class

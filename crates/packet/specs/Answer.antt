@@ -3,14 +3,14 @@ use Rattle.std.specs.Prelude.{Bool, true, false, cond, not, ◌&&◌, ◌||◌, 
 use Rattle.limits.specs.Limits.{max_path, max_share, parties, numbered}
 use Rattle.buffer.specs.Entries.{size}
 use Rattle.buffer.specs.Given.{Given, gave, written}
-use Rattle.buffer.specs.declared.Written.TheVariants as given
+use Rattle.buffer.specs.Given as given
 use Rattle.merkle.specs.Shares.{blank, sides_of, passes}
 use Rattle.packet.specs.Format.{Reading, silence, unreadable, shared, hashes, packet_of, entry_of, read_of}
-use Rattle.packet.specs.declared.Packet.{Packet}
-use Rattle.packet.specs.declared.Packet.TheVariants as packet
-use Rattle.packet.specs.declared.Entry.{Entry}
-use Rattle.packet.specs.declared.Judged.{Judged}
-use Rattle.packet.specs.declared.Judged.TheVariants as judged
+use Rattle.packet.specs.Packet.{Packet}
+use Rattle.packet.specs.Packet as packet
+use Rattle.packet.specs.Packet.{Entry}
+use Rattle.packet.specs.Judged.{Judged}
+use Rattle.packet.specs.Judged as judged
 
 -- document 01's number of the cause for which a reading was turned away; 0 if it was not
 abbrev pub cause_in : Packet → ℕ

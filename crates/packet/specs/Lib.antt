@@ -1,6 +1,9 @@
 pub mod Format
 pub mod Inbox
 pub mod Class
+pub mod Packet
+pub mod Judged
+pub mod MessagePacket
 pub mod Answer
 pub mod Message
 pub mod Private

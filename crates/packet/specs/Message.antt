@@ -5,8 +5,8 @@ use Rattle.std.specs.Prelude.{cond, not, ◌&&◌, ◌||◌, List, ◌∷◌, �
 use Rattle.limits.specs.Limits.{max_message}
 use Rattle.buffer.specs.Given.{Given}
 use Rattle.packet.specs.Answer.{written_unless}
-use Rattle.packet.specs.declared.MessagePacket.{MessagePacket}
-use Rattle.packet.specs.declared.MessagePacket.TheVariants as packet
+use Rattle.packet.specs.MessagePacket.{MessagePacket}
+use Rattle.packet.specs.MessagePacket as packet
 
 -- the greatest length of such a packet
 abbrev pub max_message_packet : ℕ

@@ -1,48 +1,50 @@
 // Packets: the bytes in which one party sends another a share with its audit path, or a whole message. Reading them, judging them, and writing them.
 #![tactic(auto)]
 
-ghost use Rattle.std.specs.Prelude.{◌≡◌, ◌+◌, ◌*◌, ◌≤◌, ◌<◌, length, take, drop};
-ghost use Rattle.limits.specs.Limits.{max_parties, max_path, max_entry};
-ghost use Rattle.buffer.specs.Given.{gave};
-ghost use Rattle.buffer.specs.Splice.{spliced};
-ghost use Rattle.packet.specs.Format.{packet_of, chained, share_in};
+ghost use Rattle.std.specs.Prelude.{◌≡◌, ◌≢◌, drop, ◌+◌, ◌*◌, ◌≤◌, ◌<◌, ◌++◌, length, MatchOption, MatchResult};
+ghost use Rattle.limits.specs.Limits.{max_parties, max_path, max_share};
+ghost use Rattle.buffer.specs.Given.{said, gave, written};
+ghost use Rattle.packet.specs.Format.{share_in};
 ghost use Rattle.sha256.specs.Sha256.{sha256};
-ghost use Rattle.packet.specs.Answer.{told, read_at, placed, told_entry, entry_read, path_at, verdict, verdict_on, judge_of};
+ghost use Rattle.cause.specs.Cause.{number as number_of};
+ghost use Rattle.packet.specs.Packet as packet;
+ghost use Rattle.packet.specs.Packet.{read_said, entry_said};
+ghost use Rattle.packet.specs.Judged.{judgement, judged_said};
+ghost use Rattle.packet.specs.Answer.{told, read_at, placed, told_entry, entry_read, next_at, path_at, verdict, verdict_on, judge_of};
 ghost use Rattle.packet.specs.Answer.{write_cause, write_of, write_entry_of};
+ghost use Rattle.packet.specs.Private.{laid};
 ghost use Rattle.packet.specs.Message.{read_message, write_message_of};
 ghost use Rattle.packet.specs.Message as message;
+ghost use Rattle.packet.specs.MessagePacket.{message_said};
 
 use buffer::Written;
+use cause::{Cause, Refusal};
 use limits::{MAX_MESSAGE, MAX_PATH, MAX_SHARE};
-use merkle::{Checked, Counted, Hash};
+use merkle::Hash;
 
-// What stands at a place.
-#[derive(Clone, Copy)]
-pub enum Packet {
-    // Turned away for this cause of document 01: 1, n is out of its range; 8, its entry runs short; or 10, neither silence nor readable.
-    Refused(u8),
-    Silence,
-    // A share: its number, where it lies and how long it is, and how many hashes of its path follow it.
-    Share {
-        number: usize,
-        from: usize,
-        len: usize,
-        count: usize,
-    },
+// A share in a packet: its number, where it lies and how long it is, and how many hashes of its path follow it.
+#[derive(Clone, Copy, Debug, PartialEq, Eq)]
+pub struct Share {
+    pub number: usize,
+    pub from: usize,
+    pub len: usize,
+    pub count: usize,
 }
 
+// What stands at a place: a share, or nothing, which is silence. Cause 1, n is out of its range; 8, its entry runs short; or 10, it is neither silence nor
+// readable.
+pub type Read = Result<Option<Share>, Cause>;
+
 // An entry of an inbox: the packet in it, and where the next entry begins.
-#[derive(Clone, Copy)]
+#[derive(Clone, Copy, Debug, PartialEq, Eq)]
 pub struct Entry {
-    pub packet: Packet,
+    pub packet: Read,
     pub next: usize,
 }
 
 // A packet that was read, judged against a number and a root.
-#[derive(Clone, Copy)]
+#[derive(Clone, Copy, Debug, PartialEq, Eq)]
 pub enum Judged {
-    // Turned away for this cause of document 01: 1, 3 or 7.
-    Refused(u8),
     Silent,
     Faulty,
     Valid,
@@ -51,238 +53,160 @@ pub enum Judged {
 // The greatest length of a packet with a whole message: its map, the message's length and the message.
 pub const MAX_MESSAGE_PACKET: usize = 3 + MAX_MESSAGE;
 
-// What bytes are as a packet with a whole message.
-#[derive(Clone, Copy)]
-pub enum MessagePacket {
-    // Turned away for this cause of document 01: 10, neither silence nor readable.
-    Refused(u8),
-    Silence,
-    // A message of so many bytes, from byte 3 on.
-    Message(usize),
-}
-
 // Reads the packet that stands from place at on to the end of s, among n parties.
-pub fn read_at(n: usize, s: &[u8], at: usize) -> Packet
-    ensures { told result ≡ told (read_at n s.now at) }
+#[tactic(auto, using(std::proofs::lemmas::Bool::Decides::nat_tests), unfolding(limits::specs::Limits::parties, crate::specs::Answer::read_at, crate::specs::Format::read_of))]
+pub fn read_at(n: usize, s: &[u8], at: usize) -> Read
+    ensures { told (read_said result) ≡ told (read_at n s.now at) }
 {
     if !limits::parties(n) {
-        return Packet::Refused(1);
+        return Err(Cause::Parties);
     }
-    if s.len() <= at {
-        return Packet::Silence;
+    match s.get(at..) {
+        None | Some([] | [0]) => Ok(None),
+        Some([7, ..]) => read_share(n, s, at),
+        Some(_) => Err(Cause::Unreadable),
     }
-    let map = s[at];
-    if map == 7 {
-        return read_share(n, s, at);
-    }
-    if map != 0 {
-        return Packet::Refused(10);
-    }
-    if s.len() - at == 1 {
-        return Packet::Silence;
-    }
-    Packet::Refused(10)
 }
 
 // The same of a packet whose map is 7. No length that it states is used before the bytes present are found to be as many.
-fn read_share(n: usize, s: &[u8], at: usize) -> Packet
+#[tactic(auto, using(std::proofs::lemmas::Bool::Decides::nat_tests), unfolding(limits::specs::Limits::parties, limits::specs::Limits::numbered, merkle::specs::Shares::path_length_of, crate::specs::Format::share_in))]
+fn read_share(n: usize, s: &[u8], at: usize) -> Read
     requires { (1 ≤ n) × (n ≤ max_parties) × (at < length s.now) }
-    ensures { result ≡ placed at (share_in n (drop at s.now)) }
+    ensures { read_said result ≡ placed at (share_in n (drop at s.now)) }
 {
     let size = s.len() - at;
     if size < 4 {
-        return Packet::Refused(10);
+        return Err(Cause::Unreadable);
     }
-    let number = wide(s[at + 1]);
+    let number = usize::from(s[at + 1]);
     let stated = buffer::size_at(s, at + 2);
-    if stated < 1 {
-        return Packet::Refused(10);
-    }
-    if MAX_SHARE < stated {
-        return Packet::Refused(10);
-    }
-    let Counted::Hashes(count) = merkle::path_length(n, number) else {
-        return Packet::Refused(10);
+    let Ok(count) = merkle::path_length(n, number) else {
+        return Err(Cause::Unreadable);
     };
-    if size != 4 + stated + 32 * count {
-        return Packet::Refused(10);
+    if stated < 1 || MAX_SHARE < stated || size != 4 + stated + 32 * count {
+        return Err(Cause::Unreadable);
     }
-    Packet::Share {
+    Ok(Some(Share {
         number,
         from: at + 4,
         len: stated,
         count,
-    }
-}
-
-fn wide(x: u8) -> usize
-    ensures { (result ≡ x) × (result < 256) }
-{
-    x as usize
+    }))
 }
 
 // Reads the entry that stands at a place of an inbox, among n parties. The place stays where it is turned away.
+#[tactic(auto, using(std::proofs::lemmas::Bool::Decides::nat_tests), unfolding(limits::specs::Limits::parties, crate::specs::Answer::entry_read))]
 pub fn read_entry(n: usize, s: &[u8], at: usize) -> Entry
-    ensures { told_entry result ≡ told_entry (entry_read n s.now at) }
+    ensures { told_entry (entry_said result) ≡ told_entry (entry_read n s.now at) }
 {
     if !limits::parties(n) {
         return Entry {
-            packet: Packet::Refused(1),
+            packet: Err(Cause::Parties),
             next: at,
         };
     }
-    if s.len() < 2 {
-        return short(at);
-    }
-    if s.len() - 2 < at {
-        return short(at);
-    }
-    let from = at + 2;
-    let size = buffer::size_at(s, at);
-    if s.len() - from < size {
-        return short(at);
-    }
-    let next = from + size;
-    let packet = read_at(n, &s[..next], from);
+    let Some(next) = next_at(s, at) else {
+        return Entry {
+            packet: Err(Cause::Layout),
+            next: at,
+        };
+    };
+    let packet = read_at(n, &s[..next], at + 2);
     Entry { packet, next }
 }
 
-// An entry that runs short.
-fn short(at: usize) -> Entry
-    ensures { result ≡ record { packet = Packet.Refused 8; next = at } }
+// The place behind the entry at a place, unless that runs short.
+fn next_at(s: &[u8], at: usize) -> Option<usize>
+    ensures { MatchOption result (length s.now < next_at s.now at) (λ next. (next ≡ next_at s.now at) × (next ≤ length s.now)) }
 {
-    Entry {
-        packet: Packet::Refused(8),
-        next: at,
+    let room = s.len().checked_sub(2)?.checked_sub(at)?;
+    let size = buffer::size_at(s, at);
+    if room < size {
+        return None;
     }
+    Some(at + 2 + size)
 }
 
 // The path of `count` hashes at a place. Blanks stand past it, and everywhere if it is longer than any path or runs past the end.
+#[tactic(auto, using(std::proofs::lemmas::Bool::Decides::nat_tests), unfolding(crate::specs::Answer::path_at))]
 pub fn path_at(s: &[u8], at: usize, count: usize) -> [Hash; MAX_PATH]
     ensures { result ≡ path_at s.now at count }
 {
-    let mut path = [[0u8; 32]; MAX_PATH];
-    if MAX_PATH < count {
+    let mut path = [[0; 32]; MAX_PATH];
+    if MAX_PATH < count || s.len() < at || s.len() - at < 32 * count {
         return path;
     }
-    if s.len() < at {
-        return path;
-    }
-    if s.len() - at < 32 * count {
-        return path;
-    }
-    let mut from = at;
-    let mut i: usize = 0;
-    while i < count {
-        let next = from + 32;
-        let hash = hash_at(s, from);
-        path[i] = hash;
-        from = next;
-        i += 1;
-    }
+    let end = at + 32 * count;
+    let (hashes, _) = s[at..end].as_chunks();
+    path[..count].copy_from_slice(hashes);
     path
 }
 
-// The 32 bytes at a place.
-fn hash_at(s: &[u8], at: usize) -> Hash
-    requires { at + 32 ≤ length s.now }
-    ensures { result ≡ take 32 (drop at s.now) }
-{
-    let mut hash = [0u8; 32];
-    let end = at + 32;
-    buffer::put(&mut hash, 0, &s[at..end]);
-    hash
-}
-
-// Judges a packet that was read from s: whether it bears number j and its path leads to the root under the session's number.
-pub fn judge(session: u32, n: usize, j: usize, root: &[u8], s: &[u8], packet: Packet) -> Judged
-    ensures { verdict result ≡ verdict (judge_of sha256 session n j root.now s.now packet) }
+// Judges a packet that was read from s: whether it bears number j and its path leads to the root under the session's number. Cause 1, 3 or 7.
+#[tactic(auto, using(std::proofs::lemmas::Bool::Decides::nat_tests), unfolding(limits::specs::Limits::parties, limits::specs::Limits::numbered, crate::specs::Answer::judge_of))]
+pub fn judge(
+    session: u32,
+    n: usize,
+    j: usize,
+    root: &[u8],
+    s: &[u8],
+    packet: Read,
+) -> Result<Judged, Cause>
+    ensures { verdict (judged_said result) ≡ verdict (judge_of sha256 session n j root.now s.now (read_said packet)) }
 {
     if !limits::parties(n) {
-        return Judged::Refused(1);
+        return Err(Cause::Parties);
     }
     if !limits::numbered(n, j) {
-        return Judged::Refused(3);
+        return Err(Cause::Number);
     }
     if root.len() != 32 {
-        return Judged::Refused(7);
+        return Err(Cause::Argument);
     }
-    if let Packet::Silence = packet {
-        return Judged::Silent;
-    }
-    let Packet::Share {
+    Ok(match packet {
+        Err(_) => Judged::Faulty,
+        Ok(None) => Judged::Silent,
+        Ok(Some(share)) if share.number != j => Judged::Faulty,
+        Ok(Some(share)) => judge_share(session, n, root, s, share),
+    })
+}
+
+// The same of a share that bears the number demanded. No place that it states is used before the bytes present are found to be as many.
+fn judge_share(session: u32, n: usize, root: &[u8], s: &[u8], share: Share) -> Judged
+    requires { (1 ≤ n) × (n ≤ max_parties) × (1 ≤ share.number) × (share.number ≤ n) × (length root.now ≡ 32) }
+    ensures { judgement result ≡ verdict_on sha256 session n share.number root.now s.now (packet.Share share.number share.from share.len share.count) }
+{
+    let Share {
         number,
         from,
         len,
         count,
-    } = packet
-    else {
-        return Judged::Faulty;
-    };
-    if number != j {
-        return Judged::Faulty;
-    }
-    let place = Place { from, len, count };
-    judge_share(session, n, j, root, s, place)
-}
-
-// Where a share lies, how long it is, and how many hashes follow it.
-#[derive(Clone, Copy)]
-struct Place {
-    from: usize,
-    len: usize,
-    count: usize,
-}
-
-// The same of a share that bears number j. No place that it states is used before the bytes present are found to be as many.
-fn judge_share(session: u32, n: usize, j: usize, root: &[u8], s: &[u8], place: Place) -> Judged
-    requires { (1 ≤ n) × (n ≤ max_parties) × (1 ≤ j) × (j ≤ n) × (length root.now ≡ 32) }
-    ensures { result ≡ verdict_on sha256 session n j root.now s.now (Packet.Share j place.from place.len place.count) }
-{
-    let Place { from, len, count } = place;
-    if MAX_SHARE < len {
-        return Judged::Faulty;
-    }
-    if MAX_PATH < count {
-        return Judged::Faulty;
-    }
-    if s.len() < from {
-        return Judged::Faulty;
-    }
-    if s.len() - from < len + 32 * count {
+    } = share;
+    if MAX_SHARE < len || MAX_PATH < count || s.len() < from || s.len() - from < len + 32 * count {
         return Judged::Faulty;
     }
     let end = from + len;
     let path = path_at(s, end, count);
-    if let Checked::Yes = merkle::check(session, n, j, &s[from..end], path, count, root) {
-        return Judged::Valid;
-    }
-    Judged::Faulty
+    let leads = merkle::check(session, n, number, &s[from..end], path, count, root).unwrap();
+    if leads { Judged::Valid } else { Judged::Faulty }
 }
 
-// Why the packet of a share of `len` bytes with `count` hashes is not written: cause 1, 3 or 10, or 0.
-fn write_cause(n: usize, number: usize, len: usize, count: usize) -> u8
-    ensures { result ≡ write_cause n number len count }
+// How long the packet of a share of `len` bytes with `count` hashes is, or why it is not written: cause 1, 3 or 10.
+#[tactic(auto, using(std::proofs::lemmas::Bool::Decides::nat_tests), unfolding(limits::specs::Limits::parties, limits::specs::Limits::numbered, merkle::specs::Shares::path_length_of, crate::specs::Answer::write_cause))]
+fn packet_size(n: usize, number: usize, len: usize, count: usize) -> Result<u16, Cause>
+    ensures { MatchResult result
+        (λ size. (write_cause n number len count ≡ 0) × (size ≡ 4 + len + 32 * count))
+        (λ cause. number_of cause ≡ write_cause n number len count) }
 {
-    if !limits::parties(n) {
-        return 1;
+    let right = merkle::path_length(n, number)?;
+    if len < 1 || MAX_SHARE < len || count != right {
+        return Err(Cause::Unreadable);
     }
-    let Counted::Hashes(right) = merkle::path_length(n, number) else {
-        return 3;
-    };
-    if len < 1 {
-        return 10;
-    }
-    if MAX_SHARE < len {
-        return 10;
-    }
-    if count != right {
-        return 10;
-    }
-    0
+    Ok((4 + len + 32 * count) as u16)
 }
 
 // Writes the packet of a share with its path of `count` hashes to the start of out.
+#[tactic(auto, using(std::proofs::lemmas::Bool::Decides::nat_tests), unfolding(crate::specs::Answer::write_of))]
 pub fn write(
     n: usize,
     number: usize,
@@ -291,21 +215,14 @@ pub fn write(
     count: usize,
     out: &mut [u8],
 ) -> Written
-    ensures { gave result out.new ≡ write_of n number share.now path count out.old }
+    ensures { gave (said result) out.new ≡ write_of n number share.now path count out.old }
 {
-    let cause = write_cause(n, number, share.len(), count);
-    if cause != 0 {
-        return Written::Refused(cause);
-    }
-    let need = 4 + share.len() + 32 * count;
-    if out.len() < need {
-        return Written::Short(need);
-    }
-    write_fields(number, share, path, count, out, 0);
-    Written::Done(need)
+    packet_size(n, number, share.len(), count)?;
+    write_behind(&[], number, share, path[..count].as_flattened(), out)
 }
 
 // The same as an entry, with the packet's length in front of it.
+#[tactic(auto, using(std::proofs::lemmas::Bool::Decides::nat_tests), unfolding(crate::specs::Answer::write_entry_of))]
 pub fn write_entry(
     n: usize,
     number: usize,
@@ -314,60 +231,31 @@ pub fn write_entry(
     count: usize,
     out: &mut [u8],
 ) -> Written
-    ensures { gave result out.new ≡ write_entry_of n number share.now path count out.old }
+    ensures { gave (said result) out.new ≡ write_entry_of n number share.now path count out.old }
 {
-    let cause = write_cause(n, number, share.len(), count);
-    if cause != 0 {
-        return Written::Refused(cause);
-    }
-    let size = 4 + share.len() + 32 * count;
-    let need = size + 2;
+    let size = packet_size(n, number, share.len(), count)?;
+    let path = path[..count].as_flattened();
+    write_behind(&size.to_be_bytes(), number, share, path, out)
+}
+
+// Writes a packet behind what stands in front of it. The path is here its hashes' bytes.
+#[tactic(auto, using(std::proofs::lemmas::Bool::Decides::nat_tests), unfolding(buffer::specs::Given::written))]
+fn write_behind(front: &[u8], number: usize, share: &[u8], path: &[u8], out: &mut [u8]) -> Written
+    requires { (length front.now ≤ 2) × (number < 256) × (length share.now ≤ max_share) × (length path.now ≤ 32 * max_path) }
+    ensures { gave (said result) out.new ≡ written (front.now ++ laid number share.now path.now) out.old }
+{
+    let from = front.len() + 4;
+    let end = from + share.len();
+    let need = end + path.len();
     if out.len() < need {
-        return Written::Short(need);
+        return Err(Refusal::Short(need));
     }
-    let head = [(size / 256 % 256) as u8, (size % 256) as u8];
-    buffer::put(out, 0, &head);
-    write_fields(number, share, path, count, out, 2);
-    Written::Done(need)
-}
-
-// The map, the number, the length and the share, and the path, from place at on.
-fn write_fields(
-    number: usize,
-    share: &[u8],
-    path: [Hash; MAX_PATH],
-    count: usize,
-    out: &mut [u8],
-    at: usize,
-)
-    requires { (number < 256) × (length share.now ≤ max_entry) × (count ≤ max_path) × (at + (4 + length share.now + 32 * count) ≤ length out.old) }
-    ensures { out.new ≡ spliced out.old at (packet_of number share.now (take count path)) }
-{
-    let len = share.len();
-    let head = [
-        7u8,
-        (number % 256) as u8,
-        (len / 256 % 256) as u8,
-        (len % 256) as u8,
-    ];
-    buffer::put(out, at, &head);
-    buffer::put(out, at + 4, share);
-    write_path(path, count, out, at + 4 + len);
-}
-
-// The first `count` hashes of a path, one behind the other, from place at on.
-fn write_path(path: [Hash; MAX_PATH], count: usize, out: &mut [u8], at: usize)
-    requires { (count ≤ max_path) × (at + 32 * count ≤ length out.old) }
-    ensures { out.new ≡ spliced out.old at (chained (take count path)) }
-{
-    let mut to = at;
-    let mut i: usize = 0;
-    while i < count {
-        let hash = path[i];
-        buffer::put(out, to, &hash);
-        to += 32;
-        i += 1;
-    }
+    let [high, low] = (share.len() as u16).to_be_bytes();
+    buffer::put(out, 0, front);
+    buffer::put(out, front.len(), &[7, number as u8, high, low]);
+    buffer::put(out, from, share);
+    buffer::put(out, end, path);
+    Ok(need)
 }
 
 // An inbox, read entry by entry from a place that it remembers (document 01: the cursor).
@@ -385,8 +273,8 @@ pub fn start<'a>(src: &'a [u8]) -> Reader<'a>
 }
 
 // The packet of the entry at the reader's place, among n parties.
-pub fn next<'a>(r: Reader<'a>, n: usize) -> Packet
-    ensures { told result ≡ told (entry_read n r.entry.src.now r.entry.at).packet }
+pub fn next<'a>(r: Reader<'a>, n: usize) -> Read
+    ensures { told (read_said result) ≡ told (entry_read n r.entry.src.now r.entry.at).packet }
 {
     read_entry(n, r.src, r.at).packet
 }
@@ -401,57 +289,35 @@ pub fn moved<'a>(r: Reader<'a>, n: usize) -> Reader<'a>
     }
 }
 
-// Reads a packet with a whole message. The length that it states is not used before the bytes present are found to be as many.
-pub fn read_message(s: &[u8]) -> MessagePacket
-    ensures { message.told result ≡ message.told (message.placed (read_message s.now)) }
+// Reads a packet with a whole message: how many bytes it has, from byte 3 on, or nothing, which is silence. Cause 10, it is neither. The length that it states is not used before the bytes present are found to be as many.
+#[tactic(auto, using(std::proofs::lemmas::Bool::Decides::nat_tests), unfolding(crate::specs::Message::read_message, crate::specs::Message::message_in))]
+pub fn read_message(s: &[u8]) -> Result<Option<usize>, Cause>
+    ensures { message.told (message_said result) ≡ message.told (message.placed (read_message s.now)) }
 {
-    if s.len() == 0 {
-        return MessagePacket::Silence;
+    match s {
+        [] | [0] => Ok(None),
+        [8, high, low, message @ ..]
+            if usize::from(u16::from_be_bytes([*high, *low])) == message.len()
+                && message.len() <= MAX_MESSAGE => { Ok(Some(message.len())) }
+        _ => Err(Cause::Unreadable),
     }
-    let map = s[0];
-    if map == 8 {
-        return read_length(s);
-    }
-    if map != 0 {
-        return MessagePacket::Refused(10);
-    }
-    if s.len() == 1 {
-        return MessagePacket::Silence;
-    }
-    MessagePacket::Refused(10)
-}
-
-// The same of a packet whose map is 8.
-fn read_length(s: &[u8]) -> MessagePacket
-    ensures { result ≡ message.placed (message.message_in s.now) }
-{
-    if s.len() < 3 {
-        return MessagePacket::Refused(10);
-    }
-    let stated = buffer::size_at(s, 1);
-    if MAX_MESSAGE < stated {
-        return MessagePacket::Refused(10);
-    }
-    if s.len() != 3 + stated {
-        return MessagePacket::Refused(10);
-    }
-    MessagePacket::Message(stated)
 }
 
 // Writes the packet of a message to the start of out.
+#[tactic(auto, using(std::proofs::lemmas::Bool::Decides::nat_tests), unfolding(crate::specs::Message::write_message_of, crate::specs::Message::message_packet, buffer::specs::Given::written))]
 pub fn write_message(message: &[u8], out: &mut [u8]) -> Written
-    ensures { gave result out.new ≡ write_message_of message.now out.old }
+    ensures { gave (said result) out.new ≡ write_message_of message.now out.old }
 {
     let len = message.len();
     if MAX_MESSAGE < len {
-        return Written::Refused(4);
+        return Err(Refusal::Because(Cause::Length));
     }
     let need = 3 + len;
     if out.len() < need {
-        return Written::Short(need);
+        return Err(Refusal::Short(need));
     }
-    let head = [8u8, (len / 256 % 256) as u8, (len % 256) as u8];
-    buffer::put(out, 0, &head);
+    let [high, low] = (len as u16).to_be_bytes();
+    buffer::put(out, 0, &[8, high, low]);
     buffer::put(out, 3, message);
-    Written::Done(need)
+    Ok(need)
 }

@@ -1,99 +1,41 @@
--- `packet::write_entry` meets its contract: the cause, the length needed, or the packet with its length before it at the start of
--- the buffer. Assumes nothing.
-use mathlib.Core.Path.{◌≡◌, sym, ap, ap₂, ◌∙◌}
+-- `packet::write_entry` meets its contract: the cause, or the packet as it is laid down, behind its length. Assumes nothing.
+use mathlib.Core.Path.{◌≡◌, sym, ap, ◌∙◌}
 use mathlib.Core.List.{List}
-use Prim.Native.Nat.{ℕ, ◌+◌, ◌*◌, ◌≤◌}
+use Prim.Native.Nat.{ℕ}
 use native.Mathlib.Omega.{arith}
 use lib.ListN.{length, take}
+use lib.Seq.{length-take-le}
 use Rattle.limits.specs.Limits.{max_path}
-use Rattle.buffer.specs.Given.{gave}
-use Rattle.buffer.specs.Splice.{spliced}
-use Rattle.buffer.specs.declared.Written.TheVariants.{Refused, Short, Done}
-use Rattle.buffer.proofs.Given.{written-short, written-done}
-use Rattle.packet.specs.Format.{packet_of, entry_of}
-use Rattle.packet.specs.Answer.{write_cause}
-use Rattle.packet.proofs.Owned.{array-wide}
-use Rattle.packet.proofs.Parts.{packet-taken, entry-length, entry-joined}
-use Rattle.packet.proofs.Writing.{Fine, fine_of, entry-refused, entry-written}
+use Rattle.buffer.specs.Given.{written}
+use Rattle.packet.proofs.Parts.{entry-laid}
+use Rattle.packet.proofs.Writing.{fine_of, entry-written}
 use borrow.Author.Rules.{rules}
-use Rattle.packet.proofs.write_entry.Lts as lts
-use Rattle.packet.proofs.write_entry.Reads as reads
-use Rattle.packet.proofs.write_entry.Tie as tie
 use Rattle.packet.proofs.write_entry.Goals as goal
 
--- Places of the code that the helpers below speak of.
-abbrev Else-cause-ne0 : Type 0
-Else-cause-ne0 = lts.Else1 tie.the-claims reads.Pre reads.Post
+pub slice_bounds-path-end : goal.slice_bounds-path-end
+slice_bounds-path-end c =
+    let long : length c.args.path ≡ max_path = search rules in
+    omega (arith, fine_of _ _ _ _ c.in_ok-size.ensures.0)
 
-abbrev Start : Type 0
-Start = lts.Start tie.the-claims reads.Pre reads.Post
+pub slice_bounds-as_flattened-end : goal.slice_bounds-as_flattened-end
+slice_bounds-as_flattened-end c =
+    let long : length c.args.path ≡ max_path = search rules in
+    sym (length-take-le c.args.count c.args.path (omega (arith, fine_of _ _ _ _ c.in_ok-size.ensures.0)))
 
--- the function's entry, from where no cause applies
-abbrev Entry : Else-cause-ne0 → Start
-Entry e = e.before.before.before.before
-
-no-cause : (e : Else-cause-ne0) → let a = (Entry e).args in write_cause a.n a.number (length a.share.now) a.count ≡ 0
-no-cause e = sym e.write_cause-cause.ensures ∙ e.if-cause-ne0.false
-
-fine : (e : Else-cause-ne0) → let a = (Entry e).args in Fine a.n a.number (length a.share.now) a.count
-fine e = fine_of _ _ _ _ (no-cause e)
-
-long : (s : Start) → length s.args.path ≡ max_path
-long s = search rules
-
--- how long the packet is
-size : (e : Else-cause-ne0) → let a = (Entry e).args in
-    length (packet_of a.number a.share.now (take a.count a.path)) ≡ 4 + length a.share.now + 32 * a.count
-size e =
-    let s = Entry e in
-    let a = s.args in
-    packet-taken a.number a.share.now a.path a.count (array-wide 32 max_path a.path _ s.well_formed.1.1.1.0)
-    (omega (arith, (fine e).few, long s))
-
-whole : (e : Else-cause-ne0) → let a = (Entry e).args in
-    length (entry_of (packet_of a.number a.share.now (take a.count a.path)))
-    ≡ 4 + length a.share.now + 32 * a.count + 2
-whole e =
-    let a = (Entry e).args in
-    omega (arith, entry-length (packet_of a.number a.share.now (take a.count a.path)), size e)
-
-pub returns-then-cause-ne0 : goal.returns-then-cause-ne0
-returns-then-cause-ne0 c =
-    let a = c.args in
-    let k = c.write_cause-cause.ensures in
-    sym (entry-refused a.n a.number a.share.now a.path a.count a.out.now (λ q. c.if-cause-ne0.true (k ∙ q))
-    ∙ ap (λ (i : ℕ). gave (Refused i) a.out.now) (sym k))
-
-pub overflow_mul-size : goal.overflow_mul-size
-overflow_mul-size c = omega (arith, fine c.before)
-
-pub overflow_add-size-2 : goal.overflow_add-size-2
-overflow_add-size-2 c = omega (arith, fine c.before)
-
-pub overflow_add-need : goal.overflow_add-need
-overflow_add-need c = omega (arith, fine c.before)
-
-pub returns-then-out-need : goal.returns-then-out-need
-returns-then-out-need c =
-    let a = (Entry c.before.before).args in
-    let p = packet_of a.number a.share.now (take a.count a.path) in
-    sym (entry-written a.n a.number a.share.now a.path a.count a.out.now (no-cause c.before.before)
-    ∙ written-short (entry_of p) a.out.now (rw (whole c.before.before) c.if-out-need.true)
-    ∙ ap (λ (n : ℕ). gave (Short n) a.out.now) (whole c.before.before))
-
-pub write_fields-requires : goal.write_fields-requires
-write_fields-requires c =
-    let f = fine c.before.before.before.before.before.before.before.before in
-    (omega (arith, f), omega (arith, f), f.few, omega arith)
+pub write_behind-requires : goal.write_behind-requires
+write_behind-requires c =
+    let f = fine_of _ _ _ _ c.in_ok-size.ensures.0 in
+    let long : length c.args.path ≡ max_path = search rules in
+    let few : length (take c.args.count c.args.path) ≡ c.args.count = length-take-le c.args.count c.args.path (omega arith) in
+    (omega arith, omega arith, omega arith, omega (arith, c.as_flattened-path.ensures.len))
 
 pub returns : goal.returns
 returns c =
-    let a = (Entry c.before.before.before.before.before.before.before.before.before.before.before).args in
-    let p = packet_of a.number a.share.now (take a.count a.path) in
-    let n = 4 + length a.share.now + 32 * a.count in
-    let room : 2 ≤ length a.out.now = omega arith in
-    sym (entry-written a.n a.number a.share.now a.path a.count a.out.now (no-cause c.before.before.before.before.before.before.before.before.before.before.before)
-    ∙ written-done (entry_of p) a.out.now (rw (whole c.before.before.before.before.before.before.before.before.before.before.before) c.if-out-need.false)
-    ∙ ap₂ (λ (k : ℕ) (o : List ℕ). gave (Done k) o) (whole c.before.before.before.before.before.before.before.before.before.before.before)
-    (sym (c.write_fields.ensures ∙ ap (λ (o : List ℕ). spliced o 2 p) c.put.ensures.1
-    ∙ entry-joined a.out.now p n (sym (size c.before.before.before.before.before.before.before.before.before.before.before)) (omega (arith, fine c.before.before.before.before.before.before.before.before.before.before.before)) room)))
+    let a = c.args in
+    let f = fine_of _ _ _ _ c.in_ok-size.ensures.0 in
+    let long : length c.args.path ≡ max_path = search rules in
+    let few : length (take a.count a.path) ≡ a.count = length-take-le a.count a.path (omega arith) in
+    rw c.to_be_bytes.ensures at c.write_behind.ensures
+    ∙ ap (λ (bs : List ℕ). written bs a.out.now)
+    (entry-laid a.number c.in_ok-size.size a.share.now _ _ c.as_flattened-path.ensures.value (omega (arith, c.in_ok-size.ensures.1, c.as_flattened-path.ensures.len)) (omega (arith, c.in_ok-size.ensures.1)))
+    ∙ sym (entry-written a.n a.number a.share.now a.path a.count a.out.now c.in_ok-size.ensures.0)
