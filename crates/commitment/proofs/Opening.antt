@@ -5,7 +5,7 @@ use mathlib.Core.Bool.{Bool, true, false, cond, not}
 use mathlib.Core.List.{List}
 use Prim.Native.Nat.{ℕ, suc, ◌<◌, ◌≤◌}
 use native.Mathlib.Omega.{arith}
-use borrow.Author.Tests.{lt-ltb, le-ltb, eq-eqb, ne_eqb, ltb-false, eqb-true, eqb-false, not-false}
+use borrow.Author.Tests.{lt-ltb, le-ltb, eq-eqb, ltb-false, eqb-true, eqb-false, not-false}
 use lib.Dec.{ltb, eqb}
 use lib.ListN.{length}
 use Rattle.limits.specs.Limits.{max_message, numbered, group_cause}
@@ -29,25 +29,16 @@ cleared k r e = go (eqb k 0) refl e
 
 -- causes 1 to 4 of an opening
 module _ (n t own len : ℕ) where
-  pub open-group : (group_cause n t ≡ 0 → ⊥) → open_cause n t own len ≡ group_cause n t
-  unfolding open_cause
-  open-group h = rw (ne_eqb (group_cause n t) 0 h)
-
-  module _ (group : group_cause n t ≡ 0) where
-    pub open-number : numbered n own ≡ false → open_cause n t own len ≡ 3
+  module _ (group : group_cause n t ≡ 0) (first : 1 ≤ own) (last : own ≤ n) where
+    pub open-long : max_message < len → open_cause n t own len ≡ 4
     unfolding open_cause
-    open-number h = rw (eq-eqb (group_cause n t) 0 group, h)
+    open-long h =
+        rw (eq-eqb (group_cause n t) 0 group, numbered_within n own first last, lt-ltb max_message len h)
 
-    module _ (first : 1 ≤ own) (last : own ≤ n) where
-      pub open-long : max_message < len → open_cause n t own len ≡ 4
-      unfolding open_cause
-      open-long h =
-          rw (eq-eqb (group_cause n t) 0 group, numbered_within n own first last, lt-ltb max_message len h)
-
-      pub open-fine : len ≤ max_message → open_cause n t own len ≡ 0
-      unfolding open_cause
-      open-fine h =
-          rw (eq-eqb (group_cause n t) 0 group, numbered_within n own first last, le-ltb max_message len h)
+    pub open-fine : len ≤ max_message → open_cause n t own len ≡ 0
+    unfolding open_cause
+    open-fine h =
+        rw (eq-eqb (group_cause n t) 0 group, numbered_within n own first last, le-ltb max_message len h)
 
   -- with no message only causes 1 to 3 are left, and they are those of any length
   pub open-seat : (open_cause n t own 0 ≡ 0 → ⊥) → open_cause n t own len ≡ open_cause n t own 0

@@ -3,71 +3,41 @@
 use mathlib.Core.Path.{◌≡◌, refl, sym, ap, ◌∙◌}
 use mathlib.Core.Bool.{true≢false}
 use mathlib.Core.List.{List, [], ◌∷◌, ◌++◌}
-use Prim.Native.Nat.{ℕ, zero, suc, ◌+◌, ◌-◌, ◌*◌, ◌≤◌}
+use Prim.Native.Nat.{ℕ, zero, suc, ◌+◌, ◌-◌, ◌≤◌, ◌<◌}
 use native.Mathlib.Nat.{add-zero, zero-add}
-use native.Mathlib.Decide.{ℕ_discrete}
 use native.Mathlib.Numerals.{add-one}
 use native.Mathlib.Omega.{arith}
 use borrow.Author.Tests.{eq-eqb, ne_eqb}
 use lib.ListN.{length, take, length-append}
-use Rattle.limits.specs.Limits.{max_parties, max_path, max_share}
+use Rattle.limits.specs.Limits.{max_parties, max_share}
 use Rattle.limits.proofs.Ranges.{numbered_within}
 use Rattle.buffer.specs.Splice.{spliced}
 use Rattle.buffer.proofs.Splice.{spliced-more}
 use Rattle.buffer.specs.Given.{gave, written}
-use Rattle.buffer.specs.declared.Written.TheVariants as goal
+use Rattle.buffer.specs.Given as goal
 use Rattle.buffer.proofs.Given.{written-done}
 use Rattle.merkle.specs.Shares.{sides_of, path_of, path_length_of}
-use Rattle.merkle.specs.Answer.{counted}
-use Rattle.merkle.specs.declared.Counted.{Counted}
-use Rattle.merkle.specs.declared.Counted.TheVariants.{Refused}
-use Rattle.merkle.proofs.Descend.{sides-fit}
+use Rattle.std.specs.Prelude.{Result, Ok, Err, IsOk}
+use Rattle.cause.specs.Cause.{number}
+use Rattle.cause.specs.declared.Cause.{Cause}
+use Rattle.merkle.specs.Answer.{count_said, counted}
+use Rattle.merkle.specs.Answer.{Counted}
+use Rattle.merkle.specs.Answer.{Uncounted}
 use Rattle.packet.specs.Format.{packet_of, entry_of}
 use Rattle.packet.specs.Answer.{write_entry_of}
 use Rattle.packet.proofs.Reading.{count-refused}
 use Rattle.packet.proofs.Writing.{cause-fine, entry-written}
-use Rattle.commitment.specs.Private.{entry_with, entry_for, outbox_up_to, entry_length, outbox_length}
-
--- the length of an entry
-module _ (n own s j : ℕ) where
-  pub length-own : j ≡ own → entry_length n own s j ≡ 2
-  unfolding entry_length
-  length-own e = rw (eq-eqb j own e)
-
-  pub length-other : (j ≡ own → ⊥) → entry_length n own s j ≡ 2 + 4 + s + 32 * length (sides_of n j)
-  unfolding entry_length
-  length-other e = rw (ne_eqb j own e)
-
-  length-fits : n ≤ max_parties → 1 ≤ j → j ≤ n → s ≤ max_share → entry_length n own s j ≤ 2 + 4 + max_share + 32 * max_path
-  length-fits high first last short =
-      elim (ℕ_discrete j own) [
-        | yes e ↦ omega (arith, length-own e)
-        | no e ↦ omega (arith, length-other e, sides-fit n (j - 1) high (omega arith))
-      ]
+use Rattle.commitment.specs.Private.{entry_with, entry_for, outbox_up_to}
 
 -- a party's number is never refused a path
 pub never-refused : (n j : ℕ) → 1 ≤ n → n ≤ max_parties → 1 ≤ j → j ≤ n
-    → (r : Counted) → counted r ≡ path_length_of n j → (k : ℕ) → r ≡ Refused k → ⊥
+    → (r : Counted) → counted r ≡ path_length_of n j → (k : ℕ) → r ≡ Uncounted k → ⊥
 never-refused n j low high first last r told k e =
     true≢false (sym (numbered_within n j first last) ∙ count-refused n j low high r told k e)
 
--- the length of the outbox
-module _ (n own s : ℕ) where
-  pub length_none : outbox_length 0 n own s ≡ 0
-  unfolding outbox_length
-  length_none = refl
-
-  pub length_more : (k : ℕ) → outbox_length (k + 1) n own s ≡ outbox_length k n own s + entry_length n own s (k + 1)
-  unfolding outbox_length
-  length_more k =
-      ap (λ (m : ℕ). outbox_length m n own s) (add-one k)
-      ∙ ap (λ (m : ℕ). outbox_length k n own s + entry_length n own s m) (sym (add-one k))
-
-  pub length-small : n ≤ max_parties → s ≤ max_share → (k : ℕ) → k ≤ n → outbox_length k n own s ≤ (2 + 4 + max_share + 32 * max_path) * k
-  unfolding outbox_length
-  length-small high short zero h = omega arith
-  length-small high short (suc k) h =
-      omega (arith, length-small high short k (omega arith), length-fits n own s (suc k) high (omega arith) h short)
+pub path-counts : (n j : ℕ) → 1 ≤ n → n ≤ max_parties → 1 ≤ j → j ≤ n → (r : Result ℕ Cause) → counted (count_said r) ≡ path_length_of n j → IsOk r
+path-counts n j low high first last (Ok k) told = refl
+path-counts n j low high first last (Err c) told = absurd (never-refused n j low high first last (count_said (Err c)) told (number c) refl)
 
 module _ (H : List ℕ → List ℕ) where
   -- an entry
@@ -123,6 +93,18 @@ module _ (H : List ℕ → List ℕ) where
           outbox-grows k m,
           ap (λ (i : ℕ). length (outbox_up_to H i n own s shares leaves)) next,
           length-append (outbox_up_to H (k + m) n own s shares leaves) (entry_for H n own s shares leaves (suc (k + m))),
+        )
+
+    -- where all have room, one more has room behind those that were written
+    pub outbox_room : (k len : ℕ) → k < n → length (outbox_up_to H n n own s shares leaves) ≤ len
+        → length (outbox_up_to H k n own s shares leaves) + length (entry_for H n own s shares leaves (k + 1)) ≤ len
+    outbox_room k len l h =
+        let rest : k + 1 + (n - (k + 1)) ≡ n = omega arith in
+        omega (
+          arith,
+          ap (λ (i : ℕ). length (outbox_up_to H i n own s shares leaves)) rest,
+          outbox-grows (k + 1) (n - (k + 1)),
+          outbox-length k,
         )
 
     -- one entry more behind those that were written

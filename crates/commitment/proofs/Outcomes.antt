@@ -8,20 +8,15 @@ use borrow.Author.Tests.{eq-eqb, ne_eqb, eqb-true}
 use lib.Dec.{eqb}
 use lib.ListN.{length, take, drop}
 use Rattle.buffer.specs.Given.{gave, written}
-use Rattle.buffer.specs.declared.Written.TheVariants.{Refused, Done}
+use Rattle.buffer.specs.Given.{Done}
 use Rattle.merkle.specs.Shares.{blank, sides_of, path_of, same}
 use Rattle.packet.specs.Format.{packet_of}
 use Rattle.commitment.specs.Commitment.{open_cause, message_root, rooted_of, sending, mail_with, send_of}
 use Rattle.commitment.specs.Private.{relay_for}
-use Rattle.merkle.specs.declared.Rooted.{Rooted}
+use Rattle.merkle.specs.Answer.{Rooted}
 
 module _ (H : List ℕ → List ℕ) where
   module _ (session n t own : ℕ) (m : List ℕ) where
-    pub rooted-refused : (open_cause n t own (length m) ≡ 0 → ⊥)
-        → rooted_of H session n t own m ≡ record { cause = open_cause n t own (length m); root = blank }
-    unfolding rooted_of
-    rooted-refused h = rw (ne_eqb (open_cause n t own (length m)) 0 h)
-
     pub rooted-given : open_cause n t own (length m) ≡ 0 → rooted_of H session n t own m ≡ record { cause = 0; root = message_root H session n t m }
     unfolding rooted_of
     rooted-given h = rw (eq-eqb (open_cause n t own (length m)) 0 h)
@@ -38,11 +33,6 @@ module _ (H : List ℕ → List ℕ) where
         go false e = refl
 
     module _ (relays : Bool) (z out : List ℕ) where
-      pub send-refused : (open_cause n t own (length m) ≡ 0 → ⊥)
-          → send_of H session relays n t own m z out ≡ sending false (gave (Refused (open_cause n t own (length m))) out)
-      unfolding send_of
-      send-refused h = rw (ne_eqb (open_cause n t own (length m)) 0 h)
-
       module _ (fine : open_cause n t own (length m) ≡ 0) where
         pub send-other : same (message_root H session n t m) z ≡ false → send_of H session relays n t own m z out ≡ sending false (gave (Done 0) out)
         unfolding send_of

@@ -13,8 +13,11 @@ use lib.Seq.{take_all, take-append-le, drop-append-le, drop_at}
 use Rattle.limits.specs.Limits.{max_parties, max_message, max_share}
 use Rattle.limits.proofs.Group.{group-fine}
 use Rattle.buffer.specs.Splice.{spliced}
-use Rattle.buffer.specs.Given.{gave}
-use Rattle.buffer.specs.declared.Written.TheVariants.{Done}
+use Rattle.std.specs.Prelude.{Result, Ok}
+use Rattle.cause.specs.declared.Refusal.{Refusal}
+use Rattle.buffer.specs.Given.{Given, gave, said}
+use Rattle.buffer.proofs.Splice.{take-spliced}
+use Rattle.buffer.specs.Given.{Done}
 use Rattle.buffer.proofs.Given.{written-done}
 use Rattle.buffer.proofs.Rows.{row_inside}
 use Rattle.erasure.specs.Coding.{share_length, share, shares, frame, encode_of}
@@ -25,6 +28,8 @@ use Rattle.merkle.specs.Shares.{shares_cause, same}
 use Rattle.merkle.proofs.Judged.{cause-fine, same_true, same_refl}
 use Rattle.merkle.proofs.Written.{front-short}
 use Rattle.commitment.specs.Rooms.{max_shares}
+use Rattle.commitment.specs.Private.{Coded}
+use Rattle.commitment.proofs.Answers.{said-done}
 
 -- share j of n lies within the shares
 pub share-inside : (n j s : ℕ) → 1 ≤ j → j ≤ n → (j - 1) * s + s ≤ n * s
@@ -81,6 +86,26 @@ module _ (n t : ℕ) (m out : List ℕ) (low : 1 ≤ n) (high : n ≤ max_partie
       encode-written n t m out (group-fine n t low high faults) short
       ∙ written-done (shares n (n - t) m) out
       (omega (arith, length-shares n (n - t) m, shares-bound n t (length m) faults high short))
+
+-- so encoding is not refused, and the array's first bytes are the shares
+module _ (n t : ℕ) (m out : List ℕ) (c : Coded n t m) (e : length out ≡ max_shares) (r : Result ℕ Refusal) (o : List ℕ)
+    (given : gave (said r) o ≡ encode_of n t m out) where
+  abbrev all : List ℕ
+  all = shares n (n - t) m
+
+  coded : gave (said r) o ≡ gave (Done (length all)) (spliced out 0 all)
+  coded = given ∙ encoded n t m out c.low c.high c.faults c.short e
+
+  pub coded-ok : r ≡ Ok (length all)
+  coded-ok = said-done r (length all) (ap (λ (g : Given). g.answer) coded)
+
+  pub coded_in : (k : ℕ) → r ≡ Ok k → (k ≤ max_shares) × (take k o ≡ shares n (n - t) m)
+  coded_in k q =
+      let both : Ok k ≡ Ok (length all) = sym q ∙ coded-ok in
+      let size : k ≡ length all = cc in (
+        omega (arith, length-shares n (n - t) m, shares-bound n t (length m) c.faults c.high c.short),
+        ap (take k) (ap (λ (g : Given). g.buffer) coded) ∙ ap (λ (i : ℕ). take i (spliced out 0 all)) size ∙ take-spliced out all,
+      )
 
 agree : (r v : Bool) → (r ≡ true → v ≡ true) → (v ≡ true → r ≡ true) → r ≡ v
 agree true v p q = sym (p refl)

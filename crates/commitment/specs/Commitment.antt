@@ -4,13 +4,13 @@ use Rattle.std.specs.Prelude.{Bool, true, false, cond, not, List, [], ℕ, ◌+�
 use Rattle.limits.specs.Limits.{max_message, numbered, group_cause}
 use Rattle.buffer.specs.Splice.{tabulate}
 use Rattle.buffer.specs.Given.{Given, gave, written}
-use Rattle.buffer.specs.declared.Written.TheVariants.{Refused, Done}
+use Rattle.buffer.specs.Given.{Refused, Done}
 use Rattle.erasure.specs.Coding.{share, shares}
 use Rattle.merkle.specs.Shares.{blank, sides_of, leaves_of, root_of, path_of, same}
 use Rattle.packet.specs.Format.{packet_of}
 use Rattle.packet.specs.Inbox.{inbox_of}
-use Rattle.merkle.specs.declared.Rooted.{Rooted}
-use Rattle.commitment.specs.declared.Sent.{Sent}
+use Rattle.merkle.specs.Answer.{Rooted}
+use Rattle.commitment.specs.Sent.{Sent}
 
 -- causes 1, 2, 3, 4 of n, t, a party's own number and its message's length; 0: none
 unfoldable pub open_cause : ℕ → ℕ → ℕ → ℕ → ℕ

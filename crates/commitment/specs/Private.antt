@@ -1,5 +1,5 @@
 -- What the private functions suppose and give. The hash of the tree is a parameter H. No public contract cites this file. Assumes nothing.
-use Rattle.std.specs.Prelude.{cond, List, [], ◌++◌, ℕ, zero, suc, ◌+◌, ◌-◌, ◌*◌, ◌≤◌, ◌<◌, eqb, length, take, drop}
+use Rattle.std.specs.Prelude.{cond, List, [], ◌++◌, ℕ, zero, suc, ◌-◌, ◌*◌, ◌≤◌, ◌<◌, eqb, length, take, drop}
 use Rattle.limits.specs.Limits.{max_parties, max_message}
 use Rattle.merkle.specs.Shares.{sides_of, path_of}
 use Rattle.packet.specs.Format.{packet_of, entry_of}
@@ -30,11 +30,3 @@ module _ (H : List ℕ → List ℕ) where
   unfoldable pub outbox_up_to : ℕ → ℕ → ℕ → ℕ → List ℕ → List (List ℕ) → List ℕ
   outbox_up_to zero n own s shares leaves = []
   outbox_up_to (suc k) n own s shares leaves = outbox_up_to k n own s shares leaves ++ entry_for n own s shares leaves (suc k)
-
--- how long they are
-unfoldable pub entry_length : ℕ → ℕ → ℕ → ℕ → ℕ
-entry_length n own s j = cond (eqb j own) 2 (2 + 4 + s + 32 * length (sides_of n j))
-
-unfoldable pub outbox_length : ℕ → ℕ → ℕ → ℕ → ℕ
-outbox_length zero n own s = 0
-outbox_length (suc k) n own s = outbox_length k n own s + entry_length n own s (suc k)

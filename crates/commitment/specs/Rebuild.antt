@@ -4,7 +4,7 @@ use Rattle.std.specs.Prelude.{cond, not, List, [], ℕ, ◌-◌, eqb, length}
 use Rattle.limits.specs.Limits.{group_cause}
 use Rattle.buffer.specs.Entries.{fills, bodies}
 use Rattle.buffer.specs.Given.{Given, gave}
-use Rattle.buffer.specs.declared.Written.TheVariants.{Refused}
+use Rattle.buffer.specs.Given.{Refused}
 use Rattle.erasure.specs.Coding.{shares}
 use Rattle.erasure.specs.Rebuild.{Recovered, cause, message, present, recovered, answered}
 use Rattle.merkle.specs.Shares.{same, coding_strings}

@@ -2,21 +2,28 @@
 // if it has the root given. The message is coded, and each hash of its tree made, once a call.
 #![tactic(auto)]
 
-ghost use Rattle.std.specs.Prelude.{◌≡◌, ◌-◌, ◌*◌, ◌≤◌, length, take};
+ghost use Rattle.std.specs.Prelude.{◌≡◌, ◌+◌, ◌-◌, ◌*◌, ◌≤◌, length, take, drop};
 ghost use Rattle.sha256.specs.Sha256.{sha256};
-ghost use Rattle.limits.specs.Limits.{max_parties, max_message, max_share};
+ghost use Rattle.limits.specs.Limits.{max_parties, max_path, max_share};
 ghost use Rattle.buffer.specs.Splice.{spliced};
-ghost use Rattle.buffer.specs.Given.{gave, written};
-ghost use Rattle.erasure.specs.Coding.{share_length, shares};
-ghost use Rattle.merkle.specs.Shares.{leaves_of, nodes_of};
+ghost use Rattle.cause.specs.Cause.{cause_of};
+ghost use Rattle.buffer.specs.Given.{said, gave, written};
+ghost use Rattle.erasure.specs.Coding.{shares};
+ghost use Rattle.merkle.specs.Answer.{root_said};
+ghost use Rattle.merkle.specs.Shares.{sides_of, leaves_of, nodes_of};
 ghost use Rattle.commitment.specs.Commitment.{open_cause, rooted_of, sent, send_of};
+ghost use Rattle.commitment.specs.Sent.{sent_said};
 ghost use Rattle.commitment.specs.Rebuild.{rebuild_with_root_of};
-ghost use Rattle.commitment.specs.Rooms.{max_shares};
-ghost use Rattle.commitment.specs.Private.{Coded, relay_for, entry_with, entry_length, outbox_up_to, outbox_length};
+ghost use Rattle.commitment.specs.Private.{Coded};
+ghost use Rattle.commitment.specs.Mail.{relay, entry, outbox, mail};
+
+mod shares;
 
 use buffer::Written;
+use cause::{Cause, Refusal};
 use limits::{MAX_MESSAGE, MAX_PARTIES, MAX_PATH, MAX_SHARE};
-use merkle::{Counted, Hash, Rooted};
+use merkle::Hash;
+use shares::Shares;
 
 // The greatest length of all shares of a message together: n is less than 2·b, and b·s less than the message with its length and b.
 const MAX_SHARES: usize = 2 * (MAX_SHARE + MAX_PARTIES);
@@ -28,7 +35,7 @@ pub const MAX_PACKET: usize = 4 + MAX_SHARE + 32 * MAX_PATH;
 pub const MAX_OUTBOX: usize = MAX_SHARES + MAX_PARTIES * (6 + 32 * MAX_PATH);
 
 // Where a party sits: the session's number (document 02, No. 6: the sitting's), how many parties there are, how many of them may be bad, and its own number.
-#[derive(Clone, Copy)]
+#[derive(Clone, Copy, Debug, PartialEq, Eq)]
 pub struct Seat {
     pub session: u32,
     pub n: usize,
@@ -36,76 +43,55 @@ pub struct Seat {
     pub own: usize,
 }
 
-// What a party sends once a root is agreed: whether its message has that root, and how many bytes were written.
-#[derive(Clone, Copy)]
-pub struct Sent {
-    pub happy: bool,
-    pub answer: Written,
-}
-
-// How many bytes a message's shares have: together, and each.
-#[derive(Clone, Copy)]
-struct Lengths {
-    size: usize,
-    len: usize,
-}
-
 // The root that a party in this seat puts into the short agreement for its message, or the cause for which there is none.
-pub fn root(seat: Seat, message: &[u8]) -> Rooted
-    ensures { result ≡ rooted_of sha256 seat.session seat.n seat.t seat.own message.now }
+#[tactic(auto, using(std::proofs::lemmas::Bool::Decides::nat_tests), unfolding(crate::specs::Commitment::rooted_of))]
+pub fn root(seat: Seat, message: &[u8]) -> Result<Hash, Cause>
+    ensures { root_said result ≡ rooted_of sha256 seat.session seat.n seat.t seat.own message.now }
 {
     let Seat { session, n, t, own } = seat;
-    let cause = open_cause(n, t, own, message.len());
-    if cause != 0 {
-        return Rooted {
-            cause,
-            root: [0; 32],
-        };
-    }
-    let mut bytes = blank();
-    let Lengths { size, .. } = code(n, t, message, &mut bytes);
-    let leaves = merkle::leaves(session, n, &bytes[..size]);
+    check_opening(n, t, own, message.len())?;
+    let mut room: [u8; MAX_SHARES] = blank();
+    let shares = code(n, t, message, &mut room);
+    let leaves = merkle::leaves(session, n, shares);
     merkle::root(n, &leaves)
 }
 
 // What a party sends whose message has the agreed root: in step 4 its relay, the packet with its own share, but none where it is alone; or else, in
-// step 3 on bit 1, its outbox, for each other party a packet with its share.
-pub fn send(relays: bool, seat: Seat, message: &[u8], root: &Hash, out: &mut [u8]) -> Sent
-    ensures { sent result out.new
+// step 3 on bit 1, its outbox, for each other party a packet with its share. The answer is the length written, or none if the message has another root.
+#[tactic(auto, using(std::proofs::lemmas::Bool::Decides::nat_tests), unfolding(crate::specs::Commitment::send_of))]
+pub fn send(
+    relays: bool,
+    seat: Seat,
+    message: &[u8],
+    root: &Hash,
+    out: &mut [u8],
+) -> Result<Option<usize>, Refusal>
+    ensures { sent (sent_said result) out.new
         ≡ send_of sha256 seat.session relays seat.n seat.t seat.own message.now root.now out.old }
 {
     let Seat { session, n, t, own } = seat;
-    let cause = open_cause(n, t, own, message.len());
-    if cause != 0 {
-        return Sent {
-            happy: false,
-            answer: Written::Refused(cause),
-        };
-    }
-    let mut bytes = blank();
-    let Lengths { size, len } = code(n, t, message, &mut bytes);
-    let leaves = merkle::leaves(session, n, &bytes[..size]);
+    check_opening(n, t, own, message.len())?;
+    let mut room: [u8; MAX_SHARES] = blank();
+    let all = code(n, t, message, &mut room);
+    let leaves = merkle::leaves(session, n, all);
     let nodes = merkle::nodes(n, &leaves);
-    let top = merkle::root_in(n, &leaves, &nodes).root;
+    let top = merkle::root_in(n, &leaves, &nodes).unwrap();
     if !check::same(&top, root) {
-        return Sent {
-            happy: false,
-            answer: Written::Done(0),
-        };
+        return Ok(None);
     }
-    if relays {
-        return Sent {
-            happy: true,
-            answer: put_relay(seat, len, &bytes[..size], &leaves, &nodes, out),
-        };
-    }
-    Sent {
-        happy: true,
-        answer: put_outbox(seat, len, &bytes[..size], &leaves, &nodes, out),
-    }
+    let shares = Shares {
+        seat,
+        len: all.len() / n,
+        all,
+        leaves: &leaves,
+        nodes: &nodes,
+    };
+    let len = shares.put(relays, out)?;
+    Ok(Some(len))
 }
 
 // Writes the message that n entries give, if its root is the one given: it is coded again before a byte is written.
+#[tactic(auto, using(std::proofs::lemmas::Bool::Decides::nat_tests), unfolding(crate::specs::Rebuild::rebuild_with_root_of))]
 pub fn rebuild_with_root(
     session: u32,
     n: usize,
@@ -114,206 +100,161 @@ pub fn rebuild_with_root(
     entries: &[u8],
     out: &mut [u8],
 ) -> Written
-    ensures { gave result out.new
+    ensures { gave (said result) out.new
         ≡ rebuild_with_root_of sha256 session n t given.now entries.now out.old }
 {
-    let cause = limits::group_cause(n, t);
-    if cause != 0 {
-        return Written::Refused(cause);
-    }
+    limits::check_group(n, t)?;
     if given.len() != 32 {
-        return Written::Refused(7);
+        return Err(Refusal::Because(Cause::Argument));
     }
-    let mut message = blank_message();
-    let answer = erasure::rebuild(n, t, entries, &mut message);
-    let Written::Done(len) = answer else {
-        return answer;
-    };
+    let mut message: [u8; MAX_MESSAGE] = blank();
+    let len = erasure::rebuild(n, t, entries, &mut message)?;
     let seat = Seat {
         session,
         n,
         t,
         own: 1,
     };
-    let coded = root(seat, &message[..len]).root;
-    if check::same(&coded, given) {
-        return buffer::give(&message[..len], out);
+    let coded = root(seat, &message[..len]).unwrap();
+    if !check::same(&coded, given) {
+        return Err(Refusal::Because(Cause::OtherRoot));
     }
-    Written::Refused(15)
+    buffer::give(&message[..len], out)
 }
 
-// Why a party with this number and a message of `len` bytes is not opened: cause 1, 2, 3 or 4, or 0.
-pub fn open_cause(n: usize, t: usize, own: usize, len: usize) -> u8
-    ensures { result ≡ open_cause n t own len }
+// Whether a party with this number and a message of `len` bytes is opened; cause 1, 2, 3 or 4.
+#[tactic(auto, using(std::proofs::lemmas::Bool::Decides::nat_tests), unfolding(limits::specs::Limits::numbered, crate::specs::Commitment::open_cause))]
+pub fn check_opening(n: usize, t: usize, own: usize, len: usize) -> Result<(), Cause>
+    ensures { cause_of result ≡ open_cause n t own len }
 {
-    let cause = limits::group_cause(n, t);
-    if cause != 0 {
-        return cause;
-    }
+    limits::check_group(n, t)?;
     if !limits::numbered(n, own) {
-        return 3;
+        return Err(Cause::Number);
     }
     if MAX_MESSAGE < len {
-        return 4;
+        return Err(Cause::Length);
     }
-    0
+    Ok(())
 }
 
-// Room for all shares of a message, in a function of its own: its callers' proofs then meet its length and not its bytes.
-fn blank() -> [u8; MAX_SHARES]
-    ensures { length result ≡ max_shares }
+// Room for N bytes, in a function of its own: its callers' proofs then meet its length and not its bytes.
+fn blank<const N: usize>() -> [u8; N]
+    ensures { length result ≡ N }
 {
-    [0; MAX_SHARES]
+    [0; N]
 }
 
-// Room for any message.
-fn blank_message() -> [u8; MAX_MESSAGE]
-    ensures { length result ≡ max_message }
+// The shares of a message, one behind the other, where there is room for all shares of any.
+fn code<'a>(n: usize, t: usize, message: &[u8], room: &'a mut [u8; MAX_SHARES]) -> &'a [u8]
+    requires { Coded n t message.now }
+    ensures { result.now ≡ shares n (n - t) message.now }
 {
-    [0; MAX_MESSAGE]
+    let size = erasure::encode(n, t, message, room).unwrap();
+    &room[..size]
 }
 
-// Writes the shares of a message, one behind the other, where there is room for all shares of any.
-fn code(n: usize, t: usize, message: &[u8], out: &mut [u8]) -> Lengths
-    requires { Coded n t message.now × (length out.old ≡ max_shares) }
-    ensures { (result.size ≤ max_shares) × (take result.size out.new ≡ shares n (n - t) message.now)
-        × (result.len ≡ share_length (n - t) (length message.now)) × (result.size ≡ n * result.len) }
+// How many hashes the path of a party's number has.
+fn path_len(n: usize, j: usize) -> usize
+    requires { (1 ≤ n) × (n ≤ max_parties) × (1 ≤ j) × (j ≤ n) }
+    ensures { (result ≡ length (sides_of n j)) × (result ≤ max_path) }
 {
-    let Written::Done(size) = erasure::encode(n, t, message, out) else {
-        return Lengths { size: 0, len: 0 };
-    };
-    Lengths {
-        size,
-        len: size / n,
+    merkle::path_length(n, j).unwrap()
+}
+
+impl Shares<'_> {
+    // Share j.
+    fn share(&self, j: usize) -> &[u8]
+        requires { (1 ≤ j) × (j ≤ self.now.seat.n) }
+        ensures { result.now ≡ take self.now.len (drop ((j - 1) * self.now.len) self.now.all.now) }
+    {
+        let from = (j - 1) * self.len;
+        let end = from + self.len;
+        &self.all[from..end]
     }
-}
 
-// The packet with the own share, if there are others.
-fn put_relay(
-    seat: Seat,
-    len: usize,
-    shares: &[u8],
-    leaves: &[Hash; MAX_PARTIES],
-    nodes: &[Hash; MAX_PARTIES],
-    out: &mut [u8],
-) -> Written
-    requires { (1 ≤ seat.n) × (seat.n ≤ max_parties) × (1 ≤ seat.own) × (seat.own ≤ seat.n) × (1 ≤ len) × (len ≤ max_share) × (seat.n * len ≤ length shares.now)
-        × (nodes.now ≡ nodes_of sha256 seat.n leaves.now) }
-    ensures { gave result out.new ≡ written (relay_for sha256 seat.n seat.own len shares.now leaves.now) out.old }
-{
-    let Seat { n, own, .. } = seat;
-    if n == 1 {
-        return Written::Done(0);
+    // The relay, or else the outbox.
+    fn put(&self, relays: bool, out: &mut [u8]) -> Written
+        ensures { gave (said result) out.new ≡ written (mail relays self.now) out.old }
+    {
+        if relays {
+            self.put_relay(out)
+        } else {
+            self.put_outbox(out)
+        }
     }
-    let Counted::Hashes(count) = merkle::path_length(n, own) else {
-        return Written::Refused(3);
-    };
-    let path = merkle::path_in(n, own, leaves, nodes);
-    let from = (own - 1) * len;
-    let end = from + len;
-    packet::write(n, own, &shares[from..end], path, count, out)
-}
 
-// The outbox with packets for all parties but one, each with its share of `len` bytes and the path of that share.
-fn put_outbox(
-    seat: Seat,
-    len: usize,
-    shares: &[u8],
-    leaves: &[Hash; MAX_PARTIES],
-    nodes: &[Hash; MAX_PARTIES],
-    out: &mut [u8],
-) -> Written
-    requires { (1 ≤ seat.n) × (seat.n ≤ max_parties) × (1 ≤ len) × (len ≤ max_share) × (length shares.now ≡ seat.n * len)
-        × (leaves.now ≡ leaves_of sha256 seat.session seat.n shares.now) × (nodes.now ≡ nodes_of sha256 seat.n leaves.now) }
-    ensures { gave result out.new
-        ≡ written (outbox_up_to sha256 seat.n seat.n seat.own len shares.now leaves.now) out.old }
-{
-    let Seat { n, own, .. } = seat;
-    let need = outbox_len(n, own, len);
-    if out.len() < need {
-        return Written::Short(need);
+    // The packet with the own share, if there are others.
+    fn put_relay(&self, out: &mut [u8]) -> Written
+        ensures { gave (said result) out.new ≡ written (relay self.now) out.old }
+    {
+        let Seat { n, own, .. } = self.seat;
+        if n == 1 {
+            return Ok(0);
+        }
+        let path = merkle::path_in(n, own, self.leaves, self.nodes);
+        packet::write(n, own, self.share(own), path, path_len(n, own), out)
     }
-    write_outbox(n, own, len, shares, leaves, nodes, out);
-    Written::Done(need)
-}
 
-// Its length.
-fn outbox_len(n: usize, own: usize, share: usize) -> usize
-    requires { (1 ≤ n) × (n ≤ max_parties) × (share ≤ max_share) }
-    ensures { result ≡ outbox_length n n own share }
-{
-    let mut len: usize = 0;
-    let mut j: usize = 0;
-    while j < n {
-        j += 1;
-        len += entry_len(n, own, j, share);
+    // The outbox with packets for all parties but the own one, each with its share and the path of that share.
+    #[tactic(auto, using(std::proofs::lemmas::Bool::Decides::nat_tests), unfolding(buffer::specs::Given::written))]
+    fn put_outbox(&self, out: &mut [u8]) -> Written
+        ensures { gave (said result) out.new ≡ written (outbox self.now) out.old }
+    {
+        let need = self.outbox_len();
+        if out.len() < need {
+            return Err(Refusal::Short(need));
+        }
+        self.write_outbox(out);
+        Ok(need)
     }
-    len
-}
 
-fn entry_len(n: usize, own: usize, j: usize, share: usize) -> usize
-    requires { (1 ≤ n) × (n ≤ max_parties) × (1 ≤ j) × (j ≤ n) × (share ≤ max_share) }
-    ensures { result ≡ entry_length n own share j }
-{
-    if j == own {
-        return 2;
+    // Its length.
+    fn outbox_len(&self) -> usize
+        ensures { result ≡ length (outbox self.now) }
+    {
+        let mut len = 0;
+        for k in 0..self.seat.n {
+            len += self.entry_len(k + 1);
+        }
+        len
     }
-    let Counted::Hashes(count) = merkle::path_length(n, j) else {
-        return 2;
-    };
-    2 + 4 + share + 32 * count
-}
 
-// Its entries, one behind the other.
-fn write_outbox(
-    n: usize,
-    own: usize,
-    len: usize,
-    shares: &[u8],
-    leaves: &[Hash; MAX_PARTIES],
-    nodes: &[Hash; MAX_PARTIES],
-    out: &mut [u8],
-)
-    requires { (1 ≤ n) × (n ≤ max_parties) × (1 ≤ len) × (len ≤ max_share) × (n * len ≤ length shares.now)
-        × (nodes.now ≡ nodes_of sha256 n leaves.now)
-        × (length (outbox_up_to sha256 n n own len shares.now leaves.now) ≤ length out.old) }
-    ensures { out.new ≡ spliced out.old 0 (outbox_up_to sha256 n n own len shares.now leaves.now) }
-{
-    let mut at: usize = 0;
-    let mut j: usize = 0;
-    while j < n {
-        j += 1;
-        let from = (j - 1) * len;
-        let end = from + len;
-        at += write_entry(n, own, j, &shares[from..end], leaves, nodes, &mut out[at..]);
+    // The length of its entry for party j.
+    fn entry_len(&self, j: usize) -> usize
+        requires { (1 ≤ j) × (j ≤ self.now.seat.n) }
+        ensures { (result ≡ length (entry self.now j))
+            × (result ≤ 6 + max_share + 32 * max_path) }
+    {
+        if j == self.seat.own {
+            return 2;
+        }
+        2 + 4 + self.len + 32 * path_len(self.seat.n, j)
     }
-}
 
-// The entry for party j, at the start of out; its length.
-fn write_entry(
-    n: usize,
-    own: usize,
-    j: usize,
-    share: &[u8],
-    leaves: &[Hash; MAX_PARTIES],
-    nodes: &[Hash; MAX_PARTIES],
-    out: &mut [u8],
-) -> usize
-    requires { (1 ≤ n) × (n ≤ max_parties) × (1 ≤ j) × (j ≤ n) × (1 ≤ length share.now) × (length share.now ≤ max_share)
-        × (nodes.now ≡ nodes_of sha256 n leaves.now) × (length (entry_with sha256 n own leaves.now j share.now) ≤ length out.old) }
-    ensures { (result ≡ length (entry_with sha256 n own leaves.now j share.now))
-        × (out.new ≡ spliced out.old 0 (entry_with sha256 n own leaves.now j share.now)) }
-{
-    if j == own {
-        buffer::put(out, 0, &[0, 0]);
-        return 2;
+    // Its entries, one behind the other.
+    fn write_outbox(&self, out: &mut [u8])
+        requires { length (outbox self.now) ≤ length out.old }
+        ensures { out.new ≡ spliced out.old 0 (outbox self.now) }
+    {
+        let mut at = 0;
+        for k in 0..self.seat.n {
+            at += self.write_entry(k + 1, &mut out[at..]);
+        }
     }
-    let Counted::Hashes(count) = merkle::path_length(n, j) else {
-        return 0;
-    };
-    let path = merkle::path_in(n, j, leaves, nodes);
-    let Written::Done(size) = packet::write_entry(n, j, share, path, count, out) else {
-        return 0;
-    };
-    size
+
+    // The entry for party j, at the start of out; its length.
+    fn write_entry(&self, j: usize, out: &mut [u8]) -> usize
+        requires { (1 ≤ j) × (j ≤ self.now.seat.n)
+            × (length (entry self.now j) ≤ length out.old) }
+        ensures { (result ≡ length (entry self.now j))
+            × (out.new ≡ spliced out.old 0 (entry self.now j)) }
+    {
+        let Seat { n, own, .. } = self.seat;
+        if j == own {
+            buffer::put(out, 0, &[0, 0]);
+            return 2;
+        }
+        let path = merkle::path_in(n, j, self.leaves, self.nodes);
+        packet::write_entry(n, j, self.share(j), path, path_len(n, j), out).unwrap()
+    }
 }
