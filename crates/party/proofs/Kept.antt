@@ -1,6 +1,6 @@
 -- What a party's arrays hold, and the forms of its states. A list put at the start of zeros is padded, and one of full length is all there
 -- is; a state whose fields are those of a form is that form. By the laws of writing into a buffer. Assumes nothing.
-use mathlib.Core.Path.{◌≡◌, refl, ap, ◌∙◌}
+use mathlib.Core.Path.{◌≡◌, refl, sym, ap, ◌∙◌}
 use mathlib.Core.List.{List, ◌++◌, append-nil}
 use mathlib.Core.Option.{Option, some}
 use Prim.Native.Nat.{ℕ, ◌-◌, ◌≤◌}
@@ -48,6 +48,22 @@ pub waiting_kept : (s : Seat) (stage : Stage) (bs m r z a y : List ℕ) (len hel
       faulty = f;
     }) (waiting s stage m z y f)
 waiting_kept s stage bs m r z a y len held f e l q p h = rw (e, l, q, p, h)
+
+-- so a party's state does that waits with its own message
+pub waits_on : (x : Party) (stage : Stage) (r z a y : List ℕ) (held f : ℕ) → x.len ≤ max_message → length x.message ≡ max_message → r ≡ z
+    → a ≡ padded max_share y → held ≡ length y
+    → ◌≡◌ {A = Party} (record {
+      seat = x.seat;
+      stage = stage;
+      message = padded max_message (message_in x);
+      len = x.len;
+      root = r;
+      share = a;
+      held = held;
+      faulty = f;
+    }) (waiting x.seat stage (message_in x) z y f)
+waits_on x stage r z a y held f short long q p h =
+    waiting_kept x.seat stage _ (message_in x) r z a y x.len held f refl (sym (length-message x (omega (arith, short, long)))) q p h
 
 -- a state with a result kept has ended
 pub ended-kept : (s : Seat) (r : Result) (f : ℕ) (bs : List ℕ) → bs ≡ padded max_message (result_bytes r)

@@ -11,22 +11,24 @@ use borrow.Author.Tests.{lt-ltb, le-ltb, eq-eqb, ne_eqb}
 use lib.Dec.{ltb, eqb}
 use lib.ListN.{length}
 use Rattle.buffer.specs.Splice.{spliced}
-use Rattle.buffer.specs.Given.{Given, gave, written}
-use Rattle.buffer.specs.declared.Written.{Written}
-use Rattle.buffer.specs.declared.Written.TheVariants as goal
+use Rattle.std.specs.Prelude.{Result as Answered, Ok, Err}
+use Rattle.cause.specs.declared.Refusal.{Refusal}
+use Rattle.cause.specs.declared.Refusal.TheVariants as refusal
+use Rattle.buffer.specs.Given.{Given, Written, said, gave, written}
+use Rattle.buffer.specs.Given as goal
 use Rattle.buffer.proofs.Splice.{spliced-none}
 use Rattle.merkle.specs.Shares.{blank}
 use Rattle.commitment.specs.Rebuild.{under_root}
 use Rattle.party.specs.State.{seat_of, Result, nothing, settled, message_in, at_root, at_first, at_second, at_end, blank_state, message_root, happy}
 use Rattle.party.specs.State.{result_from, result_at, result_in, has_ended}
-use Rattle.party.specs.Steps.{turn_of, open_cause, open_of, root_cause, with_root, agree_root_of, bit_cause, gives, refused, stepped, writes, outbox_of}
+use Rattle.party.specs.Steps.{turn_of, open_cause, open_of, root_cause, with_root, agree_root_of, bit_cause, Stepped, gives, refused, stepped, writes, outbox_of}
 use Rattle.party.specs.Steps.{agree_bit_of, inbox_cause, faulty_shares, taken_by, share_taken, packet_taken, own_relay, relay_of, held_of, take_shares_of}
 use Rattle.party.specs.Steps.{rebuilt, recovered_by, relays_cause, faulty_relays, result_found, result_of, faulty_of, ending, take_relays_of}
 use Rattle.party.specs.Private.{after}
 use Rattle.party.specs.declared.Stage.{Stage}
 use Rattle.party.specs.declared.Stage.TheVariants.{Root, Bit, First, Second, Ended}
 use Rattle.party.specs.declared.Party.{Party}
-use Rattle.party.specs.declared.Answer.TheVariants as answer
+use Rattle.party.specs.Answer as answer
 
 -- a party holds a result exactly if it has ended, and then step 5 is in turn
 module _ (x : Party) where
@@ -154,16 +156,27 @@ module _ (H : List ℕ → List ℕ) where
     unfolding result_found
     found-rebuilt h = rw h
 
+-- what comes of an answer of the writer
+abbrev written_told : Party → Party → Written → List ℕ → Stepped
+written_told x next (goal.Refused k) o = gives x (answer.Refused k) o
+written_told x next (goal.Short k) o = gives x (answer.Short k) o
+written_told x next (goal.Done k) o = gives next (answer.Sent k) o
+
+after-told : (x next : Party) (r : Answered ℕ Refusal) (o : List ℕ) → stepped (after x next r) o ≡ written_told x next (said r) o
+after-told x next (Ok k) o = refl
+after-told x next (Err (refusal.Because c)) o = refl
+after-told x next (Err (refusal.Short k)) o = refl
+
 -- what is sent: the answer of the writer says whether the state is the next one
-pub writes-given : (x next : Party) (bs out : List ℕ) (r : Written) (o : List ℕ) → gave r o ≡ written bs out
+pub writes-given : (x next : Party) (bs out : List ℕ) (r : Answered ℕ Refusal) (o : List ℕ) → gave (said r) o ≡ written bs out
     → stepped (after x next r) o ≡ writes x next bs out
 unfolding written
 writes-given x next bs out r o e =
-    ap (λ (g : Given). stepped (after x next g.answer) g.buffer) e ∙ go (ltb (length out) (length bs))
+    after-told x next r o ∙ ap (λ (g : Given). written_told x next g.answer g.buffer) e ∙ go (ltb (length out) (length bs))
   where
     go : (t : Bool)
         → let g = cond t (gave (goal.Short (length bs)) out) (gave (goal.Done (length bs)) (spliced out 0 bs)) in
-        stepped (after x next g.answer) g.buffer
+        written_told x next g.answer g.buffer
         ≡ cond t (gives x (answer.Short (length bs)) out) (gives next (answer.Sent (length bs)) (spliced out 0 bs))
     go true = refl
     go false = refl

@@ -20,12 +20,12 @@ use Rattle.party.specs.State.{Result, nothing, settled, result_bytes, message_in
 use Rattle.party.specs.State.{result_at, has_ended, overlong}
 use Rattle.party.specs.Steps.{turn_of, open_of, bit_cause, inbox_cause, relays_cause, agree_root_of, outbox_of, agree_bit_of, Taken, missing, found, taken_by}
 use Rattle.party.specs.Steps.{share_taken, faulty_shares, relay_of, held_of, take_shares_of, gathered, recovered_by, rebuilt, result_found, held_or, result_of, faulty_of, ending, take_relays_of, writes, Stepped}
-use Rattle.party.specs.declared.Outcome.TheVariants.{Nothing, Message}
+use Rattle.std.specs.Prelude.{Some, None}
 use Rattle.party.specs.declared.Stage.{Stage}
 use Rattle.party.specs.declared.Stage.TheVariants.{Root, Bit, First, Second, Ended}
 use Rattle.commitment.specs.declared.Seat.{Seat}
 use Rattle.party.specs.declared.Party.{Party}
-use Rattle.party.specs.declared.Opened.{Opened}
+use Rattle.party.specs.Answer.{Opened}
 use Rattle.commitment.specs.Commitment.{open_cause}
 use Rattle.commitment.specs.Rebuild.{under_root}
 use Rattle.commitment.proofs.Opening.{open-fine}
@@ -158,5 +158,5 @@ module _ (H : List ℕ → List ℕ) (x : Party) (whole : broken x ≡ false) wh
       go Bit h f = f
       go First h f = f
       go Second h f = f
-      go (Ended Nothing) h f = omega arith
-      go (Ended (Message l)) h f = omega (arith, length-take l x.message, ltb-false max_message l h)
+      go (Ended None) h f = omega arith
+      go (Ended (Some l)) h f = omega (arith, length-take l x.message, ltb-false max_message l h)

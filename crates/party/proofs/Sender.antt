@@ -1,14 +1,12 @@
 -- The opening by a named sender: its causes, one law for each outcome, and what it gives where none applies, by whether the party is the sender. What a party
 -- reads is never too long, and reads back what a good sender wrote. By the tests of the definitions. Assumes nothing.
-use mathlib.Core.Path.{◌≡◌, refl, sym, ap, subst, ◌∙◌}
+use mathlib.Core.Path.{◌≡◌, refl, sym, ap, ◌∙◌}
 use mathlib.Core.Logic.{◌≢◌}
 use mathlib.Core.Bool.{Bool, true, false, cond, not, ◌&&◌}
-use mathlib.Core.List.{List, [], ◌∷◌}
+use mathlib.Core.List.{List, []}
 use Prim.Native.Nat.{ℕ, ◌+◌, ◌*◌, ◌<◌, ◌≤◌}
 use native.Mathlib.Decide.{ℕ_discrete, dec_lt}
 use native.Mathlib.Omega.{arith}
-use types.Run.{OneOf, miss}
-use denote.Enum.Declared.{tag_of}
 use borrow.Author.Tests.{lt-ltb, le-ltb, eq-eqb, ne_eqb, ltb-false, not-false}
 use lib.Dec.{leb, ltb, eqb, lit<}
 use lib.ListN.{length, take}
@@ -18,9 +16,7 @@ use Rattle.buffer.specs.Bounds.{Bytes}
 use Rattle.buffer.specs.Splice.{spliced}
 use Rattle.buffer.proofs.Splice.{spliced-none, take-spliced}
 use Rattle.buffer.proofs.Bounds.{drop-bytes}
-use Rattle.packet.specs.Message.{max_message_packet, Reading, silence, unreadable, message, message_packet, read_message, placed}
-use Rattle.packet.specs.declared.MessagePacket.{MessagePacket}
-use Rattle.packet.specs.contracts.MessagePacket.{the_type as packet-type}
+use Rattle.packet.specs.Message.{max_message_packet, Reading, silence, unreadable, message, message_packet, read_message}
 use Rattle.packet.proofs.Messages.{packet-length, message-read, whole_of, read_length}
 use Rattle.commitment.specs.Commitment.{open_cause}
 use Rattle.commitment.proofs.Opening.{spared, cleared, open-bounds, open-fine}
@@ -44,12 +40,6 @@ module _ (bs : List ℕ) where
       go silence e = λ i. lit< tt
       go unreadable e = λ i. lit< tt
       go (message m) e = λ i. rw (sym (whole_of bs m e).is) (drop-bytes 3 bs h i)
-
--- where the reader answers with no message, the empty one is taken
-pub unread : (r : Reading) (x : MessagePacket) → x ≡ placed r → OneOf (0 ∷ 1 ∷ []) (tag_of packet-type x) → message_read r ≡ []
-unread silence x e h = refl
-unread unreadable x e h = refl
-unread (message m) x e h = absurd (miss (0 ∷ 1 ∷ []) 2 tt (subst (λ (y : MessagePacket). OneOf (0 ∷ 1 ∷ []) (tag_of packet-type y)) e h))
 
 -- what a party opens with, and sends
 module _ (own sender : ℕ) (bs : List ℕ) where
@@ -92,16 +82,7 @@ pub sent-read : (m : List ℕ) → length m ≤ max_message → message_read (re
 sent-read m h = ap message_read (message-read m h)
 
 module _ (n t own sender : ℕ) (bs : List ℕ) where
-  -- the causes
-  pub cause-seat : (open_cause n t own 0 ≡ 0 → ⊥) → sender_cause n t own sender bs ≡ open_cause n t own 0
-  unfolding sender_cause open_cause
-  cause-seat d = go (eqb (group_cause n t) 0) (numbered n own) refl refl
-    where
-      go : (g o : Bool) → eqb (group_cause n t) 0 ≡ g → numbered n own ≡ o → sender_cause n t own sender bs ≡ open_cause n t own 0
-      go false o e f = rw e
-      go true false e f = rw (e, f)
-      go true true e f = absurd (d (rw (e, f)))
-
+  -- no cause
   module _ (seat : open_cause n t own 0 ≡ 0) where
     group : group_cause n t ≡ 0
     group = (open-bounds n t own 0 seat).0
@@ -109,15 +90,7 @@ module _ (n t own sender : ℕ) (bs : List ℕ) where
     there : numbered n own ≡ true
     there = let b = open-bounds n t own 0 seat in numbered_within n own b.1 b.2
 
-    pub cause-number : numbered n sender ≡ false → sender_cause n t own sender bs ≡ 3
-    unfolding sender_cause
-    cause-number h = rw (eq-eqb (group_cause n t) 0 group, there, h)
-
     module _ (known : numbered n sender ≡ true) where
-      pub cause-long : own ≡ sender → max_message < length bs → sender_cause n t own sender bs ≡ 4
-      unfolding sender_cause
-      cause-long e h = rw (eq-eqb (group_cause n t) 0 group, there, known, eq-eqb own sender e, lt-ltb max_message (length bs) h)
-
       pub cause-none : length (message_by own sender bs) ≤ max_message → sender_cause n t own sender bs ≡ 0
       unfolding sender_cause
       cause-none h =

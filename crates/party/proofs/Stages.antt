@@ -1,25 +1,11 @@
--- The stages at which a party waits, told by their tags: it has not ended, and holds no result whose length could be over the limit. By cases.
--- Assumes nothing.
-use mathlib.Core.Path.{◌≡◌, refl}
-use mathlib.Core.Bool.{false, true≢false}
-use mathlib.Core.List.{[], ◌∷◌}
-use types.Run.{OneOf, miss}
-use denote.Enum.Declared.{tag_of}
-use Rattle.party.specs.State.{has_ended, overlong}
+-- The stages at which a party waits: it has not ended. By cases. Assumes nothing.
+use Rattle.std.proofs.Common.{◌≡◌, ◌⊎◌, inl, inr, false, ap}
+use Rattle.party.specs.State.{has_ended}
 use Rattle.party.specs.declared.Stage.{Stage}
-use Rattle.party.specs.declared.Stage.TheVariants.{Root, Bit, First, Second, Ended}
-use Rattle.party.specs.contracts.Stage.{the_type}
+use Rattle.party.specs.declared.Stage.TheVariants.{Root, Bit, First, Second}
 
-pub waits : (s : Stage) → OneOf (0 ∷ 1 ∷ 2 ∷ 3 ∷ []) (tag_of the_type s) → has_ended s ≡ false
-waits Root h = refl
-waits Bit h = refl
-waits First h = refl
-waits Second h = refl
-waits (Ended r) h = absurd (miss (0 ∷ 1 ∷ 2 ∷ 3 ∷ []) 4 tt h)
-
-pub waits-short : (s : Stage) → has_ended s ≡ false → overlong s ≡ false
-waits-short Root h = refl
-waits-short Bit h = refl
-waits-short First h = refl
-waits-short Second h = refl
-waits-short (Ended r) h = absurd (true≢false h)
+pub waits : (s : Stage) → (s ≡ Root) ⊎ ((s ≡ Bit) ⊎ ((s ≡ First) ⊎ (s ≡ Second))) → has_ended s ≡ false
+waits s (inl e) = ap has_ended e
+waits s (inr (inl e)) = ap has_ended e
+waits s (inr (inr (inl e))) = ap has_ended e
+waits s (inr (inr (inr e))) = ap has_ended e

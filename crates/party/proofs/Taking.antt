@@ -3,6 +3,7 @@
 use mathlib.Core.Path.{◌≡◌, refl, sym, ap, ap₂, subst, ◌∙◌}
 use mathlib.Core.Bool.{true}
 use mathlib.Core.List.{List}
+use Rattle.std.specs.Prelude.{Some, None}
 use Prim.Native.Nat.{ℕ, ◌+◌, ◌-◌, ◌*◌, ◌≤◌}
 use native.Mathlib.Omega.{arith}
 use lib.ListN.{length, take, drop}
@@ -11,7 +12,7 @@ use Rattle.limits.proofs.Group.{group-fine}
 use Rattle.buffer.specs.Entries.{bodies}
 use Rattle.buffer.specs.Given.{written}
 use Rattle.erasure.specs.Rebuild.{present, recovered, answered, rebuild_at_of}
-use Rattle.erasure.specs.declared.Places.{Places}
+use Rattle.erasure.specs.declared.Place.{Place}
 use Rattle.erasure.proofs.Outcomes.{rebuild-at-answered}
 use Rattle.erasure.proofs.Placed.{all-lie}
 use Rattle.merkle.specs.Shares.{passes}
@@ -24,11 +25,10 @@ use Rattle.party.specs.State.{share_held}
 use Rattle.party.specs.Steps.{Taken, missing, found, first_valid, gathered, recovered_by}
 use Rattle.party.specs.Private.{Fit, TakenIs, Gathered}
 use Rattle.party.specs.declared.Party.{Party}
-use Rattle.party.specs.declared.Placed.TheVariants.{Nowhere, At}
 use Rattle.party.proofs.Checks.{took}
 
 -- nothing was taken
-pub taken_none : (t : Taken) (s : List ℕ) → TakenIs Nowhere t s → t ≡ missing
+pub taken_none : (t : Taken) (s : List ℕ) → TakenIs None t s → t ≡ missing
 taken_none missing s h = refl
 taken_none (found y p) s h = absurd h
 
@@ -58,9 +58,9 @@ module _ (H : List ℕ → List ℕ) (session : ℕ) where
         pub inside : f + l + 32 * c ≤ length s
         pub leads : Passed (found (take l (drop f s)) (hashes c (drop (f + l) s)))
 
-      pub got_of : (t : Taken) → TakenIs (At f l c) t s → Passed t → Got t
-      got_of missing h q = absurd h
-      got_of (found y p) h q =
+      pub got_of : (k : ℕ) (t : Taken) → TakenIs (Some (record { number = k; from = f; len = l; count = c })) t s → Passed t → Got t
+      got_of k missing h q = absurd h
+      got_of k (found y p) h q =
           let e : found y p ≡ found (take l (drop f s)) (hashes c (drop (f + l) s)) = ap₂ found h.share_lies h.path-lies in
           record {
             is = e;
@@ -82,7 +82,7 @@ module _ (H : List ℕ → List ℕ) (session : ℕ) where
 
 module _ (H : List ℕ → List ℕ) where
   -- rebuilding from the shares gathered, where they lie
-  pub rebuilt-of : (x : Party) (inbox : List ℕ) (p : Places) (out : List ℕ) → Fit x
+  pub rebuilt-of : (x : Party) (inbox : List ℕ) (p : List Place) (out : List ℕ) → Fit x
       → Gathered x.seat.n (gathered H x 1 (bodies x.seat.n inbox)) inbox (share_held x) p
       → rebuild_at_of x.seat.n x.seat.t inbox (share_held x) p out
       ≡ answered (recovered_by H x inbox) out

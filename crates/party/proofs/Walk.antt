@@ -1,96 +1,86 @@
--- Laws of the two walks over an inbox, for any hash: what one entry adds to the search for a valid packet, and to the shares gathered. One law
--- for each case of an entry, stated at its place. Assumes nothing.
-use mathlib.Core.Path.{◌≡◌, refl, ap, ◌∙◌}
-use mathlib.Core.Bool.{cond}
-use mathlib.Core.List.{List, [], ◌∷◌}
-use Prim.Native.Nat.{ℕ, suc, ◌+◌, ◌≤◌}
-use native.Mathlib.Omega.{arith}
-use borrow.Author.Tests.{eq-eqb, ne_eqb}
-use lib.Dec.{eqb}
-use lib.ListN.{length, take, drop}
-use Rattle.limits.specs.Limits.{max_share}
-use Rattle.buffer.specs.Entries.{bodies}
+-- A walk over an inbox that is laid out well, for any hash: where it stands before each entry, what stands there, and what it has found so far. By the laws
+-- of one entry. Assumes nothing.
+use Rattle.std.proofs.Common.{◌≡◌, true, cond, eqb, Option, unwrap_or, List, [], ◌∷◌, ℕ, suc, ◌+◌, ◌-◌, ◌≤◌, ◌<◌, length, get_or, drop, set, sym, ap, subst, ◌∙◌, add-zero, arith, below_more}
+use native.Mathlib.Nat.{sub-zero}
+use Rattle.std.proofs.lemmas.List.{get_or-set_same, get_or-set_other, length-set}
+use lib.Seq.{get_or-drop, drop-drop}
+use Rattle.limits.specs.Limits.{max_parties}
+use Rattle.buffer.specs.Entries.{size, fills, bodies}
 use Rattle.buffer.proofs.Entries.{bodies-more}
-use Rattle.packet.specs.Class.{Class, silent, faulty, valid, class_of}
-use Rattle.packet.specs.Answer.{next_at}
-use Rattle.packet.specs.Private.{body_at, PassedOver, TakenAt}
-use Rattle.party.specs.State.{share_held}
-use Rattle.party.specs.Steps.{missing, or_later, first_valid, share_from, gathered}
-use Rattle.party.specs.declared.Party.{Party}
+use Rattle.commitment.specs.declared.Seat.{Seat}
+use Rattle.packet.specs.Class.{silent, class_of}
+use Rattle.packet.specs.Answer.{judge_of, next_at, told_entry, entry_read}
+use Rattle.packet.specs.Private.{body_at}
+use Rattle.packet.specs.Packet.{Entry}
+use Rattle.packet.proofs.Entries.{Stands, entry-stands, entry-reads}
+use Rattle.party.specs.Private.{Judges, class_at, finding_of, FindingIs, Found}
+use Rattle.party.specs.declared.Finding.{Finding}
+use Rattle.party.specs.declared.Finding.TheVariants.{Silent}
+use Rattle.party.proofs.Found.{finding-is, passed-over}
 
--- the m packets after the entry at a place
-abbrev pub bodies_after : ℕ → ℕ → List ℕ → List (List ℕ)
-bodies_after m at s = bodies m (drop (next_at s at) s)
+-- entry i begins at a place, and n entries fill the inbox
+pub record Reached (n : ℕ) (s : List ℕ) (i at : ℕ) : Type 0 where
+  pub inside : at ≤ length s
+  pub filled : fills (n - i) (drop at s) ≡ true
+  pub rest : drop i (bodies n s) ≡ bodies (n - i) (drop at s)
 
-missed : (c : Class) → PassedOver c → share_from c ≡ []
-missed silent h = refl
-missed faulty h = refl
-missed (valid x p) h = absurd h
+pub reached-start : (n : ℕ) (s : List ℕ) → fills n s ≡ true → Reached n s 0 0
+reached-start n s h = record { inside = omega arith; filled = rw sub-zero h; rest = rw sub-zero }
 
-held : (c : Class) (s : List ℕ) (f l k : ℕ) → TakenAt s f l k c → share_from c ≡ take l (drop f s)
-held silent s f l k h = absurd h
-held faulty s f l k h = absurd h
-held (valid x p) s f l k h = h.share_lies
+module _ (n : ℕ) (s : List ℕ) (i at : ℕ) (r : Reached n s i at) (low : 1 ≤ n) (high : n ≤ max_parties) (more : i < n) where
+  left : n - i ≡ suc (n - (i + 1))
+  left = omega arith
 
--- where a share that was taken ends, and how long it is
-pub taken-bounds : (c : Class) (s : List ℕ) (f l k : ℕ) → TakenAt s f l k c → (f + l ≤ length s) × (l ≤ max_share)
-taken-bounds silent s f l k h = absurd h
-taken-bounds faulty s f l k h = absurd h
-taken-bounds (valid x p) s f l k h = (omega (arith, h.inside), h.most)
+  pub stands : Stands n (n - (i + 1)) at s
+  stands = entry-stands n (n - (i + 1)) (n - i) at s low high left r.filled
 
-module _ (H : List ℕ → List ℕ) (session : ℕ) where
-  -- the search at the end
-  pub first-none : (n own : ℕ) (z : List ℕ) (k j at : ℕ) (s : List ℕ) → k ≡ 0 → first_valid H session n own z j (bodies k (drop at s)) ≡ missing
-  unfolding first_valid bodies
-  first-none n own z k j at s e = rw e
+  here : drop i (bodies n s) ≡ body_at at s ∷ bodies (n - (i + 1)) (drop (next_at s at) s)
+  here = r.rest ∙ bodies-more (n - (i + 1)) (n - i) at s left
 
-  -- the search, at entry j, with m after it
-  module _ (n own : ℕ) (z : List ℕ) (m k j at : ℕ) (s : List ℕ) (e : k ≡ suc m) where
-    pub first-own : j ≡ own → first_valid H session n own z j (bodies k (drop at s)) ≡ first_valid H session n own z (j + 1) (bodies_after m at s)
-    unfolding first_valid
-    first-own q = rw (bodies-more m k at s e, eq-eqb j own q)
+  -- what the sender sent
+  pub sent : get_or (bodies n s) i [] ≡ body_at at s
+  sent =
+      ap (λ (k : ℕ). get_or (bodies n s) k []) (sym (add-zero i)) ∙ sym (get_or-drop i (bodies n s) 0 [])
+      ∙ ap (λ (l : List (List ℕ)). get_or l 0 []) here
 
-    pub first-other : (j ≡ own → ⊥) → first_valid H session n own z j (bodies k (drop at s))
-        ≡ or_later (class_of H session n own z (body_at at s)) (first_valid H session n own z (j + 1) (bodies_after m at s))
-    unfolding first_valid
-    first-other other = rw (bodies-more m k at s e, ne_eqb j own other)
+  pub reached-more : Reached n s (i + 1) (next_at s at)
+  reached-more = record {
+    inside = stands.inside;
+    filled = stands.tail;
+    rest = sym (drop-drop 1 i (bodies n s)) ∙ ap (drop 1) here;
+  }
 
-  -- the shares gathered, by what the walk knows of the state: the session's number, n, the own number, the root and the share held
-  unfoldable pub picked : ℕ → ℕ → List ℕ → List ℕ → ℕ → List (List ℕ) → List (List ℕ)
-  picked n own z x j [] = []
-  picked n own z x j (p ∷ ps) = cond (eqb j own) x (share_from (class_of H session n j z p)) ∷ picked n own z x (j + 1) ps
+module _ (H : List ℕ → List ℕ) (x : Seat) (z s : List ℕ) (demanded : Option ℕ) where
+  -- what the first i senders sent was judged
+  pub record Walked (i at : ℕ) (fs : List Finding) : Type 0 where
+    pub reached : Reached x.n s i at
+    pub count : length fs ≡ max_parties
+    pub each : (k : ℕ) → k < i → FindingIs (get_or fs k Silent) (class_at H x z s demanded k) s
 
-  pub picked_none : (n own : ℕ) (z x : List ℕ) (k j at : ℕ) (s : List ℕ) → k ≡ 0
-      → picked n own z x j (bodies k (drop at s)) ≡ []
-  unfolding picked bodies
-  picked_none n own z x k j at s e = rw e
+  module _ (j : Judges x z s demanded) where
+    pub walked-more : (i at : ℕ) (fs : List Finding) → Walked i at fs → i < x.n → (e : Entry) → told_entry e ≡ told_entry (entry_read x.n s at)
+        → (f : Finding) → f ≡ cond (eqb (i + 1) x.own) Silent (finding_of (judge_of H x.session x.n (unwrap_or demanded (i + 1)) z s e.packet) e.packet)
+        → Walked (i + 1) e.next (set fs i f)
+    walked-more i at fs w more e q f p =
+        let st = stands x.n s i at w.reached j.low j.high more in
+        let r = entry-reads x.n (x.n - (i + 1)) at s st e q in
+        let number = unwrap_or demanded (i + 1) in
+        let a = j.asked (i + 1) (omega arith) (omega arith) in
+        let long : i < length fs = omega (arith, w.count, j.high) in
+        let is : FindingIs f (class_at H x z s demanded i) s =
+        subst (λ (b : List ℕ). FindingIs f (cond (eqb (i + 1) x.own) silent (class_of H x.session x.n number z b)) s)
+        (sym (sent x.n s i at w.reached j.low j.high more))
+        (subst (λ (g : Finding). FindingIs g (cond (eqb (i + 1) x.own) silent (class_of H x.session x.n number z (body_at at s))) s) (sym p)
+        (passed-over (eqb (i + 1) x.own) (finding_of (judge_of H x.session x.n number z s e.packet) e.packet)
+        (class_of H x.session x.n number z (body_at at s)) s
+        (finding-is H x.session x.n number z s (at + 2) (size (drop at s)) st.inside e.packet r.packet-is j.low j.high a.0 a.1 j.wide))) in
+        record {
+          reached = subst (λ (k : ℕ). Reached x.n s (i + 1) k) (sym r.next-is) (reached-more x.n s i at w.reached j.low j.high more);
+          count = length-set fs i f ∙ w.count;
+          each = below_more (λ k. FindingIs (get_or (set fs i f) k Silent) (class_at H x z s demanded k) s) i
+              (λ k h. rw (get_or-set_other fs i k f Silent (λ d. omega arith)) (w.each k h))
+              (rw (get_or-set_same fs i f Silent long) is);
+        }
 
-  -- the shares gathered, at entry j, with m after it
-  module _ (n own : ℕ) (z x : List ℕ) (m k j at : ℕ) (s : List ℕ) (e : k ≡ suc m) where
-    abbrev After : List (List ℕ)
-    After = picked n own z x (j + 1) (bodies_after m at s)
-
-    pub picked-own : j ≡ own → picked n own z x j (bodies k (drop at s)) ≡ x ∷ After
-    unfolding picked
-    picked-own q = rw (bodies-more m k at s e, eq-eqb j own q)
-
-    module _ (other : j ≡ own → ⊥) where
-      picked-other : picked n own z x j (bodies k (drop at s)) ≡ share_from (class_of H session n j z (body_at at s)) ∷ After
-      unfolding picked
-      picked-other = rw (bodies-more m k at s e, ne_eqb j own other)
-
-      pub picked-missed : PassedOver (class_of H session n j z (body_at at s)) → picked n own z x j (bodies k (drop at s)) ≡ [] ∷ After
-      picked-missed h = picked-other ∙ ap (λ (y : List ℕ). y ∷ After) (missed (class_of H session n j z (body_at at s)) h)
-
-      pub picked-held : (f l c : ℕ) → TakenAt s f l c (class_of H session n j z (body_at at s))
-          → picked n own z x j (bodies k (drop at s)) ≡ take l (drop f s) ∷ After
-      picked-held f l c h = picked-other ∙ ap (λ (y : List ℕ). y ∷ After) (held (class_of H session n j z (body_at at s)) s f l c h)
-
--- they are those of the definition
-pub picked-gathered : (H : List ℕ → List ℕ) (x : Party) (j : ℕ) (ps : List (List ℕ))
-    → picked H x.seat.session x.seat.n x.seat.own x.root (share_held x) j ps ≡ gathered H x j ps
-unfolding picked gathered
-picked-gathered H x j [] = refl
-picked-gathered H x j (p ∷ ps) =
-    ap (λ (l : List (List ℕ)). cond (eqb j x.seat.own) (share_held x) (share_from (class_of H x.seat.session x.seat.n j x.root p)) ∷ l)
-    (picked-gathered H x (j + 1) ps)
+    pub walked-end : (i at : ℕ) (fs : List Finding) → i ≡ x.n → Walked i at fs → Found H x z s demanded fs
+    walked-end i at fs e w = record { count = w.count; each = λ k l. w.each k (omega arith) }

@@ -6,7 +6,7 @@ use Rattle.sha256.specs.Sha256.{sha256}
 use Rattle.erasure.specs.Cases as erasure
 use Rattle.merkle.specs.Answer.{counted}
 use Rattle.merkle.specs.Shares.{path_length_of}
-use Rattle.merkle.specs.declared.Counted.TheVariants.{Hashes}
+use Rattle.merkle.specs.Answer.{Hashes}
 use Rattle.party.specs.Steps.{open_of}
 
 -- the cause of an opening with n, t, number 1 and a message, under session number 0

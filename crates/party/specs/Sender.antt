@@ -5,8 +5,8 @@ use Rattle.limits.specs.Limits.{max_message, numbered, group_cause}
 use Rattle.buffer.specs.Splice.{spliced}
 use Rattle.packet.specs.Message.{Reading, silence, unreadable, message, message_packet, read_message}
 use Rattle.party.specs.Steps.{refused_opening, open_of}
-use Rattle.party.specs.declared.Opened.{Opened}
 use Rattle.party.specs.declared.OpenedBySender.{OpenedBySender}
+use Rattle.party.specs.Answer.{Opened, opened_by, value_by}
 
 -- the message in a packet that was read; the empty one where there is none
 abbrev pub message_read : Reading → List ℕ
@@ -38,7 +38,7 @@ pub record Begun : Type 0 where
   pub buffer : List ℕ
 
 abbrev pub begun : OpenedBySender → List ℕ → Begun
-begun r out = record { opened = r.opened; value = r.len; buffer = out }
+begun r out = record { opened = opened_by r.state r.answer; value = value_by r.answer; buffer = out }
 
 abbrev pub refused_by : ℕ → ℕ → List ℕ → Begun
 refused_by k value out = record { opened = refused_opening k; value = value; buffer = out }

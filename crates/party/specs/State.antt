@@ -1,14 +1,12 @@
 -- The state of a party (document 01: box), what breaks it, and the one form that each stage's states are given back in.
 -- The hash of the tree is a parameter; document 01's is SHA-256, at which the contracts cite these. Assumes nothing.
-use Rattle.std.specs.Prelude.{Bool, true, false, not, ◌||◌, List, [], ◌++◌, ℕ, ◌-◌, ltb, eqb, length, take, replicate}
+use Rattle.std.specs.Prelude.{Bool, true, false, not, ◌||◌, Option as Maybe, Some, None, List, [], ◌++◌, ℕ, ◌-◌, ltb, eqb, length, take, replicate}
 use Rattle.std.proofs.Math.Option.{Option, none, some}
 use Rattle.limits.specs.Limits.{max_parties, max_message, max_share, numbered, group_cause}
 use Rattle.bitmap.specs.Bitmap.{names, up_to}
 use Rattle.merkle.specs.Shares.{blank, same}
 unfoldable pub use Rattle.commitment.specs.Commitment.{message_root}
 use Rattle.commitment.specs.declared.Seat.{Seat}
-use Rattle.party.specs.declared.Outcome.{Outcome}
-use Rattle.party.specs.declared.Outcome.TheVariants.{Nothing, Message}
 use Rattle.party.specs.declared.Stage.{Stage}
 use Rattle.party.specs.declared.Stage.TheVariants.{Root, Bit, First, Second, Ended}
 use Rattle.party.specs.declared.Party.{Party}
@@ -65,9 +63,9 @@ pub data Result : Type 0 where
   nothing : Result
   settled : List ℕ → Result
 
-abbrev pub outcome_of : Result → Outcome
-outcome_of nothing = Nothing
-outcome_of (settled m) = Message (length m)
+abbrev pub outcome_of : Result → Maybe ℕ
+outcome_of nothing = None
+outcome_of (settled m) = Some (length m)
 
 abbrev pub result_bytes : Result → List ℕ
 result_bytes nothing = []
@@ -88,9 +86,9 @@ at_end s r f =
     }
 
 -- a result told by its outcome, with the bytes beside it
-abbrev pub result_from : Outcome → List ℕ → Result
-result_from Nothing bs = nothing
-result_from (Message l) bs = settled (take l bs)
+abbrev pub result_from : Maybe ℕ → List ℕ → Result
+result_from None bs = nothing
+result_from (Some l) bs = settled (take l bs)
 
 -- the result that a state holds; none before the end
 abbrev pub result_at : Stage → List ℕ → Option Result
@@ -130,8 +128,8 @@ overlong Root = false
 overlong Bit = false
 overlong First = false
 overlong Second = false
-overlong (Ended Nothing) = false
-overlong (Ended (Message l)) = ltb max_message l
+overlong (Ended None) = false
+overlong (Ended (Some l)) = ltb max_message l
 
 -- the map names a party beyond n, or the party itself
 abbrev pub stray : Party → Bool

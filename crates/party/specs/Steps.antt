@@ -20,10 +20,9 @@ use Rattle.party.specs.State.{result_in, has_ended}
 use Rattle.party.specs.declared.Stage.{Stage}
 use Rattle.party.specs.declared.Stage.TheVariants as stage
 use Rattle.party.specs.declared.Party.{Party}
-use Rattle.party.specs.declared.Opened.{Opened}
-use Rattle.party.specs.declared.Answer.{Answer}
-use Rattle.party.specs.declared.Answer.TheVariants as answer
 use Rattle.party.specs.declared.Reply.{Reply}
+use Rattle.party.specs.Answer.{Opened, Answer, answered}
+use Rattle.party.specs.Answer as answer
 
 -- document 01's number of the one step that is in turn at a stage: the one that it waits for, or step 5, which reads the result again, once the party
 -- has ended
@@ -108,7 +107,7 @@ gives x r out =
     }
 
 abbrev pub stepped : Reply → List ℕ → Stepped
-stepped r out = gives r.state r.answer out
+stepped r out = gives r.state (answered r.answer) out
 
 abbrev pub refused : Party → ℕ → List ℕ → Stepped
 refused x k out = gives x (answer.Refused k) out

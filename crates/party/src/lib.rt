@@ -1,45 +1,42 @@
 // One party of a session (document 01: a box): its state, its opening, and the four steps that follow.
 #![tactic(auto)]
 
-ghost use Rattle.std.specs.Prelude.{◌≡◌, true, false, cond, ◌||◌, [], ◌+◌, ◌-◌, ◌*◌, ◌≤◌, ◌<◌, length, replicate};
+ghost use Rattle.std.specs.Prelude.{◌≡◌, ℕ, true, false, cond, eqb, [], ◌+◌, ◌-◌, ◌*◌, ◌≤◌, ◌<◌, length, get_or, replicate, Result, unwrap_or, MatchOption};
 ghost use Rattle.sha256.specs.Sha256.{sha256};
 ghost use Rattle.limits.specs.Limits.{max_parties, max_message, max_share};
 ghost use Rattle.bitmap.specs.Bitmap.{map_of};
-ghost use Rattle.buffer.specs.Splice.{spliced};
 ghost use Rattle.buffer.specs.Entries.{fills, bodies};
-ghost use Rattle.buffer.specs.Given.{gave, written};
+ghost use Rattle.buffer.specs.Given.{said, gave, written};
+ghost use Rattle.cause.specs.Cause.{number, cause_of};
 ghost use Rattle.merkle.specs.Shares.{blank, same};
 ghost use Rattle.commitment.specs.Commitment.{message_root, mail_with};
+ghost use Rattle.party.specs.Answer.{opened};
 ghost use Rattle.party.specs.State.{party_limits, padded, message_in, share_held, nothing, settled, at_end, result_from, has_ended, blank_state, overlong, stray, broken, happy};
-ghost use Rattle.party.specs.Steps.{turn_of, open_cause, refused_opening, state_cause, inbox_cause, relays_cause, first_valid, gathered, result_found, sent_faulty, faulty_relays};
+ghost use Rattle.party.specs.Steps.{turn_of, open_cause, refused_opening, state_cause, root_cause, bit_cause, inbox_cause, relays_cause, first_valid, gathered, result_found, faulty_shares, faulty_relays};
 ghost use Rattle.party.specs.Steps.{stepped, writes, ending, open_of, agree_root_of, agree_bit_of, take_shares_of, take_relays_of};
 ghost use Rattle.packet.specs.Message.{read_message};
 ghost use Rattle.party.specs.Sender.{message_read, sender_cause, begun, open_by_sender_of};
+ghost use Rattle.packet.specs.Packet.{read_said};
 ghost use Rattle.packet.specs.Answer.{judge_of};
-ghost use Rattle.party.specs.Private.{Fit, TakenIs, Gathered, place_of, finding_of, found_faulty, earlier_of, after};
+ghost use Rattle.erasure.specs.Rebuild.{place_at};
+ghost use Rattle.party.specs.Private.{Fit, Judges, Found, TakenIs, Gathered, finding_of, found_faulty, marks, first_place, Lies_as, after, with_length};
 
 use buffer::Written;
-use commitment::{Seat, Sent};
-use erasure::Places;
+use cause::{Cause, Refusal};
+use commitment::Seat;
+use erasure::{Place, Places};
 use limits::MAX_SHARE;
-use merkle::{Hash, Rooted};
-use packet::{Entry, Judged, MessagePacket, Packet};
+use merkle::Hash;
+use packet::{Entry, Judged, Read, Share};
 
-// The result of a session: nothing, or a message of so many bytes.
-#[derive(Clone, Copy)]
-pub enum Outcome {
-    Nothing,
-    Message(usize),
-}
-
-// What a party waits for, or that it has ended with its result.
+// What a party waits for, or that it has ended with its result: nothing, or a message of so many bytes.
 #[derive(Clone, Copy)]
 pub enum Stage {
     Root,
     Bit,
     First,
     Second,
-    Ended(Outcome),
+    Ended(Option<usize>),
 }
 
 // The state of a party.
@@ -62,28 +59,31 @@ pub struct Limits {
     pub message: usize,
 }
 
-// What the opening gives: a state, and the cause for which it was refused, or 0 and the root of the message's shares.
+// What the opening gives: a state, and the root of the message's shares or the cause for which it was refused.
 #[derive(Clone, Copy)]
 pub struct Opened {
     pub state: Party,
-    pub cause: u8,
-    pub root: [u8; 32],
+    pub root: Result<Hash, Cause>,
 }
 
-// What the opening by a named sender gives: the opening, whose causes have 9 among them, and how many bytes were written for the others, or are
-// needed with cause 9.
+// What the opening by a named sender gives: a state, and what it begins with or why it was refused.
 #[derive(Clone, Copy)]
 pub struct OpenedBySender {
-    pub opened: Opened,
+    pub state: Party,
+    pub answer: Result<Begun, Refusal>,
+}
+
+// The root of the message's shares, and how many bytes were written for the others.
+#[derive(Clone, Copy)]
+pub struct Begun {
+    pub root: Hash,
     pub len: usize,
 }
 
-// The answer of a step: the cause for which it was refused, with cause 9 the length needed; else of step 2 the party's bit, of steps 3 and 4 how
-// many bytes were written, of step 5 the result with the map of parties seen to be faulty.
+// The answer of a step that was taken: of step 2 the party's bit, of steps 3 and 4 how many bytes were written, of step 5 the result with the map of
+// parties seen to be faulty.
 #[derive(Clone, Copy)]
 pub enum Answer {
-    Refused(u8),
-    Short(usize),
     Happy(bool),
     Sent(usize),
     Nothing(u32),
@@ -94,7 +94,7 @@ pub enum Answer {
 #[derive(Clone, Copy)]
 pub struct Reply {
     pub state: Party,
-    pub answer: Answer,
+    pub answer: Result<Answer, Refusal>,
 }
 
 impl Party {
@@ -115,15 +115,13 @@ impl Party {
 
     // Step 1: the opening, in the session of this number, which every good party opens with. The root goes to the short agreement.
     pub fn open(session: u32, n: usize, t: usize, own: usize, message: &[u8]) -> Opened
-        ensures { result ≡ open_of sha256 session n t own message.now }
+        ensures { opened result ≡ open_of sha256 session n t own message.now }
     {
-        let cause = Party::open_cause(n, t, own, message.len());
-        if cause != 0 {
+        if let Err(cause) = Party::check_opening(n, t, own, message.len()) {
             return refused_opening(cause);
         }
         let seat = Seat { session, n, t, own };
-        let Rooted { root, .. } = commitment::root(seat, message);
-        let mut held = [0u8; Party::MAX_MESSAGE];
+        let mut held = [0; Party::MAX_MESSAGE];
         buffer::put(&mut held, 0, message);
         let state = Party {
             seat,
@@ -137,8 +135,7 @@ impl Party {
         };
         Opened {
             state,
-            cause: 0,
-            root,
+            root: commitment::root(seat, message),
         }
     }
 
@@ -155,71 +152,65 @@ impl Party {
     ) -> OpenedBySender
         ensures { begun result out.new ≡ open_by_sender_of sha256 session n t own sender bytes.now out.old }
     {
-        let cause = Party::sender_cause(n, t, own, sender, bytes);
-        if cause != 0 {
-            return begun(refused_opening(cause), 0);
+        if let Err(cause) = Party::check_sender(n, t, own, sender, bytes) {
+            return turned_away(Refusal::Because(cause));
         }
         if own != sender {
-            return begun(Party::open_with_packet(session, n, t, own, bytes), 0);
+            return begin(Party::open_with_packet(session, n, t, own, bytes), 0);
         }
         if n == 1 {
-            return begun(Party::open(session, n, t, own, bytes), 0);
+            return begin(Party::open(session, n, t, own, bytes), 0);
         }
-        let answer = packet::write_message(bytes, out);
-        let len = buffer::value_of(answer);
-        let Written::Done(_) = answer else {
-            return begun(refused_opening(9), len);
-        };
-        begun(Party::open(session, n, t, own, bytes), len)
+        match packet::write_message(bytes, out) {
+            Ok(len) => begin(Party::open(session, n, t, own, bytes), len),
+            Err(refusal) => turned_away(refusal),
+        }
     }
 
-    // Why an opening by a named sender is refused before any buffer is looked at: cause 1, 2, 3 or 4, or 0.
-    pub fn sender_cause(n: usize, t: usize, own: usize, sender: usize, bytes: &[u8]) -> u8
-        ensures { result ≡ sender_cause n t own sender bytes.now }
+    // Whether an opening by a named sender is taken, before any buffer is looked at; cause 1, 2, 3 or 4.
+    #[tactic(auto, unfolding(crate::specs::Sender::sender_cause, commitment::specs::Commitment::open_cause))]
+    pub fn check_sender(
+        n: usize,
+        t: usize,
+        own: usize,
+        sender: usize,
+        bytes: &[u8],
+    ) -> Result<(), Cause>
+        ensures { cause_of result ≡ sender_cause n t own sender bytes.now }
     {
-        let cause = Party::open_cause(n, t, own, 0);
-        if cause != 0 {
-            return cause;
-        }
+        Party::check_opening(n, t, own, 0)?;
         if !limits::numbered(n, sender) {
-            return 3;
+            return Err(Cause::Number);
         }
-        if own == sender {
-            if Party::MAX_MESSAGE < bytes.len() {
-                return 4;
-            }
+        if own == sender && Party::MAX_MESSAGE < bytes.len() {
+            return Err(Cause::Length);
         }
-        0
+        Ok(())
     }
 
     // The opening with the message of a packet, or with the empty one.
     fn open_with_packet(session: u32, n: usize, t: usize, own: usize, bytes: &[u8]) -> Opened
-        ensures { result ≡ open_of sha256 session n t own (message_read (read_message bytes.now)) }
+        ensures { opened result ≡ open_of sha256 session n t own (message_read (read_message bytes.now)) }
     {
-        let MessagePacket::Message(len) = packet::read_message(bytes) else {
-            return Party::open(session, n, t, own, &[]);
-        };
-        let end = 3 + len;
-        Party::open(session, n, t, own, &bytes[3..end])
+        match packet::read_message(bytes) {
+            Ok(Some(len)) => Party::open(session, n, t, own, &bytes[3..3 + len]),
+            Ok(None) | Err(_) => Party::open(session, n, t, own, &[]),
+        }
     }
 
     // Step 2: the agreed root comes; the answer is this party's bit for the second short agreement.
     pub fn agree_root(self, root: &[u8]) -> Reply
         ensures { stepped result [] ≡ agree_root_of sha256 self root.now }
     {
-        let cause = self.state_cause(2);
-        if cause != 0 {
+        if let Err(cause) = self.check_root(root) {
             return self.refused(cause);
         }
-        if root.len() != 32 {
-            return self.refused(7);
-        }
-        let mut agreed = [0u8; 32];
+        let mut agreed = [0; 32];
         buffer::put(&mut agreed, 0, root);
         let state = self.waiting(Stage::Bit, agreed, [0; MAX_SHARE], 0, 0);
         Reply {
             state,
-            answer: Answer::Happy(state.happy()),
+            answer: Ok(Answer::Happy(state.happy())),
         }
     }
 
@@ -227,72 +218,64 @@ impl Party {
     pub fn agree_bit(self, bit: usize, out: &mut [u8]) -> Reply
         ensures { stepped result out.new ≡ agree_bit_of sha256 self bit out.old }
     {
-        let cause = self.state_cause(3);
-        if cause != 0 {
+        if let Err(cause) = self.check_bit(bit) {
             return self.refused(cause);
         }
-        if 1 < bit {
-            return self.refused(7);
-        }
         if bit == 0 {
-            let next = self.ended(Outcome::Nothing, [0; Party::MAX_MESSAGE], 0);
+            let next = self.ended(None, [0; Party::MAX_MESSAGE], 0);
             return self.silent(next, out);
         }
-        let root = self.root;
-        let Sent { happy, answer } = self.send(false, out);
-        let next = self.waiting(Stage::First, root, [0; MAX_SHARE], 0, 0);
-        if happy {
-            return self.after(next, answer);
-        }
-        self.silent(next, out)
+        let next = self.waiting(Stage::First, self.root, [0; MAX_SHARE], 0, 0);
+        let Some(written) = self.send(false, out) else {
+            return self.silent(next, out);
+        };
+        self.after(next, written)
     }
 
     // Step 4: the first inbox comes. A happy party relays its own share, another the one it was sent; both note whose packets are faulty.
     pub fn take_shares(self, inbox: &[u8], out: &mut [u8]) -> Reply
         ensures { stepped result out.new ≡ take_shares_of sha256 self inbox.now out.old }
     {
-        let cause = self.inbox_cause(4, inbox);
-        if cause != 0 {
+        if let Err(cause) = self.check_inbox(4, inbox) {
             return self.refused(cause);
         }
-        let session = self.seat.session;
-        let n = self.seat.n;
-        let own = self.seat.own;
-        let root = self.root;
-        let Shares { taken, faulty } = judge_shares(session, n, own, &root, inbox);
-        let Sent { happy, answer } = self.send(true, out);
-        let next = self.waiting(Stage::Second, root, [0; MAX_SHARE], 0, faulty);
-        if happy {
-            return self.after(next, answer);
+        let Shares { taken, faulty } = self.judge_shares(inbox);
+        let next = self.waiting(Stage::Second, self.root, [0; MAX_SHARE], 0, faulty);
+        if let Some(written) = self.send(true, out) {
+            return self.after(next, written);
         }
-        let Placed::At(from, len, count) = taken else {
-            return Reply {
-                state: next,
-                answer: Answer::Sent(0),
-            };
+        let Some(
+            Share {
+                from,
+                len,
+                count,
+                ..
+            },
+        ) = taken
+        else {
+            return self.after(next, Ok(0));
         };
         let end = from + len;
         let path = packet::path_at(inbox, end, count);
-        let mut share = [0u8; MAX_SHARE];
+        let mut share = [0; MAX_SHARE];
         buffer::put(&mut share, 0, &inbox[from..end]);
-        let holding = self.waiting(Stage::Second, root, share, len, faulty);
-        let answer = packet::write(n, own, &inbox[from..end], path, count, out);
-        self.after(holding, answer)
+        let holding = self.waiting(Stage::Second, self.root, share, len, faulty);
+        let Seat { n, own, .. } = self.seat;
+        let written = packet::write(n, own, &inbox[from..end], path, count, out);
+        self.after(holding, written)
     }
 
     // Step 5: the second inbox comes, and the party ends. One that has ended gives its result again and does not look at the inbox.
     pub fn take_relays(self, inbox: &[u8], out: &mut [u8]) -> Reply
         ensures { stepped result out.new ≡ take_relays_of sha256 self inbox.now out.old }
     {
-        let cause = self.relays_cause(inbox);
-        if cause != 0 {
+        if let Err(cause) = self.check_relays(inbox) {
             return self.refused(cause);
         }
-        let stage = self.stage;
-        let Stage::Ended(outcome) = stage else {
-            return self.conclude(inbox, out);
-        };
-        self.give_again(outcome, out)
+        match self.stage {
+            Stage::Ended(len) => self.give_again(len, out),
+            Stage::Root | Stage::Bit | Stage::First | Stage::Second => self.conclude(inbox, out),
+        }
     }
 
     // Ends: a happy party with its message, another with what it rebuilds, if that has the agreed root; both with the map of those whose packets were faulty.
@@ -302,18 +285,14 @@ impl Party {
     {
         let Relays { places, faulty } = self.judge_relays(inbox);
         if self.happy() {
-            let len = self.len;
-            let message = self.message;
-            return self.settle(&message[..len], faulty, out);
+            return self.settle(&self.message[..self.len], faulty, out);
         }
-        let share = self.share;
-        let held = self.held;
-        let mut message = [0u8; Party::MAX_MESSAGE];
-        let Written::Done(len) = erasure::rebuild_at(
+        let mut message = [0; Party::MAX_MESSAGE];
+        let Ok(len) = erasure::rebuild_at(
             self.seat.n,
             self.seat.t,
             inbox,
-            &share[..held],
+            &self.share[..self.held],
             places,
             &mut message,
         ) else {
@@ -326,72 +305,93 @@ impl Party {
     }
 
     // Gives the result and the map that the state holds, in the ended form built anew.
-    fn give_again(self, outcome: Outcome, out: &mut [u8]) -> Reply
-        requires { overlong (Stage.Ended outcome) ≡ false }
-        ensures { stepped result out.new ≡ ending self (result_from outcome self.message) self.faulty out.old }
+    fn give_again(self, len: Option<usize>, out: &mut [u8]) -> Reply
+        requires { overlong (Stage.Ended len) ≡ false }
+        ensures { stepped result out.new ≡ ending self (result_from len self.message) self.faulty out.old }
     {
-        let Outcome::Message(len) = outcome else {
-            return self.settle_nothing(self.faulty);
-        };
-        let kept = self.message;
-        self.settle(&kept[..len], self.faulty, out)
+        match len {
+            None => self.settle_nothing(self.faulty),
+            Some(len) => self.settle(&self.message[..len], self.faulty, out),
+        }
     }
 
-    // Cause 5, 6 or 8 of step 5, or 0.
-    fn relays_cause(self, inbox: &[u8]) -> u8
-        ensures { result ≡ relays_cause self inbox.now }
+    // Whether the agreed root is taken; cause 5, 6 or 7.
+    #[tactic(auto, unfolding(crate::specs::Steps::root_cause))]
+    fn check_root(self, root: &[u8]) -> Result<(), Cause>
+        ensures { cause_of result ≡ root_cause self root.now }
     {
-        let stage = self.stage;
-        if has_ended(stage) {
-            return self.state_cause(5);
+        self.check_state(2)?;
+        if root.len() != 32 {
+            return Err(Cause::Argument);
         }
-        self.inbox_cause(5, inbox)
+        Ok(())
     }
 
-    // Cause 5, 6 or 8, or 0.
-    fn inbox_cause(self, turn: usize, inbox: &[u8]) -> u8
-        ensures { result ≡ inbox_cause turn self inbox.now }
+    // Whether the agreed bit is taken; cause 5, 6 or 7.
+    #[tactic(auto, unfolding(crate::specs::Steps::bit_cause))]
+    fn check_bit(self, bit: usize) -> Result<(), Cause>
+        ensures { cause_of result ≡ bit_cause self bit }
     {
-        let cause = self.state_cause(turn);
-        if cause != 0 {
-            return cause;
+        self.check_state(3)?;
+        if 1 < bit {
+            return Err(Cause::Argument);
         }
-        if buffer::laid_out(inbox, self.seat.n) {
-            return 0;
+        Ok(())
+    }
+
+    // Whether the second inbox is taken; cause 5, 6 or 8.
+    #[tactic(auto, unfolding(crate::specs::Steps::relays_cause))]
+    fn check_relays(self, inbox: &[u8]) -> Result<(), Cause>
+        ensures { cause_of result ≡ relays_cause self inbox.now }
+    {
+        match self.stage {
+            Stage::Ended(_) => self.check_state(5),
+            Stage::Root | Stage::Bit | Stage::First | Stage::Second => self.check_inbox(5, inbox),
         }
-        8
+    }
+
+    // Whether an inbox is taken; cause 5, 6 or 8.
+    #[tactic(auto, unfolding(crate::specs::Steps::inbox_cause))]
+    fn check_inbox(self, turn: usize, inbox: &[u8]) -> Result<(), Cause>
+        ensures { cause_of result ≡ inbox_cause turn self inbox.now }
+    {
+        self.check_state(turn)?;
+        if !buffer::laid_out(inbox, self.seat.n) {
+            return Err(Cause::Layout);
+        }
+        Ok(())
     }
 
     // What a happy party sends, its relay or else its outbox; nothing is touched if the party is not happy.
-    fn send(self, relays: bool, out: &mut [u8]) -> Sent
+    fn send(self, relays: bool, out: &mut [u8]) -> Option<Written>
         requires { Fit self }
-        ensures { (result.happy ≡ happy sha256 self)
-            × (result.happy ≡ true → gave result.answer out.new ≡ written (mail_with sha256 self.seat.session relays self.seat.n self.seat.t self.seat.own (message_in self)) out.old)
-            × (result.happy ≡ false → out.new ≡ out.old) }
+        ensures { MatchOption result
+            ((happy sha256 self ≡ false) × (out.new ≡ out.old))
+            (λ written_. (happy sha256 self ≡ true)
+            × (gave (said written_) out.new ≡ written (mail_with sha256 self.seat.session relays self.seat.n self.seat.t self.seat.own (message_in self)) out.old)) }
     {
-        let seat = self.seat;
-        let root = self.root;
-        let len = self.len;
-        let message = self.message;
-        commitment::send(relays, seat, &message[..len], &root, out)
+        commitment::send(
+            relays,
+            self.seat,
+            &self.message[..self.len],
+            &self.root,
+            out,
+        )
+        .transpose()
     }
 
     // What comes of writing: the next state where bytes were written, else this one.
-    fn after(self, next: Party, answer: Written) -> Reply
-        ensures { result ≡ after self next answer }
+    fn after(self, next: Party, written: Written) -> Reply
+        ensures { result ≡ after self next written }
     {
-        match answer {
-            Written::Refused(cause) => Reply {
-                state: self,
-                answer: Answer::Refused(cause),
-            },
-            Written::Short(need) => Reply {
-                state: self,
-                answer: Answer::Short(need),
-            },
-            Written::Done(len) => Reply {
+        match written {
+            Ok(len) => Reply {
                 state: next,
-                answer: Answer::Sent(len),
+                answer: Ok(Answer::Sent(len)),
+            },
+            Err(refusal) => Reply {
+                state: self,
+                answer: Err(refusal),
             },
         }
     }
@@ -406,21 +406,35 @@ impl Party {
             return self.short(len);
         }
         buffer::put(out, 0, message);
-        let mut kept = [0u8; Party::MAX_MESSAGE];
+        let mut kept = [0; Party::MAX_MESSAGE];
         buffer::put(&mut kept, 0, message);
         Reply {
-            state: self.ended(Outcome::Message(len), kept, faulty),
-            answer: Answer::Message(len, faulty),
+            state: self.ended(Some(len), kept, faulty),
+            answer: Ok(Answer::Message(len, faulty)),
         }
     }
 
     // Ends with nothing, and with a map.
     fn settle_nothing(self, faulty: u32) -> Reply
-        ensures { result ≡ record { state = at_end self.seat nothing faulty; answer = Answer.Nothing faulty } }
+        ensures { result ≡ record { state = at_end self.seat nothing faulty; answer = Result.Ok (Answer.Nothing faulty) } }
     {
         Reply {
-            state: self.ended(Outcome::Nothing, [0; Party::MAX_MESSAGE], faulty),
-            answer: Answer::Nothing(faulty),
+            state: self.ended(None, [0; Party::MAX_MESSAGE], faulty),
+            answer: Ok(Answer::Nothing(faulty)),
+        }
+    }
+
+    // Of the lowest-numbered sender whose packet bears the own number and passes the check, its share; and the map of the parties whose packets are faulty.
+    fn judge_shares(self, inbox: &[u8]) -> Shares
+        requires { Fit self × (fills self.seat.n inbox.now ≡ true) }
+        ensures { TakenIs result.taken (first_valid sha256 self.seat.session self.seat.n self.seat.own self.root 1 (bodies self.seat.n inbox.now)) inbox.now
+            × (result.faulty ≡ faulty_shares sha256 self inbox.now) }
+    {
+        let n = self.seat.n;
+        let found = findings(self.seat, &self.root, inbox, Some(self.seat.own));
+        Shares {
+            taken: first_place(&found[..n]),
+            faulty: marked(0, &found[..n]),
         }
     }
 
@@ -431,60 +445,39 @@ impl Party {
         ensures { Gathered self.seat.n (gathered sha256 self 1 (bodies self.seat.n inbox.now)) inbox.now (share_held self) result.places
             × (result.faulty ≡ faulty_relays sha256 self inbox.now) }
     {
-        let session = self.seat.session;
         let n = self.seat.n;
-        let own = self.seat.own;
-        let root = self.root;
-        let before = self.faulty as usize;
-        let mut from = [0usize; Party::MAX_PARTIES];
-        let mut len = [0usize; Party::MAX_PARTIES];
-        let mut faulty: u32 = 0;
-        let mut bit: u32 = 1;
-        let mut at: usize = 0;
-        let mut j: usize = 0;
-        while j < n {
-            let Entry { packet, next } = packet::read_entry(n, inbox, at);
-            let i = j;
-            let value = bit;
-            at = next;
-            bit = 2 * bit;
-            j += 1;
-            if j == own {
-                from[i] = inbox.len();
-                len[i] = self.held;
-                continue;
-            }
-            let finding = find(session, n, j, &root, inbox, packet);
-            faulty = faulty + mark(bitmap::names(before, j), finding, value);
-            let Finding::Valid(start, size, _) = finding else {
-                continue;
-            };
-            from[i] = start;
-            len[i] = size;
+        let found = findings(self.seat, &self.root, inbox, None);
+        let mut places = places(&found[..n]);
+        places[self.seat.own - 1] = Place {
+            from: inbox.len(),
+            len: self.held,
+        };
+        Relays {
+            places,
+            faulty: marked(self.faulty, &found[..n]),
         }
-        let places = Places { from, len };
-        Relays { places, faulty }
     }
 
-    // Cause 5 or 6, or 0.
-    fn state_cause(self, turn: usize) -> u8
-        ensures { result ≡ state_cause turn self }
+    // Whether a step may be taken; cause 5 or 6.
+    #[tactic(auto, unfolding(crate::specs::Steps::state_cause))]
+    fn check_state(self, turn: usize) -> Result<(), Cause>
+        ensures { cause_of result ≡ state_cause turn self }
     {
         if self.broken() {
-            return 5;
+            return Err(Cause::State);
         }
-        let stage = self.stage;
-        if turn_of(stage) != turn {
-            return 6;
+        if turn_of(self.stage) != turn {
+            return Err(Cause::Turn);
         }
-        0
+        Ok(())
     }
 
     // Whether the state breaks causes 1 to 4, holds a length over its limit, or a map of parties that it cannot hold.
+    #[tactic(auto, unfolding(crate::specs::State::broken, commitment::specs::Commitment::open_cause))]
     pub fn broken(self) -> bool
         ensures { result ≡ broken self }
     {
-        if Party::open_cause(self.seat.n, self.seat.t, self.seat.own, self.len) != 0 {
+        if Party::check_opening(self.seat.n, self.seat.t, self.seat.own, self.len).is_err() {
             return true;
         }
         if MAX_SHARE < self.held {
@@ -493,8 +486,7 @@ impl Party {
         if self.stray() {
             return true;
         }
-        let stage = self.stage;
-        overlong(stage)
+        overlong(self.stage)
     }
 
     // Whether the map names a party beyond n, or the party itself.
@@ -502,25 +494,20 @@ impl Party {
         ensures { result ≡ stray self }
     {
         let map = self.faulty as usize;
-        if bitmap::up_to(self.seat.n, map) {
-            return bitmap::names(map, self.seat.own);
-        }
-        true
+        !bitmap::up_to(self.seat.n, map) || bitmap::names(map, self.seat.own)
     }
 
-    // Cause 1, 2, 3 or 4 of a party with this number and a message of `len` bytes, or 0. The first three are judged with no message, the length by the
-    // party's own limit.
-    fn open_cause(n: usize, t: usize, own: usize, len: usize) -> u8
-        ensures { result ≡ open_cause n t own len }
+    // Whether a party with this number opens with a message of `len` bytes; cause 1, 2, 3 or 4. The first three are judged with no message, the length by
+    // the party's own limit.
+    #[tactic(auto, unfolding(commitment::specs::Commitment::open_cause))]
+    fn check_opening(n: usize, t: usize, own: usize, len: usize) -> Result<(), Cause>
+        ensures { cause_of result ≡ open_cause n t own len }
     {
-        let cause = commitment::open_cause(n, t, own, 0);
-        if cause != 0 {
-            return cause;
+        commitment::check_opening(n, t, own, 0)?;
+        if Party::MAX_MESSAGE < len {
+            return Err(Cause::Length);
         }
-        if len <= Party::MAX_MESSAGE {
-            return 0;
-        }
-        4
+        Ok(())
     }
 
     // The state at another stage, with its message and with zeros past every length.
@@ -535,16 +522,13 @@ impl Party {
         requires { self.len ≤ max_message }
         ensures { result ≡ record { seat = self.seat; stage = stage; message = padded max_message (message_in self); len = self.len; root = root; share = share; held = held; faulty = faulty } }
     {
-        let seat = self.seat;
-        let len = self.len;
-        let message = self.message;
-        let mut kept = [0u8; Party::MAX_MESSAGE];
-        buffer::put(&mut kept, 0, &message[..len]);
+        let mut kept = [0; Party::MAX_MESSAGE];
+        buffer::put(&mut kept, 0, &self.message[..self.len]);
         Party {
-            seat,
+            seat: self.seat,
             stage,
             message: kept,
-            len,
+            len: self.len,
             root,
             share,
             held,
@@ -552,13 +536,12 @@ impl Party {
         }
     }
 
-    fn ended(self, outcome: Outcome, message: [u8; Party::MAX_MESSAGE], faulty: u32) -> Party
-        ensures { result ≡ record { seat = self.seat; stage = Stage.Ended outcome; message = message; len = 0; root = blank; share = replicate max_share 0; held = 0; faulty = faulty } }
+    fn ended(self, len: Option<usize>, message: [u8; Party::MAX_MESSAGE], faulty: u32) -> Party
+        ensures { result ≡ record { seat = self.seat; stage = Stage.Ended len; message = message; len = 0; root = blank; share = replicate max_share 0; held = 0; faulty = faulty } }
     {
-        let seat = self.seat;
         Party {
-            seat,
-            stage: Stage::Ended(outcome),
+            seat: self.seat,
+            stage: Stage::Ended(len),
             message,
             len: 0,
             root: [0; 32],
@@ -568,33 +551,32 @@ impl Party {
         }
     }
 
-    fn refused(self, cause: u8) -> Reply
-        ensures { result ≡ record { state = self; answer = Answer.Refused cause } }
+    fn refused(self, cause: Cause) -> Reply
+        ensures { result ≡ record { state = self; answer = Result.Err (Refusal.Because cause) } }
     {
         Reply {
             state: self,
-            answer: Answer::Refused(cause),
+            answer: Err(Refusal::Because(cause)),
         }
     }
 
     // Cause 9, with the length needed.
     fn short(self, need: usize) -> Reply
-        ensures { result ≡ record { state = self; answer = Answer.Short need } }
+        ensures { result ≡ record { state = self; answer = Result.Err (Refusal.Short need) } }
     {
         Reply {
             state: self,
-            answer: Answer::Short(need),
+            answer: Err(Refusal::Short(need)),
         }
     }
 
     // Whether the agreed root is that of the party's own message.
+    #[tactic(auto, unfolding(crate::specs::State::happy))]
     fn happy(self) -> bool
         requires { Fit self }
         ensures { result ≡ happy sha256 self }
     {
-        let len = self.len;
-        let message = self.message;
-        self.has_root(&message[..len])
+        self.has_root(&self.message[..self.len])
     }
 
     // Whether the agreed root is that of a message.
@@ -602,10 +584,8 @@ impl Party {
         requires { Fit self × (length message.now ≤ max_message) }
         ensures { result ≡ same (message_root sha256 self.seat.session self.seat.n self.seat.t message.now) self.root }
     {
-        let seat = self.seat;
-        let agreed = self.root;
-        let coded = commitment::root(seat, message).root;
-        check::same(&coded, &agreed)
+        let root = commitment::root(self.seat, message).unwrap();
+        check::same(&root, &self.root)
     }
 
     // Lengths of zero for all parties, and the next state; cause 9 where out is too short.
@@ -617,33 +597,34 @@ impl Party {
         if out.len() < need {
             return self.short(need);
         }
-        write_silence(out, need);
+        out[..need].fill(0);
         Reply {
             state: next,
-            answer: Answer::Sent(need),
+            answer: Ok(Answer::Sent(need)),
         }
     }
 }
 
-// Where a share that passed the check lies, how long it is, and how many hashes follow it.
-#[derive(Clone, Copy)]
-enum Placed {
-    Nowhere,
-    At(usize, usize, usize),
-}
-
-// What a sender's packet is to a walk over an inbox: silence, faulty, or a valid share by its place as above.
+// What a sender's packet is to a walk over an inbox: silence, faulty, or a valid share.
 #[derive(Clone, Copy)]
 enum Finding {
     Silent,
     Faulty,
-    Valid(usize, usize, usize),
+    Valid(Share),
+}
+
+impl Finding {
+    fn is_faulty(&self) -> bool
+        ensures { result ≡ found_faulty self.now }
+    {
+        matches!(self, Finding::Faulty)
+    }
 }
 
 // What the first inbox gives: the share to relay, and a map of the senders whose packets are faulty.
 #[derive(Clone, Copy)]
 struct Shares {
-    taken: Placed,
+    taken: Option<Share>,
     faulty: u32,
 }
 
@@ -654,88 +635,93 @@ struct Relays {
     faulty: u32,
 }
 
-// Of the lowest-numbered sender whose packet bears the own number and passes the check, its share; and whose packets are faulty. The own entry is ignored.
-fn judge_shares(session: u32, n: usize, own: usize, root: &Hash, inbox: &[u8]) -> Shares
-    requires { (1 ≤ n) × (n ≤ max_parties) × (1 ≤ own) × (own ≤ n) × (fills n inbox.now ≡ true) × (length root.now ≡ 32) }
-    ensures { TakenIs result.taken (first_valid sha256 session n own root.now 1 (bodies n inbox.now)) inbox.now
-        × (result.faulty ≡ map_of (sent_faulty sha256 session n own root.now inbox.now own) n) }
+// What is found of each sender's packet in an inbox. One number is demanded of all packets, or of each its sender's own. The own entry is ignored.
+fn findings(
+    seat: Seat,
+    root: &Hash,
+    inbox: &[u8],
+    demanded: Option<usize>,
+) -> [Finding; Party::MAX_PARTIES]
+    requires { Judges seat root.now inbox.now demanded }
+    ensures { Found sha256 seat root.now inbox.now demanded result }
 {
-    let mut taken = Placed::Nowhere;
-    let mut faulty: u32 = 0;
-    let mut bit: u32 = 1;
-    let mut at: usize = 0;
-    let mut j: usize = 0;
-    while j < n {
-        let Entry { packet, next } = packet::read_entry(n, inbox, at);
-        let value = bit;
+    let mut found = [Finding::Silent; Party::MAX_PARTIES];
+    let mut at = 0;
+    for i in 0..seat.n {
+        let Entry { packet, next } = packet::read_entry(seat.n, inbox, at);
+        found[i] = find(seat, i + 1, demanded, root, inbox, packet);
         at = next;
-        bit = 2 * bit;
-        j += 1;
-        if j == own {
-            continue;
+    }
+    found
+}
+
+// What a packet is that was read from an inbox, from sender j.
+fn find(
+    seat: Seat,
+    j: usize,
+    demanded: Option<usize>,
+    root: &Hash,
+    inbox: &[u8],
+    packet: Read,
+) -> Finding
+    ensures { result ≡ cond (eqb j seat.own) Finding.Silent (finding_of (judge_of sha256 seat.session seat.n (unwrap_or demanded j) root.now inbox.now (read_said packet)) (read_said packet)) }
+{
+    if j == seat.own {
+        return Finding::Silent;
+    }
+    let number = demanded.unwrap_or(j);
+    let judged = packet::judge(seat.session, seat.n, number, root, inbox, packet);
+    match (judged, packet) {
+        (Ok(Judged::Faulty), _) => Finding::Faulty,
+        (Ok(Judged::Valid), Ok(Some(share))) => Finding::Valid(share),
+        _ => Finding::Silent,
+    }
+}
+
+// The map of the senders whom a map names already, or whose packets are faulty.
+fn marked(before: u32, found: &[Finding]) -> u32
+    requires { length found.now ≤ max_parties }
+    ensures { result ≡ map_of (marks before found.now) (length found.now) }
+{
+    let mut map = 0;
+    for (i, finding) in found.iter().enumerate() {
+        if bitmap::names(before as usize, i + 1) || finding.is_faulty() {
+            map += 1 << i;
         }
-        let finding = find(session, n, own, root, inbox, packet);
-        faulty = faulty + mark(false, finding, value);
-        taken = earlier(taken, finding);
     }
-    Shares { taken, faulty }
+    map
 }
 
-// A packet that was read from an inbox, judged with a number demanded of it.
-fn find(session: u32, n: usize, number: usize, root: &Hash, inbox: &[u8], packet: Packet) -> Finding
-    ensures { result ≡ finding_of (judge_of sha256 session n number root.now inbox.now packet) packet }
+// The first valid share.
+fn first_place(found: &[Finding]) -> Option<Share>
+    ensures { result ≡ first_place found.now }
 {
-    match packet::judge(session, n, number, root, inbox, packet) {
-        Judged::Refused(_) => Finding::Silent,
-        Judged::Silent => Finding::Silent,
-        Judged::Faulty => Finding::Faulty,
-        Judged::Valid => place_of(packet),
+    for finding in found {
+        if let Finding::Valid(share) = finding {
+            return Some(*share);
+        }
     }
+    None
 }
 
-fn place_of(packet: Packet) -> Finding
-    ensures { result ≡ place_of packet }
+// Where the valid shares lie, each under its sender's number.
+fn places(found: &[Finding]) -> Places
+    requires { length found.now ≤ max_parties }
+    ensures { (i : ℕ) → i < length found.now → Lies_as (get_or found.now i Finding.Silent) (place_at result i) }
 {
-    match packet {
-        Packet::Refused(_) => Finding::Silent,
-        Packet::Silence => Finding::Silent,
-        Packet::Share {
-            from,
-            len,
-            count,
-            ..
-        } => Finding::Valid(from, len, count),
+    let mut places = [Place { from: 0, len: 0 }; Party::MAX_PARTIES];
+    for (i, finding) in found.iter().enumerate() {
+        if let Finding::Valid(share) = finding {
+            places[i] = Place {
+                from: share.from,
+                len: share.len,
+            };
+        }
     }
+    places
 }
 
-// The value that stands for a sender in the map: its own, if the map names it already or its packet is faulty, else 0.
-fn mark(named: bool, finding: Finding, value: u32) -> u32
-    ensures { result ≡ cond (named || found_faulty finding) value 0 }
-{
-    if named {
-        return value;
-    }
-    match finding {
-        Finding::Silent => 0,
-        Finding::Faulty => value,
-        Finding::Valid(_, _, _) => 0,
-    }
-}
-
-// The share that was taken, or else the one that was found.
-fn earlier(taken: Placed, finding: Finding) -> Placed
-    ensures { result ≡ earlier_of taken finding }
-{
-    match taken {
-        Placed::At(from, len, count) => Placed::At(from, len, count),
-        Placed::Nowhere => match finding {
-            Finding::Silent => Placed::Nowhere,
-            Finding::Faulty => Placed::Nowhere,
-            Finding::Valid(from, len, count) => Placed::At(from, len, count),
-        },
-    }
-}
-
+#[tactic(auto, unfolding(crate::specs::State::blank_state))]
 fn blank() -> Party
     ensures { result ≡ blank_state }
 {
@@ -756,21 +742,38 @@ fn blank() -> Party
     }
 }
 
-// What a refused opening gives: a blank state, and no root.
-fn refused_opening(cause: u8) -> Opened
-    ensures { result ≡ refused_opening cause }
+// What a refused opening gives: a blank state.
+fn refused_opening(cause: Cause) -> Opened
+    ensures { opened result ≡ refused_opening (number cause) }
 {
     Opened {
         state: blank(),
-        cause,
-        root: [0; 32],
+        root: Err(cause),
     }
 }
 
-fn begun(opened: Opened, len: usize) -> OpenedBySender
-    ensures { result ≡ record { opened = opened; len = len } }
+// The same of an opening by a named sender.
+fn turned_away(refusal: Refusal) -> OpenedBySender
+    ensures { result ≡ record { state = blank_state; answer = Result.Err refusal } }
 {
-    OpenedBySender { opened, len }
+    OpenedBySender {
+        state: blank(),
+        answer: Err(refusal),
+    }
+}
+
+// An opening, of which so many bytes were written for the others.
+fn begin(opening: Opened, len: usize) -> OpenedBySender
+    ensures { result ≡ with_length opening len }
+{
+    let answer = match opening.root {
+        Ok(root) => Ok(Begun { root, len }),
+        Err(cause) => Err(Refusal::Because(cause)),
+    };
+    OpenedBySender {
+        state: opening.state,
+        answer,
+    }
 }
 
 fn turn_of(stage: Stage) -> usize
@@ -785,35 +788,11 @@ fn turn_of(stage: Stage) -> usize
     }
 }
 
-fn has_ended(stage: Stage) -> bool
-    ensures { result ≡ has_ended stage }
-{
-    let Stage::Ended(_) = stage else {
-        return false;
-    };
-    true
-}
-
 fn overlong(stage: Stage) -> bool
     ensures { result ≡ overlong stage }
 {
-    let Stage::Ended(outcome) = stage else {
-        return false;
-    };
-    let Outcome::Message(len) = outcome else {
-        return false;
-    };
-    Party::MAX_MESSAGE < len
-}
-
-// Zeros in the first `len` bytes: lengths of zero for all parties.
-fn write_silence(out: &mut [u8], len: usize)
-    requires { len ≤ length out.old }
-    ensures { out.new ≡ spliced out.old 0 (replicate len 0) }
-{
-    let mut i: usize = 0;
-    while i < len {
-        out[i] = 0;
-        i += 1;
+    match stage {
+        Stage::Ended(Some(len)) => Party::MAX_MESSAGE < len,
+        Stage::Root | Stage::Bit | Stage::First | Stage::Second | Stage::Ended(None) => false,
     }
 }

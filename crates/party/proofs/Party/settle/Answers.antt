@@ -9,7 +9,7 @@ use native.Mathlib.Omega.{arith}
 use Rattle.party.specs.State.{settled}
 use Rattle.party.specs.Steps.{Stepped, gives, stepped}
 use Rattle.party.specs.declared.Party.{Party}
-use Rattle.party.specs.declared.Answer.TheVariants.{Message}
+use Rattle.party.specs.Answer.{Message}
 use Rattle.party.specs.declared.Reply.{Reply}
 use Rattle.party.proofs.Kept.{put-padded, ended-kept}
 use Rattle.party.proofs.Outcomes.{ending-short, ending-done}

@@ -1,12 +1,16 @@
 -- `party::Party::silent` meets its contract: both ways out are outcomes of sending zeros. Assumes nothing.
-use mathlib.Core.Path.{sym, ap, ◌∙◌}
-use mathlib.Core.List.{List}
+use mathlib.Core.Path.{◌≡◌, sym, ap, ◌∙◌}
+use mathlib.Core.List.{List, ◌++◌}
 use Prim.Native.Nat.{ℕ, ◌*◌}
 use native.Mathlib.Omega.{arith}
-use lib.ListN.{replicate, length-replicate}
+use lib.ListN.{drop, replicate, length-replicate}
+use lib.Seq.{length-take-le}
+use Rattle.buffer.proofs.Splice.{spliced-start}
 use Rattle.buffer.specs.Splice.{spliced}
 use Rattle.buffer.specs.Given.{gave}
-use Rattle.buffer.specs.declared.Written.TheVariants.{Short, Done}
+use Rattle.std.specs.Prelude.{Ok, Err}
+use Rattle.cause.specs.declared.Refusal.TheVariants.{Short}
+use Rattle.buffer.specs.Given as given
 use Rattle.buffer.proofs.Given.{written-short, written-done}
 use Rattle.party.specs.Steps.{stepped}
 use Rattle.party.specs.declared.Reply.{Reply}
@@ -20,8 +24,8 @@ returns-then-out-need c =
     let zeros : List ℕ = replicate need 0 in
     let e = length-replicate {A = ℕ} need 0 in
     ap (λ (r : Reply). stepped r a.out.now) c.short.ensures
-    ∙ writes-given a.self a.next zeros a.out.now (Short need) a.out.now
-    (ap (λ (k : ℕ). gave (Short k) a.out.now) (sym e) ∙ sym (written-short zeros a.out.now (omega (arith, e, c.if-out-need.true))))
+    ∙ writes-given a.self a.next zeros a.out.now (Err (Short need)) a.out.now
+    (ap (λ (k : ℕ). gave (given.Short k) a.out.now) (sym e) ∙ sym (written-short zeros a.out.now (omega (arith, e, c.if-out-need.true))))
 
 pub returns : goal.returns
 returns c =
@@ -29,6 +33,9 @@ returns c =
     let need = 2 * a.self.seat.n in
     let zeros : List ℕ = replicate need 0 in
     let l = length-replicate {A = ℕ} need 0 in
-    writes-given a.self a.next zeros a.out.now (Done need) _
-    (ap (gave (Done need)) c.write_silence.ensures ∙ ap (λ (k : ℕ). gave (Done k) (spliced a.out.now 0 zeros)) (sym l)
+    let filled : c.fill.new.self ++ drop need a.out.now ≡ spliced a.out.now 0 zeros = ap (λ (b : List ℕ). b ++ drop need a.out.now)
+    (c.fill.ensures.after (λ y h. h) ∙ ap (λ (k : ℕ). replicate k 0) (length-take-le need a.out.now c.if-out-need.false))
+    ∙ sym (spliced-start a.out.now zeros ∙ ap (λ (k : ℕ). zeros ++ drop k a.out.now) l) in
+    writes-given a.self a.next zeros a.out.now (Ok need) _
+    (ap (gave (given.Done need)) filled ∙ ap (λ (k : ℕ). gave (given.Done k) (spliced a.out.now 0 zeros)) (sym l)
     ∙ sym (written-done zeros a.out.now (omega (arith, l, c.if-out-need.false))))
