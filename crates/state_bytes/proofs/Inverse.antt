@@ -20,7 +20,7 @@ use Rattle.buffer.proofs.Given.{written-done}
 use Rattle.buffer.proofs.Numbers.{number-back}
 use Rattle.merkle.specs.Shares.{blank}
 use Rattle.party.specs.State.{Result, nothing, settled, result_bytes, padded, at_root, at_bit, at_first, at_second, at_end}
-use Rattle.party.specs.declared.Outcome.TheVariants as outcome
+use Rattle.std.specs.Prelude.{Some, None}
 use Rattle.party.specs.declared.Stage.{Stage}
 use Rattle.party.specs.declared.Stage.TheVariants.{Root, Bit, First, Second, Ended}
 use Rattle.commitment.specs.declared.Seat.{Seat}
@@ -48,8 +48,8 @@ stage-known Root = omega arith
 stage-known Bit = omega arith
 stage-known First = omega arith
 stage-known Second = omega arith
-stage-known (Ended outcome.Nothing) = omega arith
-stage-known (Ended (outcome.Message l)) = omega arith
+stage-known (Ended None) = omega arith
+stage-known (Ended (Some l)) = omega arith
 
 stage-back : (k : Stage) (len : ℕ) → k ≡ stage_of (stage_number k) (length_for k len)
 unfolding stage_of
@@ -57,8 +57,8 @@ stage-back Root len = refl
 stage-back Bit len = refl
 stage-back First len = refl
 stage-back Second len = refl
-stage-back (Ended outcome.Nothing) len = refl
-stage-back (Ended (outcome.Message l)) len = refl
+stage-back (Ended None) len = refl
+stage-back (Ended (Some l)) len = refl
 
 pair-back : (k : ℕ) → k < 65536 → k ≡ k / 256 % 256 * 256 + k % 256
 pair-back k h = omega arith
@@ -217,6 +217,6 @@ module _ (s : Seat) (four : s.session < 2 ^ 32) (high : s.n ≤ max_parties) (fa
 
   pub end-storable : (r : Result) (f : ℕ) → length (result_bytes r) ≤ max_message → f < 2 ^ s.n → Storable (at_end s r f)
   unfolding at_end
-  end-storable nothing f h named = formed (Ended outcome.Nothing) [] blank [] 0 f (small f named) h refl (omega arith) (omega arith) refl
+  end-storable nothing f h named = formed (Ended None) [] blank [] 0 f (small f named) h refl (omega arith) (omega arith) refl
   end-storable (settled m) f h named =
-      formed (Ended (outcome.Message (length m))) m blank [] 0 f (small f named) h refl (omega arith) (omega (arith, h)) refl
+      formed (Ended (Some (length m))) m blank [] 0 f (small f named) h refl (omega arith) (omega (arith, h)) refl

@@ -2,62 +2,30 @@
 use mathlib.Core.Path.{◌≡◌, refl, sym, ap, ap₂, ◌∙◌}
 use mathlib.Core.Bool.{cond}
 use mathlib.Core.List.{List, [], ◌∷◌, ◌++◌, append_assoc}
-use Prim.Native.Nat.{ℕ, ◌+◌, ◌/◌, ◌%◌, ◌^◌, ◌≤◌, ◌<◌}
+use Prim.Native.Nat.{ℕ, ◌+◌, ◌%◌, ◌^◌, ◌≤◌, ◌<◌}
 use native.Mathlib.Decide.{ℕ_discrete, dec_lt}
 use native.Mathlib.Omega.{arith}
 use borrow.Author.Tests.{lt-ltb, le-ltb, eq-eqb, ne_eqb}
 use lib.Dec.{eqb, lit<}
-use lib.ListN.{length, get_or, take, drop, replicate, length-append, length-drop}
+use lib.ListN.{length, get_or, take, drop, length-append, length-drop}
 use lib.Seq.{length-take-le}
 use Rattle.limits.specs.Limits.{max_message, max_share}
 use Rattle.buffer.specs.Splice.{spliced, put_of}
 use Rattle.buffer.specs.Numbers.{four_bytes}
 use Rattle.buffer.specs.Given.{gave, written}
-use Rattle.buffer.specs.declared.Written.TheVariants as goal
+use Rattle.buffer.specs.Given as goal
 use Rattle.buffer.proofs.Splice.{put-fits, length-spliced, spliced-more}
 use Rattle.buffer.proofs.Given.{written-short, written-done}
+use Rattle.std.specs.Int.{to_be_bytes, w32, w64}
 use Rattle.party.specs.State.{seat_of, blank_state}
-use Rattle.party.proofs.Kept.{put_whole}
-use Rattle.party.specs.declared.Outcome.TheVariants as outcome
 use Rattle.party.specs.declared.Stage.{Stage}
-use Rattle.party.specs.declared.Stage.TheVariants.{Root, Bit, First, Second, Ended}
 use Rattle.party.specs.declared.Party.{Party}
 use Rattle.state_bytes.specs.Layout.{layout_version, root_place, head_length, state_length, stage_number, length_for, head_of, state_bytes, stage_of}
 use Rattle.state_bytes.specs.Layout.{version_told, stage_told, length_told, held_told, session_told, faulty_told, read_in, state_of}
 
--- a part of a list has the length that was asked for, where the list is long enough; so put into an array of that length it is all there is
+-- a part of a list has the length that was asked for, where the list is long enough
 length_part : (at k : ℕ) (s : List ℕ) → at + k ≤ length s → length (take k (drop at s)) ≡ k
 length_part at k s h = length-take-le k (drop at s) (omega (arith, length-drop at s))
-
-pub part-put : (at k : ℕ) (s : List ℕ) → at + k ≤ length s → put_of (replicate k 0) 0 (take k (drop at s)) ≡ take k (drop at s)
-part-put at k s h = put_whole k (take k (drop at s)) (length_part at k s h)
-
--- the stage of each number
-module _ (k len : ℕ) where
-  pub stage-root : k ≡ 0 → stage_of k len ≡ Root
-  unfolding stage_of
-  stage-root e = rw e
-
-  pub stage-bit : k ≡ 1 → stage_of k len ≡ Bit
-  unfolding stage_of
-  stage-bit e = rw e
-
-  pub stage-first : k ≡ 2 → stage_of k len ≡ First
-  unfolding stage_of
-  stage-first e = rw e
-
-  pub stage-second : k ≡ 3 → stage_of k len ≡ Second
-  unfolding stage_of
-  stage-second e = rw e
-
-  pub stage-nothing : k ≡ 4 → stage_of k len ≡ Ended outcome.Nothing
-  unfolding stage_of
-  stage-nothing e = rw e
-
-  pub stage-message : (k ≡ 0 → ⊥) → (k ≡ 1 → ⊥) → (k ≡ 2 → ⊥) → (k ≡ 3 → ⊥) → (k ≡ 4 → ⊥)
-      → stage_of k len ≡ Ended (outcome.Message len)
-  unfolding stage_of
-  stage-message a b c d e = rw (ne_eqb k 0 a, ne_eqb k 1 b, ne_eqb k 2 c, ne_eqb k 3 d, ne_eqb k 4 e)
 
 -- bytes that say no state, and those that do
 module _ (s : List ℕ) where
@@ -117,13 +85,14 @@ session-small s = elim (dec_lt (length s) state_length) [
 ]
 
 -- the numbers before the root
-pub head-is : (x : Party) (len a b c d e f g h : ℕ) (k m : List ℕ) → len ≡ length_for x.stage x.len → a ≡ x.seat.n % 256 → b ≡ x.seat.t % 256
-    → c ≡ x.seat.own % 256 → d ≡ stage_number x.stage → e ≡ len / 256 % 256 → f ≡ len % 256 → g ≡ x.held / 256 % 256 → h ≡ x.held % 256
-    → k ≡ four_bytes x.seat.session → m ≡ four_bytes x.faulty
-    → layout_version ∷ a ∷ b ∷ c ∷ d ∷ e ∷ f ∷ g ∷ h ∷ get_or k 0 0 ∷ get_or k 1 0 ∷ get_or k 2 0 ∷ get_or k 3 0
-    ∷ get_or m 0 0 ∷ get_or m 1 0 ∷ get_or m 2 0 ∷ get_or m 3 0 ∷ [] ≡ head_of x
+pub head-is : (x : Party) (n t own stage : ℕ) (len held session faulty : List ℕ) → n ≡ x.seat.n % 256 → t ≡ x.seat.t % 256 → own ≡ x.seat.own % 256
+    → stage ≡ stage_number x.stage → len ≡ to_be_bytes w64 (length_for x.stage x.len) → held ≡ to_be_bytes w64 x.held
+    → session ≡ to_be_bytes w32 x.seat.session → faulty ≡ to_be_bytes w32 x.faulty
+    → layout_version ∷ n ∷ t ∷ own ∷ stage ∷ get_or len 6 0 ∷ get_or len 7 0 ∷ get_or held 6 0 ∷ get_or held 7 0
+    ∷ get_or session 0 0 ∷ get_or session 1 0 ∷ get_or session 2 0 ∷ get_or session 3 0
+    ∷ get_or faulty 0 0 ∷ get_or faulty 1 0 ∷ get_or faulty 2 0 ∷ get_or faulty 3 0 ∷ [] ≡ head_of x
 unfolding head_of four_bytes
-head-is x len a b c d e f g h k m l qa qb qc qd qe qf qg qh qk qm = rw (qa, qb, qc, qd, qe, qf, qg, qh, qk, qm, l)
+head-is x n t own stage len held session faulty qn qt qo qg ql qh qs qf = rw (qn, qt, qo, qg, ql, qh, qs, qf)
 
 -- a state whose fields are those that the bytes say
 pub fields-are : (s : List ℕ) (number len session n t own : ℕ) (stage : Stage) (message : List ℕ) (l : ℕ) (root share : List ℕ) (held map : ℕ)

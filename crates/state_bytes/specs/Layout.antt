@@ -1,11 +1,10 @@
 -- The state of a party as bytes, which the host keeps: how it is written, and what bytes say as a state. All numbers are big-endian.
 -- Assumes nothing.
-use Rattle.std.specs.Prelude.{cond, not, ◌||◌, List, [], ◌∷◌, ◌++◌, ℕ, ◌+◌, ◌/◌, ◌%◌, ◌^◌, ltb, eqb, length, get_or, take, drop}
+use Rattle.std.specs.Prelude.{cond, not, ◌||◌, Some, None, List, [], ◌∷◌, ◌++◌, ℕ, ◌+◌, ◌/◌, ◌%◌, ◌^◌, ltb, eqb, length, get_or, take, drop}
 use Rattle.limits.specs.Limits.{max_message, max_share}
 use Rattle.buffer.specs.Entries.{size}
 use Rattle.buffer.specs.Numbers.{four_bytes, number}
 use Rattle.party.specs.State.{seat_of, blank_state}
-use Rattle.party.specs.declared.Outcome.TheVariants as outcome
 use Rattle.party.specs.declared.Stage.{Stage}
 use Rattle.party.specs.declared.Stage.TheVariants.{Root, Bit, First, Second, Ended}
 use Rattle.party.specs.declared.Party.{Party}
@@ -37,8 +36,8 @@ stage_number Root = 0
 stage_number Bit = 1
 stage_number First = 2
 stage_number Second = 3
-stage_number (Ended outcome.Nothing) = 4
-stage_number (Ended (outcome.Message l)) = 5
+stage_number (Ended None) = 4
+stage_number (Ended (Some l)) = 5
 
 -- the length written: of the result where the party ended with a message, of the message it holds else
 abbrev pub length_for : Stage → ℕ → ℕ
@@ -46,8 +45,8 @@ length_for Root len = len
 length_for Bit len = len
 length_for First len = len
 length_for Second len = len
-length_for (Ended outcome.Nothing) len = len
-length_for (Ended (outcome.Message l)) len = l
+length_for (Ended None) len = len
+length_for (Ended (Some l)) len = l
 
 -- a number in two bytes
 abbrev pub pair : ℕ → List ℕ
@@ -69,8 +68,8 @@ stage_of k len =
     (cond (eqb k 1) Bit
     (cond (eqb k 2) First
     (cond (eqb k 3) Second
-    (cond (eqb k 4) (Ended outcome.Nothing)
-    (Ended (outcome.Message len))))))
+    (cond (eqb k 4) (Ended None)
+    (Ended (Some len))))))
 
 -- the numbers that bytes hold
 abbrev pub version_told : List ℕ → ℕ
