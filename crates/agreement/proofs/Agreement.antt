@@ -35,7 +35,7 @@ use Rattle.commitment.proofs.Packets.{packet-valid, valid-length}
 use Rattle.commitment.proofs.Binding.{valid-share, one-root, CollisionFree, no-collision}
 use Rattle.party.specs.State.{Result, nothing, settled}
 use Rattle.party.specs.Steps.{share_from, rebuilt}
-use Rattle.party.specs.declared.Opened.{Opened}
+use Rattle.party.specs.Answer.{Opened}
 use Rattle.party.proofs.Ways.{Way, on, off, way, clash}
 use Rattle.agreement.specs.Calls.{heard, wrote, entry, lengths, opening, result_after, sent_by}
 use Rattle.agreement.specs.Agreement.{Good, among, absent, Each, owns, step, OpenedAll, CalledAll, Ruled, DeliveredAll, all_hashed, sent, Conclusions, Agreement}

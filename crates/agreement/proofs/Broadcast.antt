@@ -18,7 +18,7 @@ use Rattle.packet.specs.Message.{read_message}
 use Rattle.commitment.proofs.Opening.{open-bounds}
 use Rattle.party.specs.State.{Result, nothing, settled}
 use Rattle.party.specs.Sender.{message_read, packet_by}
-use Rattle.party.specs.declared.Opened.{Opened}
+use Rattle.party.specs.Answer.{Opened}
 use Rattle.party.proofs.Sender.{sender-message, other-message, sender-packet, other-packet, packet-short, sent-read, cause-bounds}
 use Rattle.party.proofs.Sender.{accepted-fits, accepted-opens, accepted-wrote}
 use Rattle.agreement.specs.Calls.{opening}

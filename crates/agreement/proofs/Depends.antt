@@ -32,8 +32,8 @@ use Rattle.party.specs.Steps.{root_cause, with_root, Stepped, gives, agree_root_
 use Rattle.party.specs.Steps.{entry, is_faulty, sent_faulty, faulty_in, faulty_shares, faulty_relays, faulty_of}
 use Rattle.party.specs.Strings.{unless_valid, judged_strings, share_strings, relay_strings}
 use Rattle.party.specs.declared.Party.{Party}
-use Rattle.party.specs.declared.Answer.{Answer}
-use Rattle.party.specs.declared.Answer.TheVariants as answer
+use Rattle.party.specs.Answer.{Answer}
+use Rattle.party.specs.Answer as answer
 use Rattle.agreement.specs.Calls.{Call, agree_root, agree_bit, take_shares, take_relays, made, checked_in, judged_in, recoded_in, hashed_in, settling_in}
 use Rattle.agreement.proofs.Strings.{both-in, checked-judged}
 use Rattle.party.proofs.Ways.{Way, on, off, way}

@@ -14,7 +14,7 @@ use Rattle.limits.specs.Limits.{parties, group_cause}
 use Rattle.party.specs.State.{Result, nothing, seat_of, at_root, at_bit, at_first, at_second, at_end, blank_state, broken, result_in, has_ended}
 use Rattle.party.specs.Steps.{open_cause, result_of, faulty_of}
 use Rattle.party.specs.declared.Party.{Party}
-use Rattle.party.specs.declared.Opened.{Opened}
+use Rattle.party.specs.Answer.{Opened}
 use Rattle.party.proofs.Kept.{result-end}
 use Rattle.party.proofs.Outcomes.{open-given, open-refused, holds-ended}
 use Rattle.party.proofs.Ways.{clash}

@@ -35,9 +35,9 @@ use Rattle.packet.specs.Class.{valid, faulty, class_of, class_strings}
 use Rattle.party.specs.State.{seat_of, padded, Result, nothing, settled, at_root, at_bit, at_first, at_second, at_end, blank_state, broken, message_root, happy}
 use Rattle.party.specs.Steps.{state_cause, open_cause, open_of, root_cause, agree_root_of, packet_for, bit_cause, outbox_of, agree_bit_of, inbox_cause, first_valid}
 use Rattle.party.specs.Steps.{gives, sent_faulty, faulty_shares, faulty_relays, faulty_of, relay_of, held_of, take_shares_of, gathered, result_found, result_of, relays_cause, take_relays_of}
-use Rattle.party.specs.declared.Outcome.TheVariants.{Message}
+use Rattle.std.specs.Prelude.{Some}
 use Rattle.party.specs.declared.Stage.TheVariants.{Ended}
-use Rattle.party.specs.declared.Answer.TheVariants as answer
+use Rattle.party.specs.Answer as answer
 use Rattle.party.specs.declared.Party.{Party}
 use Rattle.party.specs.Strings.{judged_strings, share_strings}
 use Rattle.party.proofs.Ways.{Way, on, off, way, clash}
@@ -252,7 +252,7 @@ two-books = record { own = 1; message = 0x41 ∷ []; calls = calls1 } ∷ record
 abbrev pub dirty : Party
 dirty = record {
   seat = seat_of 7 3 1 2;
-  stage = Ended (Message 2);
+  stage = Ended (Some 2);
   message = padded max_message (0x41 ∷ 0x42 ∷ 0x58 ∷ []);
   len = 3;
   root = z;

@@ -21,8 +21,8 @@ use Rattle.party.specs.State.{seat_of, Result, nothing, at_root, at_bit, at_firs
 use Rattle.party.specs.State.{result_in, message_root, happy}
 use Rattle.party.specs.Steps.{open_cause, Stepped, gives, outbox_of, faulty_shares, relay_of, held_of, result_of, faulty_of}
 use Rattle.party.specs.declared.Party.{Party}
-use Rattle.party.specs.declared.Opened.{Opened}
-use Rattle.party.specs.declared.Answer.TheVariants as answer
+use Rattle.party.specs.Answer.{Opened}
+use Rattle.party.specs.Answer as answer
 use Rattle.party.proofs.Kept.{take-padded, result-end}
 use Rattle.party.proofs.Outcomes.{open-given, open-refused}
 use Rattle.party.proofs.Ways.{Way, on, off, way}

@@ -19,8 +19,8 @@ use Rattle.party.specs.Steps.{turn_of, state_cause, root_cause, with_root, Stepp
 use Rattle.party.specs.Steps.{agree_bit_of, inbox_cause, relays_cause, faulty_shares, relay_of, held_of, take_shares_of, result_of, faulty_of, ending, take_relays_of}
 use Rattle.party.specs.declared.Party.{Party}
 use Rattle.commitment.specs.declared.Seat.{Seat}
-use Rattle.party.specs.declared.Answer.{Answer}
-use Rattle.party.specs.declared.Answer.TheVariants as answer
+use Rattle.party.specs.Answer.{Answer}
+use Rattle.party.specs.Answer as answer
 use Rattle.party.proofs.Ways.{Way, on, off, way}
 use Rattle.commitment.proofs.Opening.{cleared, spared}
 use Rattle.party.proofs.Causes.{state-sound, inbox-sound, relays-sound}

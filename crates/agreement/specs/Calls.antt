@@ -11,7 +11,7 @@ use Rattle.party.specs.Steps.{open_of, Stepped, agree_root_of, agree_bit_of, tak
 unfoldable pub use Rattle.party.specs.Steps.{entry}
 use Rattle.party.specs.Strings.{share_strings, all_share_strings, relay_strings}
 use Rattle.party.specs.declared.Party.{Party}
-use Rattle.party.specs.declared.Opened.{Opened}
+use Rattle.party.specs.Answer.{Opened}
 
 -- a call of step 2, 3, 4 or 5, with what it is handed: a root; a bit and the out buffer; an inbox and the out buffer
 pub data Call : Type 0 where
