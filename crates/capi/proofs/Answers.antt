@@ -1,39 +1,36 @@
 -- The answers of the calls: the number, the state and the buffer that the functions gave are those of the definition. One law for each outcome.
 -- Assumes nothing.
 use mathlib.Core.Path.{◌≡◌, refl, sym, ap, ap₂, ◌∙◌}
-use mathlib.Core.List.{List, []}
+use mathlib.Core.List.{List}
 use mathlib.Core.Option.{Option, none, some}
 use Prim.Native.Nat.{ℕ, ◌<◌, ◌≤◌, ◌^◌}
 use native.Mathlib.Decide.{dec_lt}
 use native.Mathlib.Omega.{arith}
 use borrow.Author.Tests.{lt-ltb, le-ltb, eq-eqb, ne_eqb}
 use lib.ListN.{length}
-use Rattle.buffer.specs.Given.{written}
-use Rattle.sha256.specs.Sha256.{hash_of}
+use Rattle.std.specs.Prelude.{Result as Answered, Ok, Err}
+use Rattle.cause.specs.declared.Refusal.{Refusal}
+use Rattle.cause.specs.declared.Refusal.TheVariants as refusal
+use Rattle.cause.proofs.Numbers.{number-nonzero}
+use Rattle.buffer.specs.Given.{said, cause_of, value_of, written}
+use Rattle.sha256.specs.Sha256.{sha256}
 use Rattle.party.specs.State.{Result, nothing, settled}
-use Rattle.party.specs.Steps.{open_of, cause_of, value_of, result_given, faulty_given, Stepped, stepped}
-use Rattle.party.specs.Sender.{message_by, packet_by, sender_cause, Begun, open_by_sender_of}
+use Rattle.party.specs.Steps.{open_of, Stepped, stepped}
+use Rattle.party.specs.Answer.{opened_by, value_by}
+use Rattle.party.specs.Sender.{message_by, packet_by, sender_cause, Begun, begun, open_by_sender_of}
+use Rattle.party.specs.declared.Begun.{Begun as Started}
+use Rattle.party.specs.declared.OpenedBySender.{OpenedBySender}
 use Rattle.party.proofs.Sender.{cause-bounds, begun-short, begun-given}
+use Rattle.party.proofs.Sender.{value-fits as value-small}
 use Rattle.party.proofs.Outcomes as party
-use Rattle.party.specs.declared.Opened.{Opened}
-use Rattle.party.specs.declared.Answer.{Answer}
-use Rattle.party.specs.declared.Answer.TheVariants as answer
+use Rattle.party.specs.Answer.{Opened}
 use Rattle.party.specs.declared.Party.{Party}
 use Rattle.party.specs.declared.Reply.{Reply}
 use Rattle.state_bytes.specs.Layout.{state_length, state_bytes, state_of}
 use Rattle.agreement.specs.Calls.{Call, made}
-use Rattle.capi.specs.Calls.{packed, returned, replies, value_shown, number_of, over, open_call, opens, open_by_sender_call, called, filled, hash_call}
+use Rattle.capi.specs.Calls.{packed, replies, value_shown, number_of, over, open_call, opens, open_by_sender_call, called}
 
--- the value hangs on the answer and not on the buffer, and fits its half
-value_same : (a : Answer) (out : List ℕ)
-    → value_shown (result_given a []) (faulty_given a) (value_of a) ≡ value_shown (result_given a out) (faulty_given a) (value_of a)
-value_same (answer.Refused k) out = refl
-value_same (answer.Short l) out = refl
-value_same (answer.Happy b) out = refl
-value_same (answer.Sent l) out = refl
-value_same (answer.Nothing f) out = refl
-value_same (answer.Message l f) out = refl
-
+-- the value of an answer fits its half
 pub value-fits : (r : Option Result) (f v : ℕ) → v < 2 ^ 32 → f < 2 ^ 31 → value_shown r f v < 2 ^ 32
 value-fits none f v h g = h
 value-fits (some nothing) f v h g = omega (arith, g)
@@ -47,26 +44,11 @@ module _ (s : List ℕ) (r : Stepped) where
   pub over-left : (r.cause ≡ 0 → ⊥) → over s r ≡ replies (number_of r) s r.buffer
   over-left h = rw (ne_eqb r.cause 0 h)
 
-module _ (r : Reply) (s : List ℕ) (k v p : ℕ) (told : k ≡ cause_of r.answer)
-    (valued : v ≡ value_shown (result_given r.answer []) (faulty_given r.answer) (value_of r.answer)) where
-  number_is : (out : List ℕ) → packed k v ≡ number_of (stepped r out)
-  number_is out = ap₂ packed told (valued ∙ value_same r.answer out)
-
-  pub finish-written : k ≡ 0 → p ≡ packed 0 v → (S : List ℕ) → S ≡ (written (state_bytes r.state) s).buffer → (out : List ℕ)
-      → replies p S out ≡ over s (stepped r out)
-  finish-written e packing S q out =
-      ap₂ (λ (n : ℕ) (l : List ℕ). replies n l out) (packing ∙ ap (λ (i : ℕ). packed i v) (sym e) ∙ number_is out) q
-      ∙ sym (over-written s (stepped r out) (sym told ∙ e))
-
-  pub finish-left : (k ≡ 0 → ⊥) → p ≡ packed k v → (out : List ℕ) → replies p s out ≡ over s (stepped r out)
-  finish-left h packing out =
-      ap (λ (n : ℕ). replies n s out) (packing ∙ number_is out) ∙ sym (over-left s (stepped r out) (λ e. h (told ∙ e)))
-
 -- a step on the state that was read, finished
-pub step-told : (H : List ℕ → List ℕ) (s S o : List ℕ) (p : ℕ) (x : Party) (c : Call) (r : Reply) → x ≡ state_of s → stepped r o ≡ made H x c
+pub step-told : (H : List ℕ → List ℕ) (s : List ℕ) {S o : List ℕ} {p : ℕ} {x : Party} (c : Call) (r : Reply) → x ≡ state_of s → stepped r o ≡ made H x c
     → ((out : List ℕ) → replies p S out ≡ over s (stepped r out)) → replies p S o ≡ called H s c
 unfolding called
-step-told H s S o p x c r q e f = f o ∙ ap (over s) (e ∙ ap (λ (y : Party). made H y c) q)
+step-told H s {o = o} c r q e f = f o ∙ ap (over s) (e ∙ ap (λ (y : Party). made H y c) q)
 
 -- the opening
 module _ (H : List ℕ → List ℕ) (session n t own : ℕ) (m s z : List ℕ) where
@@ -140,18 +122,46 @@ module _ (H : List ℕ → List ℕ) (session n t own q : ℕ) (bs s z out : Lis
         ∙ ap (λ (o : Opened). o.cause) (party.open-given H session n t own (message_by own q bs) (cause-bounds n t own q bs fine).0)))
   ]
 
-pub opens-are : (p P : ℕ) (s S z Z o O : List ℕ) → p ≡ P → s ≡ S → z ≡ Z → o ≡ O → opens p s z o ≡ opens P S Z O
-opens-are p P s S z Z o O qp qs qz qo = rw (qp, qs, qz, qo)
+-- what a refused opening by a named sender tells
+module _ (session n t own q : ℕ) (bs out : List ℕ) (r : OpenedBySender) (new : List ℕ) (e : Refusal)
+    (gives : begun r new ≡ open_by_sender_of sha256 session n t own q bs out) (short : r.answer ≡ Err e) where
+  cause-told : (open_by_sender_of sha256 session n t own q bs out).opened.cause ≡ cause_of (said (Err e))
+  cause-told = sym (ap (λ (b : Begun). b.opened.cause) gives) ∙ ap (λ (a : Answered Started Refusal). (opened_by r.state a).cause) short ∙ of-cause e
+    where
+      of-cause : (k : Refusal) → (opened_by r.state (Err k)).cause ≡ cause_of (said (Err k))
+      of-cause (refusal.Because c) = refl
+      of-cause (refusal.Short l) = refl
 
--- the hash
-module _ (m out : List ℕ) where
-  pub hash-refused : ((hash_of m).cause ≡ 0 → ⊥) → hash_call m out ≡ returned (packed (hash_of m).cause 0) out
-  unfolding hash_call
-  hash-refused h = rw (ne_eqb (hash_of m).cause 0 h)
+  value-told : (open_by_sender_of sha256 session n t own q bs out).value ≡ value_of (said (Err e))
+  value-told = sym (ap (λ (b : Begun). b.value) gives) ∙ ap value_by short ∙ of-value e
+    where
+      of-value : (k : Refusal) → value_by (Err k) ≡ value_of (said (Err k))
+      of-value (refusal.Because c) = refl
+      of-value (refusal.Short l) = refl
 
-  pub hash-given : (hash_of m).cause ≡ 0 → hash_call m out ≡ filled (written (hash_of m).digest out)
-  unfolding hash_call
-  hash-given h = rw (eq-eqb (hash_of m).cause 0 h)
+  refused-told : (open_by_sender_of sha256 session n t own q bs out).opened.cause ≡ 0 → ⊥
+  refused-told h = nonzero e (sym cause-told ∙ h)
+    where
+      nonzero : (k : Refusal) → cause_of (said (Err k)) ≡ 0 → ⊥
+      nonzero (refusal.Because c) = number-nonzero c
+      nonzero (refusal.Short l) = omega arith
+
+  pub short-fits : value_of (said (Err e)) < 2 ^ 32
+  short-fits = omega (arith, value-told, value-small n t own q bs sha256 session out)
+
+  pub short-told : (s z : List ℕ) (p : ℕ) → sender_cause n t own q bs ≡ 0 → state_length ≤ length s → 32 ≤ length z → p ≡ packed (cause_of (said (Err e))) (value_of (said (Err e)))
+      → opens p s z new ≡ open_by_sender_call sha256 session n t own q bs s z out
+  short-told s z p fine long wide told =
+      let number = told ∙ ap₂ packed (sym cause-told) (sym value-told) in
+      let kept = ap (λ (b : Begun). b.buffer) gives ∙ sender-kept sha256 session n t own q bs s z out fine refused-told in
+      ap₂ (λ (i : ℕ) (o : List ℕ). opens i s z o) number kept ∙ sym (sender-short sha256 session n t own q bs s z out fine long wide refused-told)
+
+-- and the length of the packet that was written
+pub begun-fits : (session n t own q : ℕ) (bs out : List ℕ) (r : OpenedBySender) (new : List ℕ) (b : Started)
+    → begun r new ≡ open_by_sender_of sha256 session n t own q bs out → r.answer ≡ Ok b → b.len < 2 ^ 32
+begun-fits session n t own q bs out r new b gives done =
+    let same : b.len ≡ (open_by_sender_of sha256 session n t own q bs out).value = sym (ap value_by done) ∙ ap (λ (g : Begun). g.value) gives in
+    omega (arith, same, value-small n t own q bs sha256 session out)
 
 -- the parts of a reply
 pub replies-are : (p P : ℕ) (s S o O : List ℕ) → p ≡ P → s ≡ S → o ≡ O → replies p s o ≡ replies P S O

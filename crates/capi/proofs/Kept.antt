@@ -15,7 +15,7 @@ use Rattle.party.specs.State.{seat_of, Result, nothing, settled, message_in, at_
 use Rattle.party.specs.Steps.{open_of, Stepped, faulty_shares, held_of, result_of, faulty_of}
 use Rattle.commitment.specs.declared.Seat.{Seat}
 use Rattle.party.specs.declared.Party.{Party}
-use Rattle.party.specs.declared.Opened.{Opened}
+use Rattle.party.specs.Answer.{Opened}
 use Rattle.party.proofs.Causes.{fit_of}
 use Rattle.party.proofs.Faulty.{holds-empty, holds-shares, holds-given}
 use Rattle.party.proofs.Progress.{message-short, held-short, result-short, end_whole}

@@ -14,11 +14,13 @@ use lib.ListN.{length, length-take}
 use Rattle.limits.specs.Limits.{max_parties, max_message, max_share, group_cause}
 use Rattle.limits.proofs.Group.{group_of}
 use Rattle.buffer.specs.Splice.{spliced}
-use Rattle.buffer.specs.Given.{Given, gave, written}
-use Rattle.buffer.specs.declared.Written.TheVariants as goal
+use Rattle.buffer.specs.Given.{Given, Written, value_of, gave, written}
+use Rattle.buffer.specs.Given as goal
 use Rattle.erasure.specs.Coding.{share_length, shares, encode_of}
 use Rattle.erasure.specs.Rebuild.{Recovered, cause, message, answered, rebuild_of}
 use Rattle.erasure.proofs.Frame.{share-most}
+use Rattle.sha256.specs.Sha256.{sha256}
+use Rattle.sha256.proofs.Laws.{sha256-length}
 use Rattle.commitment.specs.Private.{Coded}
 use Rattle.commitment.specs.Rooms.{max_packet, max_outbox}
 use Rattle.commitment.proofs.Shared.{length-shares}
@@ -28,7 +30,7 @@ use Rattle.party.specs.Steps.{inbox_cause, relays_cause, relay_of, held_of, faul
 use Rattle.party.specs.Private.{Fit}
 use Rattle.party.specs.declared.Party.{Party}
 use Rattle.party.specs.declared.Reply.{Reply}
-use Rattle.party.specs.declared.Answer.TheVariants as answer
+use Rattle.party.specs.Answer as answer
 use Rattle.party.proofs.Causes.{state-fit, state-sound, inbox-sound, relays-sound}
 use Rattle.party.proofs.Kept.{take-padded}
 use Rattle.party.proofs.Outcomes.{root-refused, root-given}
@@ -181,9 +183,6 @@ module _ (H : List ℕ → List ℕ) (wide : (s : List ℕ) → length (H s) ≡
   call-small (take_shares inbox out) = shares-small inbox out
   call-small (take_relays inbox out) = relays-small inbox out
 
-  pub step_small : (c : Call) (r : Reply) (out : List ℕ) → stepped r out ≡ made H x c → Fitting (stepped r [])
-  step_small c r out e = subst Fitting (sym e) (call-small c)
-
   -- so both halves are there: what the header's two helpers give
   pub call-halves : (c : Call) → let r = made H x c in
       (number_of r / 2 ^ 32 ≡ r.cause) × (number_of r % 2 ^ 32 ≡ value_shown r.result r.faulty r.value)
@@ -194,10 +193,31 @@ module _ (H : List ℕ → List ℕ) (wide : (s : List ℕ) → length (H s) ≡
       let h = value-fits r.result r.faulty r.value g.0 g.1 in
       (omega (arith, h), omega (arith, h))
 
+-- so every answer of a step fits
+module _ (x : Party) (r : Reply) (new : List ℕ) where
+  pub root_fits : (z : List ℕ) → stepped r new ≡ agree_root_of sha256 x z → Fitting (stepped r [])
+  root_fits z e = subst Fitting (sym e) (root-small sha256 sha256-length x z)
+
+  pub bit_fits : (bit : ℕ) (out : List ℕ) → stepped r new ≡ agree_bit_of sha256 x bit out → Fitting (stepped r [])
+  bit_fits bit out e = subst Fitting (sym e) (bit-small sha256 sha256-length x bit out)
+
+  pub shares_fit : (inbox out : List ℕ) → stepped r new ≡ take_shares_of sha256 x inbox out → Fitting (stepped r [])
+  shares_fit inbox out e = subst Fitting (sym e) (shares-small sha256 sha256-length x inbox out)
+
+  pub relays_fit : (inbox out : List ℕ) → stepped r new ≡ take_relays_of sha256 x inbox out → Fitting (stepped r [])
+  relays_fit inbox out e = subst Fitting (sym e) (relays-small sha256 sha256-length x inbox out)
+
+abbrev Below : Given → Type 0
+Below g = g.value < 2 ^ 32
+
+-- what is answered has the value of what was given
+pub given_small : (w : Written) (out : List ℕ) (g : Given) → gave w out ≡ g → g.value < 2 ^ 32 → value_of w < 2 ^ 32
+given_small w out g e h = subst Below (sym e) h
+
 -- the shares of a message
-pub encode-small : (n t : ℕ) (m out : List ℕ) → (encode_of n t m out).value < 2 ^ 32
+pub encode_small : (n t : ℕ) (m out : List ℕ) → (encode_of n t m out).value < 2 ^ 32
 unfolding encode_of
-encode-small n t m out = elim (ℕ_discrete (group_cause n t) 0) [
+encode_small n t m out = elim (ℕ_discrete (group_cause n t) 0) [
   | yes e ↦ rw (eq-eqb (group_cause n t) 0 e) (go e (ltb max_message (length m)) refl)
   | no e ↦ rw (ne_eqb (group_cause n t) 0 e) (omega arith)
 ]
@@ -221,21 +241,18 @@ encode-small n t m out = elim (ℕ_discrete (group_cause n t) 0) [
         omega (arith, value-of (shares n (n - t) m) out, fits e (ltb-false max_message (length m) q))
 
 -- a message rebuilt
-abbrev Below : Given → Type 0
-Below g = g.value < 2 ^ 32
-
 answered-small : (r : Recovered) (out : List ℕ) → Short r → (answered r out).value < 2 ^ 32
 answered-small (cause k) out h = omega arith
 answered-small (message m) out h = omega (arith, value-of m out, h)
 
-pub rebuild-small : (n t : ℕ) (es out : List ℕ) → (rebuild_of n t es out).value < 2 ^ 32
-rebuild-small n t es out = elim (ℕ_discrete (group_cause n t) 0) [
+pub rebuild_small : (n t : ℕ) (es out : List ℕ) → (rebuild_of n t es out).value < 2 ^ 32
+rebuild_small n t es out = elim (ℕ_discrete (group_cause n t) 0) [
   | yes e ↦ subst Below (sym (rebuild-entries n t es out e)) (answered-small (entries_found n t es) out (short-entries n t es))
   | no e ↦ subst Below (sym (rebuild-refused n t es out e)) (omega arith)
 ]
 
-pub with-root-small : (H : List ℕ → List ℕ) (session n t : ℕ) (z es out : List ℕ) → (rebuild_with_root_of H session n t z es out).value < 2 ^ 32
-with-root-small H session n t z es out = elim (ℕ_discrete (group_cause n t) 0) [
+pub with_root_small : (H : List ℕ → List ℕ) (session n t : ℕ) (z es out : List ℕ) → (rebuild_with_root_of H session n t z es out).value < 2 ^ 32
+with_root_small H session n t z es out = elim (ℕ_discrete (group_cause n t) 0) [
   | yes e ↦ elim (ℕ_discrete (length z) 32) [
     | yes w ↦ subst Below (sym (with-root-entries n t es out H session z e w))
         (answered-small (under_root H session n t z (entries_found n t es)) out (short-under H session n t z (entries_found n t es) (short-entries n t es)))
@@ -245,5 +262,5 @@ with-root-small H session n t z es out = elim (ℕ_discrete (group_cause n t) 0)
 ]
 
 -- a digest
-pub digest-small : (d out : List ℕ) → length d ≡ 32 → (written d out).value < 2 ^ 32
-digest-small d out e = omega (arith, value-of d out, e)
+pub digest_small : (d out : List ℕ) → length d ≡ 32 → (written d out).value < 2 ^ 32
+digest_small d out e = omega (arith, value-of d out, e)

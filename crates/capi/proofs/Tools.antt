@@ -1,66 +1,69 @@
 -- The tools beside the steps: the number that a packet gives, whose parts are small, and the check of a path that lies as bytes.
 -- Assumes nothing.
-use mathlib.Core.Path.{◌≡◌, refl, ap, subst, ◌∙◌}
+use mathlib.Core.Path.{◌≡◌, refl, sym, ap, subst, ◌∙◌}
 use mathlib.Core.Bool.{Bool, true, false, cond, not}
-use mathlib.Core.List.{List, [], ◌∷◌}
-use Prim.Native.Nat.{ℕ, ◌+◌, ◌-◌, ◌/◌, ◌%◌, ◌≤◌}
+use mathlib.Core.List.{List}
+use Prim.Native.Nat.{ℕ, ◌+◌, ◌-◌, ◌/◌, ◌≤◌}
 use native.Mathlib.Nat.{mul-div-le}
 use native.Mathlib.Decide.{dec_lt}
 use native.Mathlib.Omega.{arith}
-use borrow.Author.Tests.{eq-eqb, ne_eqb}
-use types.Run.{OneOf, miss}
-use denote.Enum.Declared.{tag_of}
+use borrow.Author.Tests.{ne_eqb}
 use lib.Dec.{ltb, eqb}
 use lib.ListN.{length, drop, replicate}
-use Rattle.limits.specs.Limits.{max_parties, max_path, max_share, max_hashed, parties, numbered}
+use Rattle.std.specs.Prelude.{Option, Some, Result, Ok}
+use Rattle.cause.specs.declared.Cause.{Cause}
+use Rattle.limits.specs.Limits.{max_parties, max_path, max_share, max_message, max_hashed, parties, numbered}
 use Rattle.limits.proofs.Ranges.{parties-range, numbered-range}
 use Rattle.sha256.specs.Sha256.{sha256}
 use Rattle.merkle.specs.Answer.{Check, not_checked, answer_of}
 use Rattle.merkle.specs.Shares.{front_length, blank, sides_of, passes, check_of}
 use Rattle.merkle.proofs.Descend.{sides-fit}
 use Rattle.packet.specs.Format.{hashes, read_of}
-use Rattle.packet.specs.Answer.{placed, read_at, path_at}
-use Rattle.packet.specs.declared.Packet.{Packet}
-use Rattle.packet.specs.declared.Packet.TheVariants as packet
-use Rattle.packet.specs.contracts.Packet.{the_type}
+use Rattle.packet.specs.Answer.{told, placed, read_at, path_at}
+use Rattle.packet.specs.declared.Share.{Share}
+use Rattle.packet.specs.Packet.{Packet, read_said}
+use Rattle.packet.specs.Packet as packet
+use Rattle.packet.specs.Message.{read_message}
+use Rattle.packet.specs.Message as message
+use Rattle.packet.specs.MessagePacket.{MessagePacket, message_said}
+use Rattle.packet.specs.MessagePacket as whole
 use Rattle.packet.proofs.Path.{length-hashes, path-there}
-use Rattle.packet.proofs.Reading.{lies-of}
+use Rattle.packet.proofs.Reading.{told-one, lies-of}
+use Rattle.packet.proofs.Messages.{placed-message, read_length}
 use Rattle.packet.proofs.Verdict.{passes-take}
-use Rattle.capi.specs.Calls.{packed, read_answer, check_answer, check_path_call}
 
--- a packet that was read, and is no share: silence
-pub read-silent : (r : Packet) → OneOf (1 ∷ 2 ∷ []) (tag_of the_type r) → OneOf (0 ∷ 1 ∷ []) (tag_of the_type r) → read_answer r ≡ packed 0 0
-read-silent (packet.Refused k) h g = absurd (miss (1 ∷ 2 ∷ []) 0 tt h)
-read-silent packet.Silence h g = refl
-read-silent (packet.Share number from len count) h g = absurd (miss (0 ∷ 1 ∷ []) 2 tt g)
-
--- the parts of a share's number
-pub record Parts (number len count : ℕ) : Type 0 where
-  pub numbers : number ≤ max_parties
-  pub bytes : len ≤ max_share
-  pub hashes : count ≤ max_path
-
-abbrev PartsIn : Packet → Type 0
+-- the parts of a share are small
+PartsIn : Packet → Type 0
 PartsIn (packet.Refused k) = Unit {0}
 PartsIn packet.Silence = Unit {0}
-PartsIn (packet.Share number from len count) = Parts number len count
+PartsIn (packet.Share number from len count) = (number ≤ max_parties) × (len ≤ max_share) × (count ≤ max_path)
 
-pub parts-of : (n : ℕ) (p : List ℕ) (number from len count : ℕ) → read_at n p 0 ≡ packet.Share number from len count
-    → Parts number len count
-unfolding read_at
+parts-of : (n : ℕ) (p : List ℕ) (number from len count : ℕ) → read_at n p 0 ≡ packet.Share number from len count
+    → (number ≤ max_parties) × (len ≤ max_share) × (count ≤ max_path)
+unfolding read_at PartsIn
 parts-of n p number from len count e = go (parties n) refl e
   where
     go : (b : Bool) → parties n ≡ b
-        → cond (not b) (packet.Refused 1) (placed 0 (read_of n (drop 0 p))) ≡ packet.Share number from len count → Parts number len count
+        → cond (not b) (packet.Refused 1) (placed 0 (read_of n (drop 0 p))) ≡ packet.Share number from len count
+        → (number ≤ max_parties) × (len ≤ max_share) × (count ≤ max_path)
     go false q h = subst PartsIn h tt
     go true q h =
         let l = lies-of n 0 (drop 0 p) number from len count h in
         let high = (parties-range n q).1 in
-        record {
-          numbers = omega (arith, l.high, high);
-          bytes = l.most;
-          hashes = omega (arith, l.counted, sides-fit n (number - 1) high (omega (arith, l.low, l.high)));
-        }
+        (omega (arith, l.high, high), l.most, omega (arith, l.counted, sides-fit n (number - 1) high (omega (arith, l.low, l.high))))
+
+-- what the packet's reader answered
+module _ (n : ℕ) (s : List ℕ) (r : Result (Option Share) Cause) (e : told (read_said r) ≡ told (read_at n s 0)) where
+  pub parts_told : (m : Option Share) (x : Share) → r ≡ Ok m → m ≡ Some x → (x.number ≤ max_parties) × (x.len ≤ max_share) × (x.count ≤ max_path)
+  parts_told m x q k = parts-of n s x.number x.from x.len x.count (sym (told-one e) ∙ ap read_said (q ∙ ap Ok k))
+
+-- and a message that was read is no longer than any
+pub message_short : (s : List ℕ) (r : Result (Option ℕ) Cause) (m : Option ℕ) (len : ℕ) → message.told (message_said r) ≡ message.told (message.placed (read_message s))
+    → r ≡ Ok m → m ≡ Some len → len ≤ max_message
+message_short s r m len e q k =
+    let same : message.placed (read_message s) ≡ whole.Message len = sym (ap (λ (t : message.Told). t.answer) e) ∙ ap message_said (q ∙ ap Ok k) in
+    let m = placed-message (read_message s) len same in
+    omega (arith, m.2, read_length s m.0 m.1)
 
 -- the path that lies as bytes, in an array or as it is
 module _ (session n j : ℕ) (share path root : List ℕ) where
@@ -79,9 +82,9 @@ module _ (session n j : ℕ) (share path root : List ℕ) where
             ∙ passes-take session n j share (hashes Count path) (replicate (max_path - Count) blank) Count root (length-hashes Count path)
       ]
 
-  pub path-checked : check_of sha256 session n j share (path_at path 0 Count) Count root ≡ check_of sha256 session n j share (hashes Count path) Count root
+  pub path_checked : check_of sha256 session n j share (path_at path 0 Count) Count root ≡ check_of sha256 session n j share (hashes Count path) Count root
   unfolding check_of
-  path-checked = go (parties n) refl (numbered n j) refl
+  path_checked = go (parties n) refl (numbered n j) refl
     where
       after : Bool → Check
       after t = cond (ltb max_hashed (front_length session + length share)) (not_checked 4) (cond (not (eqb (length root) 32)) (not_checked 7) (answer_of t))
@@ -92,14 +95,3 @@ module _ (session n j : ℕ) (share path root : List ℕ) where
       go false p b q = refl
       go true p false q = refl
       go true p true q = ap after (same-passes p q)
-
-  pub check-uneven : (length path % 32 ≡ 0 → ⊥)
-      → check_path_call sha256 session n j share path root ≡ check_answer (check_of sha256 session n j share (hashes Count path) Count root).cause false
-  unfolding check_path_call
-  check-uneven h = rw (ne_eqb (length path % 32) 0 h)
-
-  pub check-whole : length path % 32 ≡ 0
-      → check_path_call sha256 session n j share path root
-      ≡ (let r = check_of sha256 session n j share (hashes Count path) Count root in check_answer r.cause r.passed)
-  unfolding check_path_call
-  check-whole h = rw (eq-eqb (length path % 32) 0 h)

@@ -1,7 +1,7 @@
 -- What each exported function gives back: its number, with the cause in the upper half and the value in the lower, and the bytes of the lent
 -- buffers. Every one is the definition of the party, the coder, the tree, the commitment or the packets, on what the bytes say. The hash is a parameter H.
 -- Assumes nothing.
-use Rattle.std.specs.Prelude.{Bool, cond, not, ◌&&◌, List, ℕ, ◌+◌, ◌*◌, ◌/◌, ◌%◌, ◌^◌, ltb, eqb, length}
+use Rattle.std.specs.Prelude.{Bool, cond, not, ◌&&◌, Some, None, List, ℕ, ◌+◌, ◌*◌, ◌/◌, ◌%◌, ◌^◌, ltb, eqb, length}
 use Rattle.std.proofs.Math.Option.{Option, none, some}
 use Rattle.buffer.specs.Given.{Given, written}
 use Rattle.erasure.specs.Coding.{encode_of}
@@ -12,14 +12,13 @@ use Rattle.merkle.specs.Shares.{check_of}
 use Rattle.packet.specs.Format.{hashes}
 use Rattle.packet.specs.Answer.{read_at}
 use Rattle.packet.specs.Message.{placed, read_message}
-use Rattle.packet.specs.declared.MessagePacket.{MessagePacket}
-use Rattle.packet.specs.declared.MessagePacket.TheVariants as whole
-use Rattle.packet.specs.declared.Packet.{Packet}
-use Rattle.packet.specs.declared.Packet.TheVariants as packet
+use Rattle.packet.specs.MessagePacket.{MessagePacket}
+use Rattle.packet.specs.MessagePacket as whole
+use Rattle.packet.specs.Packet.{Packet}
+use Rattle.packet.specs.Packet as packet
 use Rattle.party.specs.State.{Result, nothing, settled, broken}
 use Rattle.party.specs.Steps.{open_of, Stepped}
 use Rattle.party.specs.Sender.{sender_cause, open_by_sender_of}
-use Rattle.party.specs.declared.Outcome.TheVariants as outcome
 use Rattle.party.specs.declared.Stage.{Stage}
 use Rattle.party.specs.declared.Stage.TheVariants.{Root, Bit, First, Second, Ended}
 use Rattle.party.specs.declared.Party.{Party}
@@ -130,8 +129,8 @@ length_answer Root = packed 6 0
 length_answer Bit = packed 6 0
 length_answer First = packed 6 0
 length_answer Second = packed 6 0
-length_answer (Ended outcome.Nothing) = packed 6 0
-length_answer (Ended (outcome.Message l)) = packed 0 l
+length_answer (Ended None) = packed 6 0
+length_answer (Ended (Some l)) = packed 0 l
 
 unfoldable pub result_length_call : List ℕ → ℕ
 result_length_call s = unless_broken (state_of s) (length_answer (state_of s).stage)
