@@ -12,7 +12,7 @@ use lib.ListN.{length, take}
 use Rattle.limits.specs.Limits.{max_message, parties, group_cause}
 use Rattle.buffer.specs.Entries.{size, body, rest, fills, bodies}
 use Rattle.buffer.specs.Given.{gave}
-use Rattle.buffer.specs.declared.Written.TheVariants.{Refused}
+use Rattle.buffer.specs.Given.{Refused}
 use Rattle.erasure.specs.Coding.{share_length}
 use Rattle.erasure.specs.Rebuild.{Point, Recovered, cause, message, present, point, framed, other, unframed, joined, recovered, answered}
 use Rattle.sha256.specs.Sha256.{sha256}

@@ -24,7 +24,7 @@ use Rattle.erasure.specs.Coding.{shares}
 use Rattle.party.specs.State.{Result, nothing, settled, result_in}
 use Rattle.party.specs.Steps.{open_of, Stepped, result_of, faulty_of}
 use Rattle.party.specs.declared.Party.{Party}
-use Rattle.party.specs.declared.Opened.{Opened}
+use Rattle.party.specs.Answer.{Opened}
 use Rattle.party.proofs.Ways.{Way, on, off, way}
 use Rattle.agreement.specs.Calls.{Call, agree_root, agree_bit, take_shares, take_relays, Event, made, events, accepted, final, did}
 use Rattle.agreement.specs.Agreement.{Good}

@@ -26,7 +26,7 @@ use Rattle.packet.proofs.Reading.{share-empty, share-long, read-share, Readable,
 use Rattle.commitment.proofs.Shared.{shares-bound, length-shares}
 use Rattle.party.specs.State.{overlong, broken}
 use Rattle.party.specs.Steps.{turn_of, open_of}
-use Rattle.party.specs.declared.Outcome.TheVariants.{Nothing, Message}
+use Rattle.std.specs.Prelude.{Some, None}
 use Rattle.party.specs.declared.Stage.{Stage}
 use Rattle.party.specs.declared.Stage.TheVariants.{Root, Bit, First, Second, Ended}
 use Rattle.party.specs.declared.Party.{Party}
@@ -135,8 +135,8 @@ state-judged x e o = rw (e, o, over x.stage)
     over Bit = refl
     over First = refl
     over Second = refl
-    over (Ended Nothing) = refl
-    over (Ended (Message l)) = refl
+    over (Ended None) = refl
+    over (Ended (Some l)) = refl
 
 -- what a step writes fits its room
 due-fits : (x : Party) (c : Call) → broken x ≡ false → length (due x c) ≤ room_for c

@@ -22,7 +22,7 @@ use Rattle.packet.proofs.Messages.{read-other, message-read, read-message, read_
 use Rattle.party.specs.State.{Result, settled, result_in}
 use Rattle.party.specs.Steps.{open_of, refused_opening}
 use Rattle.party.specs.Sender.{message_by, packet_by, sender_cause, Begun, open_by_sender_of}
-use Rattle.party.specs.declared.Opened.{Opened}
+use Rattle.party.specs.Answer.{Opened}
 use Rattle.party.specs.declared.Party.{Party}
 use Rattle.party.proofs.Outcomes.{open-given}
 use Rattle.party.proofs.Sender.{cause-bounds, begun-refused, begun-short, begun-given, accepted-fits, accepted-opens, cause-small, value-fits}

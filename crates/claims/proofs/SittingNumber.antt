@@ -18,7 +18,7 @@ use Rattle.party.specs.State.{nothing, at_root, at_bit, at_first, at_second, at_
 use Rattle.party.specs.Steps.{open_of}
 use Rattle.party.specs.Sender.{open_by_sender_of}
 use Rattle.party.specs.declared.Party.{Party}
-use Rattle.party.specs.declared.Opened.{Opened}
+use Rattle.party.specs.Answer.{Opened}
 use Rattle.party.proofs.Sender.{accepted-opens}
 use Rattle.agreement.specs.Calls.{Call, agree_root, agree_bit, take_shares, take_relays, made, final}
 use Rattle.state_bytes.specs.Layout.{state_length, state_of}

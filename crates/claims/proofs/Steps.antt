@@ -23,7 +23,7 @@ use Rattle.party.specs.State.{seat_of, Result, nothing, settled, result_bytes, h
 use Rattle.party.specs.Steps.{turn_of, state_cause, open_of, Stepped, cause_of, value_of, result_given, faulty_given, refused, writes, ending, root_cause, agree_root_of, bit_cause, outbox_of, agree_bit_of}
 use Rattle.party.specs.Steps.{inbox_cause, relays_cause, relay_of, held_of, faulty_shares, take_shares_of, result_of, faulty_of, take_relays_of}
 use Rattle.party.specs.declared.Party.{Party}
-use Rattle.party.specs.declared.Opened.{Opened}
+use Rattle.party.specs.Answer.{Opened}
 use Rattle.party.proofs.Ways.{Way, on, off, way}
 use Rattle.party.proofs.Causes.{fit_of}
 use Rattle.party.proofs.Outcomes.{open-refused, open-given}

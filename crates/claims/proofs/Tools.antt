@@ -9,11 +9,11 @@ use lib.ListN.{length, take}
 use Rattle.limits.specs.Limits.{max_message, max_hashed, parties, numbered, group_cause}
 use Rattle.buffer.specs.Entries.{size, body, rest, fills, bodies}
 use Rattle.buffer.specs.Given.{Given, gave, written}
-use Rattle.buffer.specs.declared.Written.TheVariants.{Refused}
+use Rattle.buffer.specs.Given.{Refused}
 use Rattle.erasure.specs.Coding.{share_length, shares, encode_of}
 use Rattle.erasure.specs.Rebuild.{Point, cause, message, present, point, framed, other, unframed, joined, recovered, answered, rebuild_of}
 use Rattle.sha256.specs.Sha256.{sha256, hash_of}
-use Rattle.sha256.specs.declared.Hashed.{Hashed}
+use Rattle.sha256.specs.Sha256.{Hashed}
 use Rattle.merkle.specs.Answer.{not_counted, count_of, Check, not_checked, answer_of}
 use Rattle.merkle.specs.Tree.{shape, sides}
 use Rattle.buffer.specs.Numbers.{four_bytes}
@@ -22,7 +22,7 @@ use Rattle.merkle.proofs.Written.{length-leaf_string}
 use Rattle.merkle.proofs.Judged.{passes-true, passes_same, same_refl}
 use Rattle.packet.specs.Format.{Reading, silence, unreadable, shared, read_of}
 use Rattle.packet.specs.Answer.{cause_in, placed, read_at}
-use Rattle.packet.specs.declared.Packet.TheVariants as packet
+use Rattle.packet.specs.Packet as packet
 use Rattle.claims.specs.Terms.{when, foremost, group_then, unless, cause_joined, book_joined, unread, leaf, Leads}
 
 -- shares

@@ -9,7 +9,7 @@ use Rattle.buffer.specs.Bounds.{Bytes}
 use Rattle.buffer.specs.Splice.{spliced}
 use Rattle.buffer.specs.Entries.{fills, bodies}
 use Rattle.buffer.specs.Given.{gave, written}
-use Rattle.buffer.specs.declared.Written.TheVariants.{Done}
+use Rattle.buffer.specs.Given.{Done}
 use Rattle.erasure.specs.Coding.{share_length, share, shares, encode_of}
 use Rattle.erasure.specs.Rebuild.{present, point, joined, rebuild_of}
 use Rattle.sha256.specs.Constants.{Bits, primes}
@@ -25,7 +25,7 @@ use Rattle.commitment.specs.Commitment.{message_root, packet_with}
 use Rattle.party.specs.State.{Result, nothing, settled, seat_of, at_root, blank_state, broken}
 use Rattle.party.specs.Steps.{turn_of, open_of, Stepped, cause_of, value_of, result_given, faulty_given}
 use Rattle.party.specs.declared.Party.{Party}
-use Rattle.party.specs.declared.Opened.{Opened}
+use Rattle.party.specs.Answer.{Opened}
 use Rattle.agreement.specs.Calls.{Call, step_of, made, entry}
 use Rattle.agreement.specs.Agreement.{different, absent, sum_over}
 use Rattle.state_bytes.specs.Layout.{state_length, state_bytes, state_of}

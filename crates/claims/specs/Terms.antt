@@ -1,6 +1,6 @@
 -- The words of the claims: causes in their order, what a step is lent and has to do, and what is told of a good box, be it a party with its states or a
 -- host of the C interface with bytes, opened with its own book or by a named sender. Assumes nothing.
-use Rattle.std.specs.Prelude.{◌≡◌, Bool, true, false, cond, not, ◌||◌, ◌⊎◌, ℕ, ◌+◌, ◌-◌, ◌*◌, ◌/◌, ◌%◌, ◌^◌, ◌<◌, leb, ltb, eqb, length, take}
+use Rattle.std.specs.Prelude.{◌≡◌, Bool, true, false, cond, not, ◌||◌, ◌⊎◌, Some, None, ℕ, ◌+◌, ◌-◌, ◌*◌, ◌/◌, ◌%◌, ◌^◌, ◌<◌, leb, ltb, eqb, length, take}
 use mathlib.Core.List.{List, [], ◌∷◌, ◌++◌, map, Memᴰ}
 use Rattle.std.proofs.Common.{inl, inr}
 use Rattle.std.proofs.Math.Option.{Option, none, some}
@@ -8,7 +8,7 @@ use Rattle.limits.specs.Limits.{max_message, parties}
 use Rattle.buffer.specs.Splice.{tabulate}
 use Rattle.buffer.specs.Entries.{fills, bodies}
 use Rattle.buffer.specs.Given.{Given, gave, written}
-use Rattle.buffer.specs.declared.Written.TheVariants.{Refused}
+use Rattle.buffer.specs.Given.{Refused}
 use Rattle.erasure.specs.Coding.{share}
 use Rattle.erasure.specs.Rebuild.{Recovered, cause, message}
 use Rattle.sha256.specs.Sha256.{sha256}
@@ -18,7 +18,6 @@ use Rattle.commitment.specs.Rooms.{max_packet, max_outbox}
 use Rattle.party.specs.State.{Result, nothing, settled, result_bytes, result_in, has_ended, message_in, at_bit, at_first, at_second, at_end, happy}
 use Rattle.party.specs.Steps.{open_of, Stepped, outbox_of, relay_of, held_of, faulty_shares, result_of, faulty_of}
 use Rattle.party.specs.Sender.{message_by, open_by_sender_of}
-use Rattle.party.specs.declared.Outcome.TheVariants.{Nothing, Message}
 use Rattle.party.specs.declared.Stage.{Stage}
 use Rattle.party.specs.declared.Stage.TheVariants.{Root, Bit, First, Second, Ended}
 use Rattle.party.specs.declared.Party.{Party}
@@ -98,8 +97,8 @@ result_length Root = 0
 result_length Bit = 0
 result_length First = 0
 result_length Second = 0
-result_length (Ended Nothing) = 0
-result_length (Ended (Message l)) = l
+result_length (Ended None) = 0
+result_length (Ended (Some l)) = l
 
 -- a tool that writes: turned away for a cause, or these bytes in the buffer (cause 9 where it is shorter)
 abbrev pub unless : ℕ → List ℕ → List ℕ → Given
