@@ -1,5 +1,6 @@
 pub mod Options
 pub mod Walks
+pub mod Numbers
 pub mod Tails
 pub mod Packets
 pub mod Blocks

@@ -1,11 +1,13 @@
 -- Fields of options, by their table: a field that is given stands before the map of good parties, and the offsets are small. By induction along
 -- the options. Assumes nothing.
-use mathlib.Core.Path.{◌≡◌, refl, ap}
+use mathlib.Core.Path.{◌≡◌, refl, sym, ap, ◌∙◌}
 use mathlib.Core.Bool.{Bool, true, false}
 use mathlib.Core.List.{List, [], ◌∷◌}
-use Prim.Native.Nat.{ℕ, zero, suc, ◌+◌, ◌-◌, ◌*◌, ◌≤◌, ◌<◌}
+use Prim.Native.Nat.{ℕ, zero, suc, ◌+◌, ◌-◌, ◌*◌, ◌≤◌, ◌<◌, min}
 use native.Mathlib.Decide.{ℕ_discrete}
 use native.Mathlib.Omega.{arith}
+use borrow.Author.Tests.{ltb-true, ltb-false}
+use lib.Dec.{ltb}
 use lib.ListN.{length, get_or, get_or-eq_default}
 use Rattle.bitmap.specs.Bitmap.{names}
 use Rattle.plan.specs.Layout.{fields, field_bytes, field_at}
@@ -73,3 +75,40 @@ module _ (o : ℕ) where
   field-inside k h n =
       let e : k + 1 - 1 ≡ k = omega arith in
       omega (arith, ap (λ (j : ℕ). field_bytes j o) e, field-more k n, fields_within (suc k) (length fields) (omega arith))
+
+  -- the fields of the options below k, as far as option i + 1
+  pub field-turn : (k i : ℕ) → i + 1 < k → names o (i + 1) ≡ true → field_bytes (min (i + 1) (k - 1)) o ≡ field_bytes (min i (k - 1)) o + get_or fields i 0
+  field-turn k i h n =
+      let a : min (i + 1) (k - 1) ≡ suc i = omega arith in
+      let b : min i (k - 1) ≡ i = omega arith in
+      rw (a, b) (field-more i n)
+
+  pub field-skip : (k i : ℕ) → (i + 1 < k → names o (i + 1) ≡ false) → field_bytes (min (i + 1) (k - 1)) o ≡ field_bytes (min i (k - 1)) o
+  field-skip k i h = go (ltb (i + 1) k) refl
+    where
+      go : (b : Bool) → ltb (i + 1) k ≡ b → field_bytes (min (i + 1) (k - 1)) o ≡ field_bytes (min i (k - 1)) o
+      go true e =
+          let l = ltb-true (i + 1) k e in
+          let a : min (i + 1) (k - 1) ≡ suc i = omega arith in
+          let b : min i (k - 1) ≡ i = omega arith in
+          rw (a, b) (field-none i (h l))
+      go false e =
+          let l = ltb-false (i + 1) k e in
+          let a : min (i + 1) (k - 1) ≡ min i (k - 1) = omega arith in
+          ap (λ (j : ℕ). field_bytes j o) a
+
+  -- those of all options
+  pub fields-end : (k : ℕ) → field_bytes (min (length fields) k) o ≡ field_bytes k o
+  fields-end k = go (ltb (length fields) k) refl
+    where
+      go : (b : Bool) → ltb (length fields) k ≡ b → field_bytes (min (length fields) k) o ≡ field_bytes k o
+      go true e =
+          let l = ltb-true (length fields) k e in
+          let a : min (length fields) k ≡ length fields = omega arith in
+          ap (λ (j : ℕ). field_bytes j o) a ∙ sym (fields-all k (omega arith))
+      go false e =
+          let l = ltb-false (length fields) k e in
+          let a : min (length fields) k ≡ k = omega arith in
+          ap (λ (j : ℕ). field_bytes j o) a
+
+pub ruleset offsets = (width-short, fields-short, field-turn, field-skip, fields-end, field-inside)

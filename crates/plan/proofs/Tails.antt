@@ -77,6 +77,14 @@ tail-sender x s t = go (bad_sender s)
     go true = tail-block (n_in s) (good_in s) x s t
     go false = t
 
+-- what exchanges leave is no longer than what they stand in
+tail-exchanges : (e n g : ℕ) (x s : List ℕ) → Tail x s → Tail (or_empty (skip_exchanges e n g x)) s
+tail-exchanges e n g x s t =
+    tail_walk (λ k. true) (skip_exchange n g) s (tail_walk (λ p. not (names g p)) (skip_block n g) s (λ y u. tail-block n g y s u) n) e x t
+
+pub exchanges-short : (e n g : ℕ) (x : List ℕ) → length (or_empty (skip_exchanges e n g x)) ≤ length x
+exchanges-short e n g x = tail-short (or_empty (skip_exchanges e n g x)) x (tail-exchanges e n g x x (record { at = 0; is = refl }))
+
 tail-exchange : (e : ℕ) (s : List ℕ) → Tail (exchange_in e s) s
 unfolding exchange_in
 tail-exchange e s =
@@ -96,6 +104,8 @@ exchange-there e s = tail-offset (exchange_in e s) s (tail-exchange e s)
 
 pub exchange-short : (e : ℕ) (s : List ℕ) → length (exchange_in e s) ≤ length s
 exchange-short e s = tail-short (exchange_in e s) s (tail-exchange e s)
+
+pub ruleset walks = (behind-short, exchange-short)
 
 -- by the parts of a plan that is taken
 pub exchange-of : (e : ℕ) (s : List ℕ) → plan_cause s ≡ 0 → exchange_of (plan_of s) e s ≡ exchange_at e s

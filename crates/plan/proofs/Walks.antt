@@ -1,48 +1,32 @@
 -- Laws of walks and of tests over the first numbers. A walk goes past a number that takes no step, takes a step at an offset, and finds nothing
 -- behind one that finds nothing. By induction along the numbers. Assumes nothing.
-use mathlib.Core.Path.{◌≡◌, refl, sym, ap, subst, ◌∙◌}
-use mathlib.Core.Bool.{Bool, true, false, cond, ◌&&◌}
+use mathlib.Core.Path.{◌≡◌, refl, sym, ap, ◌∙◌}
+use mathlib.Core.Bool.{true≢false, Bool, true, false, cond}
 use mathlib.Core.List.{List}
 use mathlib.Core.Option.{Option, none, some}
-use Prim.Native.Nat.{ℕ, zero, suc, ◌+◌, ◌≤◌}
+use Prim.Native.Nat.{ℕ, zero, suc, ◌+◌, ◌≤◌, ◌<◌}
 use native.Mathlib.Numerals.{add-one}
 use native.Mathlib.Decide.{ℕ_discrete}
 use native.Mathlib.Omega.{arith}
-use lib.ListN.{length, drop}
-use lib.Seq.{drop-length}
 use Rattle.limits.proofs.Booleans.{both}
-use Rattle.plan.specs.Layout.{every, and_then, or_empty, walk}
-use Rattle.plan.specs.Private.{Ends, or_end}
-use Rattle.plan.specs.declared.Offset.{Offset}
-use Rattle.plan.specs.declared.Offset.TheVariants.{Nowhere, At}
+use Rattle.plan.specs.Layout.{every, and_then, walk}
 
--- where what was found stands, or the end, where nothing stands
-pub found-there : (r : Offset) (o : Option (List ℕ)) (s : List ℕ) → Ends r o s
-    → (drop (or_end r (length s)) s ≡ or_empty o) × (or_end r (length s) ≤ length s)
-found-there Nowhere o s e = (drop-length s ∙ sym (ap or_empty e), omega arith)
-found-there (At k) o s e = (sym (ap or_empty e.0), e.1)
-
+-- a walk of one number more than k, which left y
 module _ (takes : ℕ → Bool) (step : List ℕ → Option (List ℕ)) (x : List ℕ) where
   pub walk_start : walk takes step 0 x ≡ some x
   unfolding walk
   walk_start = refl
 
-  module _ (k : ℕ) where
-    pub walk-past : takes (k + 1) ≡ false → walk takes step (k + 1) x ≡ walk takes step k x
+  module _ (k : ℕ) (y : List ℕ) (before : walk takes step k x ≡ some y) where
+    pub walk-past : takes (k + 1) ≡ false → walk takes step (k + 1) x ≡ some y
     unfolding walk
-    walk-past h = rw (add-one k, h)
+    walk-past h = rw (add-one k, h) before
 
-    walk_step : takes (k + 1) ≡ true → (y : List ℕ) → walk takes step k x ≡ some y → walk takes step (k + 1) x ≡ step y
+    pub walk_step : takes (k + 1) ≡ true → walk takes step (k + 1) x ≡ step y
     unfolding walk
-    walk_step h y e = rw (add-one k, h, e)
+    walk_step h = rw (add-one k, h, before)
 
-    -- a step at an offset of s, by the answer for it
-    pub step-ends : (s : List ℕ) (at : ℕ) → takes (k + 1) ≡ true → walk takes step k x ≡ some (drop at s) → (r q : Offset)
-        → Ends r (step (drop at s)) s → r ≡ q → Ends q (walk takes step (k + 1) x) s
-    step-ends s at h e r q a z =
-        subst (λ (o : Option (List ℕ)). Ends q o s) (sym (walk_step h (drop at s) e)) (subst (λ (o : Offset). Ends o (step (drop at s)) s) z a)
-
-  pub walk_none : (k n : ℕ) → k ≤ n → walk takes step k x ≡ none → walk takes step n x ≡ none
+  walk_none : (k n : ℕ) → k ≤ n → walk takes step k x ≡ none → walk takes step n x ≡ none
   unfolding walk
   walk_none k zero h e = let z : 0 ≡ k = omega arith in ap (λ (j : ℕ). walk takes step j x) z ∙ e
   walk_none k (suc n) h e = elim (ℕ_discrete (suc n) k) [
@@ -54,23 +38,13 @@ module _ (takes : ℕ → Bool) (step : List ℕ → Option (List ℕ)) (x : Lis
       go true r = ap (λ (o : Option (List ℕ)). and_then o step) r
       go false r = r
 
--- a test of all, from the last number down
+  -- a step that finds nothing ends a walk of more numbers too
+  pub walk-stops : (k n : ℕ) → k + 1 ≤ n → (y : List ℕ) → walk takes step k x ≡ some y → takes (k + 1) ≡ true → step y ≡ none
+      → walk takes step n x ≡ none
+  walk-stops k n l y before h e = walk_none (k + 1) n l (walk_step k y before h ∙ e)
+
+-- a test of all
 module _ (test : ℕ → Bool) where
-  pub every-none : (p : ℕ) → p ≡ 0 → every test p ≡ true
-  unfolding every
-  every-none p e = rw e
-
-  module _ (k p : ℕ) (e : p ≡ suc k) where
-    last : every test p ≡ test p && every test k
-    unfolding every
-    last = let q : p ≡ k + 1 = omega arith in ap (every test) e ∙ ap (λ (j : ℕ). test j && every test k) (sym q)
-
-    pub every-fails : test p ≡ false → every test p ≡ false
-    every-fails h = last ∙ ap (λ (b : Bool). b && every test k) h
-
-    pub every-next : test p ≡ true → every test p ≡ every test k
-    every-next h = last ∙ ap (λ (b : Bool). b && every test k) h
-
   pub every-each : (k q : ℕ) → every test k ≡ true → 1 ≤ q → q ≤ k → test q ≡ true
   unfolding every
   every-each zero q h l m = absurd (omega arith)
@@ -80,3 +54,18 @@ module _ (test : ℕ → Bool) where
         | yes e ↦ ap test e ∙ b.0
         | no d ↦ every-each k q b.1 l (omega arith)
       ]
+
+  pub every-all : (k : ℕ) → ((q : ℕ) → 1 ≤ q → q < k + 1 → test q ≡ true) → every test k ≡ true
+  unfolding every
+  every-all zero h = refl
+  every-all (suc k) h = rw (h (k + 1) (omega arith) (omega arith)) (every-all k (λ q l m. h q l (omega arith)))
+
+  -- by a test of them all
+  pub every-told : (k : ℕ) (r : Bool) → (r ≡ true → (q : ℕ) → 1 ≤ q → q < k + 1 → test q ≡ true)
+      → (r ≡ false → (q : ℕ) × (1 ≤ q) × (q < k + 1) × (test q ≡ false)) → r ≡ every test k
+  every-told k true h f = sym (every-all k (h refl))
+  every-told k false h f = go (every test k) refl
+    where
+      go : (b : Bool) → every test k ≡ b → false ≡ b
+      go true e = let w = f refl in absurd (true≢false (sym (every-each k w.0 e w.1 (omega (arith, w.2))) ∙ w.3))
+      go false e = refl

@@ -1,16 +1,18 @@
 // The plan of a rehearsal: what its bytes say, and why it is refused.
 #![tactic(auto)]
 
-ghost use Rattle.std.specs.Prelude.{◌≡◌, true, not, ◌&&◌, ◌+◌, ◌-◌, ◌≤◌, ◌<◌, length, take, drop};
-ghost use Rattle.limits.specs.Limits.{max_parties, numbered};
-ghost use Rattle.buffer.specs.Given.{gave, written};
-ghost use Rattle.bitmap.specs.Bitmap.{names};
+ghost use Rattle.std.specs.Prelude.{◌≡◌, true, false, MatchOption, ℕ, Bool, List, ◌≤◌, length, MatchResult, IfSome};
+ghost use Rattle.limits.specs.Limits.{max_parties};
+ghost use Rattle.cause.specs.Cause.{number};
+ghost use Rattle.buffer.specs.Given.{said, gave};
 ghost use Rattle.plan.specs.Layout.{member, within, skip_entry, skip_entries, party_entry, books_fit, skip_block, skip_blocks, block_entry, packet_from};
-ghost use Rattle.plan.specs.Layout.{field_at, n_in, options_in, session_of, good_at, good_in, holders, skip_exchanges};
-ghost use Rattle.plan.specs.Plan.{refused, plan_of, book_given, packet_given, block_given, exchange_of};
-ghost use Rattle.plan.specs.Private.{Ends, or_end, Spans, Header, HeaderEnds, Rest, source_of, holders_by, skip_sender_by, LaidAt};
+ghost use Rattle.plan.specs.Layout.{field_at, n_in, options_in, session_of, good_at, good_in, holders, skip_exchanges, walk, laid_out};
+ghost use Rattle.plan.specs.Plan.{parts_said, refused, plan_said, SenderIs, plan_of, book_given, packet_given, block_given, exchange_of};
+ghost use Rattle.plan.specs.Private.{Found, Finds, HeaderOf, LaidIs, IsRead, sender_of, holders_by, BehindIs};
+ghost use Rattle.buffer.specs.Entries.{body};
 
 use buffer::Written;
+use cause::{Cause, Refusal};
 use limits::{MAX_MESSAGE, MAX_PLAN};
 
 // The bytes of a map of parties.
@@ -35,15 +37,14 @@ const SESSION: usize = 4;
 // The number of exchanges.
 const EXCHANGES: usize = 2;
 
-// A plan's parts: n, t, the option map, the sender's number or 0, the session's number, the maps of good parties and of those whose books are listed, and
-// where the books, a bad sender's packets and the exchanges start. The cause is 0 if the plan is taken; else all parts are 0.
+// A plan's parts: n, t, the option map, the sender's number if it names one, the session's number, the maps of good parties and of those whose books
+// are listed, and where the books, a bad sender's packets and the exchanges start.
 #[derive(Clone, Copy)]
 pub struct Plan {
-    pub cause: u8,
     pub n: usize,
     pub t: usize,
     pub options: usize,
-    pub sender: usize,
+    pub sender: Option<usize>,
     pub session: u32,
     pub good: usize,
     pub holders: usize,
@@ -52,306 +53,221 @@ pub struct Plan {
     pub exchanges: usize,
 }
 
-// An offset in a plan; nowhere if what stands before it is not in order.
+// The sender that a plan names: its number, and whether that is a good party's.
 #[derive(Clone, Copy)]
-enum Offset {
-    Nowhere,
-    At(usize),
-}
-
-// Where a bad sender's packets and the exchanges start; nowhere if the plan is not laid out to its last byte.
-#[derive(Clone, Copy)]
-enum Behind {
-    Nowhere,
-    At(usize, usize),
-}
-
-// The sender: whether the plan names one, its number, and whether that is a good party's.
-#[derive(Clone, Copy)]
-struct Source {
-    given: bool,
+struct Sender {
     number: usize,
     good: bool,
 }
 
-// Where bytes lie: from one offset up to another.
+// n parties, of whom a map names the good ones.
 #[derive(Clone, Copy)]
-struct Span {
-    from: usize,
-    end: usize,
+struct Group {
+    n: usize,
+    good: usize,
+}
+
+// What stands behind the books, and behind a bad sender's block.
+#[derive(Clone, Copy)]
+struct Behind<'a> {
+    packets: &'a [u8],
+    exchanges: &'a [u8],
+}
+
+// What a plan says behind n and t: the options, the map of good parties, the sender, the map of those whose books are listed, and what stands from the
+// books on and behind them.
+#[derive(Clone, Copy)]
+struct Laid<'a> {
+    options: usize,
+    good: usize,
+    sender: Option<Sender>,
+    holders: usize,
+    books: &'a [u8],
+    behind: Behind<'a>,
 }
 
 // The parts of a plan, or the cause for which it is refused: 13 if n and t are not there, 1, 2, then 13 for the layout, then 3 and 4.
-pub fn read(plan: &[u8]) -> Plan
-    ensures { result ≡ plan_of plan.now }
+#[tactic(auto, using(crate::proofs::Tails::walks), unfolding(crate::specs::Plan::plan_of, crate::specs::Plan::plan_cause))]
+pub fn read(plan: &[u8]) -> Result<Plan, Cause>
+    ensures { (plan_said result ≡ plan_of plan.now) × SenderIs result plan.now }
 {
-    if plan.len() < 2 {
-        return refused(13);
+    let (n, t) = judged(plan)?;
+    let laid = laid_out(plan, n).ok_or(Cause::Plan)?;
+    if laid.sender.is_some_and(|x| !limits::numbered(n, x.number)) {
+        return Err(Cause::Number);
     }
-    let n = wide(plan[0]);
-    let t = wide(plan[1]);
-    let cause = limits::group_cause(n, t);
-    if cause != 0 {
-        return refused(cause);
+    if !books_fit(laid.books, n, laid.holders) {
+        return Err(Cause::Length);
     }
-    if MAX_PLAN < plan.len() {
-        return refused(13);
-    }
-    let Offset::At(books) = books_at(plan, n) else {
-        return refused(13);
-    };
-    parts(plan, n, t, books)
+    Ok(Plan {
+        n,
+        t,
+        options: laid.options,
+        sender: laid.sender.map(|x| x.number),
+        session: session_of(plan, laid.options),
+        good: laid.good,
+        holders: laid.holders,
+        books: plan.len() - laid.books.len(),
+        packets: plan.len() - laid.behind.packets.len(),
+        exchanges: plan.len() - laid.behind.exchanges.len(),
+    })
 }
 
 // The bytes of party q's book among the books of those that a map names; cause 3 for a party that has none.
+#[tactic(auto, unfolding(crate::specs::Plan::book_given))]
 pub fn book(books: &[u8], n: usize, holders: usize, q: usize, out: &mut [u8]) -> Written
-    ensures { gave result out.new ≡ book_given n holders q books.now out.old }
+    ensures { gave (said result) out.new ≡ book_given n holders q books.now out.old }
 {
     if !limits::parties(n) {
-        return Written::Refused(1);
+        return Err(Refusal::Because(Cause::Parties));
     }
     if !member(n, holders, q) {
-        return Written::Refused(3);
+        return Err(Refusal::Because(Cause::Number));
     }
-    let found = party_entry(books, 0, n, holders, q);
-    give(books, found, out)
+    buffer::give(party_entry(books, n, holders, q), out)
 }
 
 // The bytes that bad party q sends to party i in an exchange.
+#[tactic(auto, unfolding(crate::specs::Plan::packet_given))]
 pub fn packet(exchange: &[u8], n: usize, good: usize, q: usize, i: usize, out: &mut [u8]) -> Written
-    ensures { gave result out.new ≡ packet_given n good q i exchange.now out.old }
+    ensures { gave (said result) out.new ≡ packet_given n good q i exchange.now out.old }
 {
     if !limits::parties(n) {
-        return Written::Refused(1);
+        return Err(Refusal::Because(Cause::Parties));
     }
-    let found = packet_from(exchange, n, good, q, i);
-    give(exchange, found, out)
+    buffer::give(Group { n, good }.packet_from(exchange, q, i), out)
 }
 
 // The bytes that a bad sender sends to party i in its block.
+#[tactic(auto, unfolding(crate::specs::Plan::block_given))]
 pub fn block(s: &[u8], n: usize, i: usize, out: &mut [u8]) -> Written
-    ensures { gave result out.new ≡ block_given n i s.now out.old }
+    ensures { gave (said result) out.new ≡ block_given n i s.now out.old }
 {
     if !limits::parties(n) {
-        return Written::Refused(1);
+        return Err(Refusal::Because(Cause::Parties));
     }
-    let found = block_entry(s, 0, n, i);
-    give(s, found, out)
+    buffer::give(block_entry(s, n, i), out)
 }
 
 // The offset of option k's field, which stands behind those of the lower options that the map names; past the last option, the offset behind
 // all fields.
+#[tactic(auto, using(crate::proofs::Options::offsets), unfolding(crate::specs::Layout::field_bytes))]
 pub fn field_at(options: usize, k: usize) -> usize
     ensures { result ≡ field_at options k }
 {
     let mut at = HEAD;
-    let mut j: usize = 1;
-    while j < k {
-        if OPTIONS < j {
-            return at;
+    for (i, width) in FIELDS.iter().enumerate() {
+        let option = i + 1;
+        if option < k && bitmap::names(options, option) {
+            at += *width;
         }
-        if bitmap::names(options, j) {
-            at += FIELDS[j - 1];
-        }
-        j += 1;
     }
     at
 }
 
 // The offset of exchange e, counted from 0; the end, if one before it is not in order.
+#[tactic(auto, unfolding(crate::specs::Plan::exchange_of))]
 pub fn exchange_at(plan: &[u8], parts: Plan, e: usize) -> usize
-    ensures { result ≡ exchange_of parts e plan.now }
+    ensures { result ≡ exchange_of (parts_said parts) e plan.now }
 {
-    let from = buffer::skip(plan, 0, parts.exchanges);
-    or_end(
-        skip_exchanges(plan, from, parts.n, parts.good, e),
-        plan.len(),
-    )
-}
-
-fn refused(cause: u8) -> Plan
-    ensures { result ≡ refused cause }
-{
-    Plan {
-        cause,
-        n: 0,
-        t: 0,
-        options: 0,
-        sender: 0,
-        session: 0,
-        good: 0,
-        holders: 0,
-        books: 0,
-        packets: 0,
-        exchanges: 0,
-    }
-}
-
-fn wide(x: u8) -> usize
-    ensures { (result ≡ x) × (result < 256) }
-{
-    x as usize
-}
-
-// The offset of the books, if the options are known and the map of good parties names none beyond n.
-fn books_at(plan: &[u8], n: usize) -> Offset
-    requires { n ≡ n_in plan.now }
-    ensures { HeaderEnds result plan.now }
-{
-    if plan.len() < HEAD {
-        return Offset::Nowhere;
-    }
-    let options = wide(plan[2]);
-    let map = field_at(options, OPTIONS + 1);
-    let books = map + MAP;
-    if plan.len() < books {
-        return Offset::Nowhere;
-    }
-    if bitmap::up_to(OPTIONS, options) {
-        if bitmap::up_to(n, buffer::size_at(plan, map)) {
-            return Offset::At(books);
-        }
-    }
-    Offset::Nowhere
-}
-
-// The parts of a plan whose books start there.
-fn parts(plan: &[u8], n: usize, t: usize, books: usize) -> Plan
-    requires { Rest n t books plan.now }
-    ensures { result ≡ plan_of plan.now }
-{
-    let options = wide(plan[2]);
-    let good = buffer::size_at(plan, books - MAP);
-    let source = sender_of(plan, options, n, good);
-    let holders = holders(source, good);
-    let Behind::At(packets, exchanges) = places(plan, books, n, good, holders, source) else {
-        return refused(13);
+    let group = Group {
+        n: parts.n,
+        good: parts.good,
     };
-    if stray(source, n) {
-        return refused(3);
+    let first = plan.get(parts.exchanges..).unwrap_or_default();
+    let rest = group.skip_exchanges(first, e).unwrap_or_default();
+    plan.len() - rest.len()
+}
+
+// n and t, if they are there and in order, and the plan is not too long.
+#[tactic(auto, unfolding(crate::specs::Plan::plan_of, crate::specs::Plan::plan_cause, limits::specs::Limits::group_cause, limits::specs::Limits::parties))]
+fn judged(plan: &[u8]) -> Result<(usize, usize), Cause>
+    ensures { MatchResult result (λ x. IsRead x.0 x.1 plan.now) (λ c. refused (number c) ≡ plan_of plan.now) }
+{
+    let [n, t, ..] = plan else {
+        return Err(Cause::Plan);
+    };
+    let n = usize::from(*n);
+    let t = usize::from(*t);
+    limits::check_group(n, t)?;
+    if MAX_PLAN < plan.len() {
+        return Err(Cause::Plan);
     }
-    if !books_fit(plan, books, n, holders) {
-        return refused(4);
-    }
-    Plan {
-        cause: 0,
-        n,
-        t,
+    Ok((n, t))
+}
+
+// What a plan that is laid out well says behind n and t.
+fn laid_out(plan: &[u8], n: usize) -> Option<Laid>
+    requires { (n ≡ n_in plan.now) × (n ≤ max_parties) }
+    ensures { LaidIs result plan.now }
+{
+    let (options, good, books) = header(plan, n)?;
+    let group = Group { n, good };
+    let sender = sender_of(plan, options, group);
+    let holders = holders(sender, good);
+    let behind = group.behind(books, holders, sender)?;
+    Some(Laid {
         options,
-        sender: source.number,
-        session: session_of(plan, options),
         good,
+        sender,
         holders,
         books,
-        packets,
-        exchanges,
+        behind,
+    })
+}
+
+// The options, the map of good parties and what stands from the books on, if the options are known and the map names none beyond n.
+#[tactic(auto, using(crate::proofs::Options::offsets), unfolding(crate::specs::Layout::laid_out, crate::specs::Layout::end_of))]
+fn header(plan: &[u8], n: usize) -> Option<(usize, usize, &[u8])>
+    requires { n ≡ n_in plan.now }
+    ensures { MatchOption result (laid_out plan.now ≡ false) (λ x. HeaderOf x.0 x.1 x.2.now plan.now) }
+{
+    let options = usize::from(*plan.get(2)?);
+    let map = field_at(options, OPTIONS + 1);
+    let good = buffer::size_at(plan, map);
+    let books = plan.get(map + MAP..)?;
+    if !bitmap::up_to(OPTIONS, options) || !bitmap::up_to(n, good) {
+        return None;
     }
+    Some((options, good, books))
 }
 
 // The sender that a plan names.
-fn sender_of(plan: &[u8], options: usize, n: usize, good: usize) -> Source
-    requires { (options ≡ options_in plan.now) × (n ≡ n_in plan.now) × (good ≡ good_in plan.now)
+fn sender_of(plan: &[u8], options: usize, group: Group) -> Option<Sender>
+    requires { (options ≡ options_in plan.now) × (group.n ≡ n_in plan.now) × (group.good ≡ good_in plan.now)
         × (good_at plan.now ≤ length plan.now) }
-    ensures { result ≡ source_of plan.now }
+    ensures { result ≡ sender_of plan.now }
 {
     if !bitmap::names(options, SENDER) {
-        return Source {
-            given: false,
-            number: 0,
-            good: false,
-        };
+        return None;
     }
-    let number = wide(plan[field_at(options, SENDER)]);
-    Source {
-        given: true,
-        number,
-        good: member(n, good, number),
-    }
+    let number = usize::from(plan[field_at(options, SENDER)]);
+    let good = member(group.n, group.good, number);
+    Some(Sender { number, good })
 }
 
 // The session's number: the one that a plan gives, or 0.
+#[tactic(auto, using(crate::proofs::Options::offsets), unfolding(crate::specs::Layout::session_of))]
 fn session_of(plan: &[u8], options: usize) -> u32
     requires { options ≡ options_in plan.now }
     ensures { result ≡ session_of plan.now }
 {
     if bitmap::names(options, SESSION) {
-        return buffer::number_at(plan, field_at(options, SESSION));
+        buffer::number_at(plan, field_at(options, SESSION))
+    } else {
+        0
     }
-    0
-}
-
-// Whether a plan names a sender that is none of n parties.
-fn stray(source: Source, n: usize) -> bool
-    ensures { result ≡ (source.given && not (numbered n source.number)) }
-{
-    if source.given {
-        return !limits::numbered(n, source.number);
-    }
-    false
 }
 
 // The map of those whose books are listed.
-fn holders(source: Source, good: usize) -> usize
-    requires { source.good ≡ true → source.number ≤ max_parties }
-    ensures { result ≡ holders_by source good }
+fn holders(sender: Option<Sender>, good: usize) -> usize
+    requires { IfSome sender (λ x. x.good ≡ true → (1 ≤ x.number) × (x.number ≤ max_parties)) }
+    ensures { result ≡ holders_by sender good }
 {
-    if !source.given {
-        return good;
-    }
-    if !source.good {
-        return 0;
-    }
-    let number = source.number;
-    let mut map: usize = 1;
-    let mut p: usize = 1;
-    while p < number {
-        map = 2 * map;
-        p += 1;
-    }
-    map
-}
-
-// Where what follows the books of those that a map names starts, if all is in order and no byte is left over behind the exchanges.
-fn places(plan: &[u8], books: usize, n: usize, good: usize, map: usize, source: Source) -> Behind
-    requires { Header books plan.now × (n ≡ n_in plan.now) × (good ≡ good_in plan.now) × (map ≡ holders plan.now)
-        × (source ≡ source_of plan.now) }
-    ensures { LaidAt result plan.now }
-{
-    let Offset::At(packets) = skip_entries(plan, books, n, map) else {
-        return Behind::Nowhere;
-    };
-    let Offset::At(exchanges) = skip_sender(plan, packets, n, good, source) else {
-        return Behind::Nowhere;
-    };
-    let Offset::At(end) = skip_exchanges(plan, exchanges, n, good, EXCHANGES) else {
-        return Behind::Nowhere;
-    };
-    if end != plan.len() {
-        return Behind::Nowhere;
-    }
-    Behind::At(packets, exchanges)
-}
-
-// The offset behind a bad sender's block, where there is one.
-fn skip_sender(s: &[u8], at: usize, n: usize, good: usize, source: Source) -> Offset
-    requires { at ≤ length s.now }
-    ensures { Ends result (skip_sender_by source n good (drop at s.now)) s.now }
-{
-    if source.given {
-        if !source.good {
-            return skip_block(s, at, n, good);
-        }
-    }
-    Offset::At(at)
-}
-
-// An offset that was found, or the end.
-fn or_end(found: Offset, end: usize) -> usize
-    ensures { result ≡ or_end found end }
-{
-    match found {
-        Offset::Nowhere => end,
-        Offset::At(at) => at,
+    match sender {
+        None => good,
+        Some(x) if x.good => 1 << (x.number - 1),
+        Some(_) => 0,
     }
 }
 
@@ -359,179 +275,148 @@ fn or_end(found: Offset, end: usize) -> usize
 fn member(n: usize, map: usize, q: usize) -> bool
     ensures { result ≡ member n map q }
 {
-    if limits::numbered(n, q) {
-        return bitmap::names(map, q);
-    }
-    false
+    limits::numbered(n, q) && bitmap::names(map, q)
 }
 
-// Whether all of n parties that the map of receivers names are good.
-fn within(n: usize, receivers: usize, good: usize) -> bool
-    ensures { result ≡ within n receivers good }
+// Of the first k numbers, those that a test takes go a step each, one after the other: what stands behind them, none if a step finds nothing.
+fn walk<'a, T: Fn(usize) -> bool, S: Fn(&'a [u8]) -> Option<&'a [u8]>>(
+    s: &'a [u8],
+    k: usize,
+    takes: T,
+    step: S,
+) -> Option<&'a [u8]>
+    requires test { T.IsAlwaysCallable takes }
+    requires step { S.IsAlwaysCallable step }
+    ensures { (test : ℕ → Bool) (f : List ℕ → Found)
+        → ((p : ℕ) (b : Bool) → T.post takes p b → b ≡ test p)
+        → ((x : _) (r : _) → S.post step x r → Finds r (f x.now))
+        → Finds result (walk test f k s.now) }
 {
-    let mut p = n;
-    while 0 < p {
-        if bitmap::names(receivers, p) {
-            if !bitmap::names(good, p) {
-                return false;
-            }
+    let mut rest = s;
+    for p in 0..k {
+        if takes(p + 1) {
+            rest = step(rest)?;
         }
-        p -= 1;
     }
-    true
+    Some(rest)
 }
 
-// The offset behind an entry; nowhere if it runs short.
-fn skip_entry(s: &[u8], at: usize) -> Offset
-    requires { at ≤ length s.now }
-    ensures { Ends result (skip_entry (drop at s.now)) s.now }
+// What stands behind an entry; none if it runs short.
+#[tactic(auto, unfolding(crate::specs::Layout::skip_entry, buffer::specs::Entries::rest))]
+fn skip_entry(s: &[u8]) -> Option<&[u8]>
+    ensures { Finds result (skip_entry s.now) }
 {
-    if s.len() - at < 2 {
-        return Offset::Nowhere;
-    }
-    let size = buffer::size_at(s, at);
-    if s.len() - at - 2 < size {
-        return Offset::Nowhere;
-    }
-    let end = at + 2 + size;
-    Offset::At(end)
+    let rest = s.get(2..)?;
+    rest.get(buffer::size_at(s, 0)..)
 }
 
-// The offset behind the entries of those of the first k parties that a map names.
-fn skip_entries(s: &[u8], from: usize, k: usize, map: usize) -> Offset
-    requires { from ≤ length s.now }
-    ensures { Ends result (skip_entries k map (drop from s.now)) s.now }
+// What stands behind the entries of those of the first k parties that a map names.
+fn skip_entries(s: &[u8], k: usize, map: usize) -> Option<&[u8]>
+    ensures { Finds result (skip_entries k map s.now) }
 {
-    let mut at = from;
-    let mut p: usize = 0;
-    while p < k {
-        p += 1;
-        if !bitmap::names(map, p) {
-            continue;
-        }
-        let Offset::At(next) = skip_entry(s, at) else {
-            return Offset::Nowhere;
-        };
-        at = next;
-    }
-    Offset::At(at)
+    walk(s, k, |p| bitmap::names(map, p), skip_entry)
 }
 
-// Where party q's entry lies, behind those of lower parties; no bytes if it has none.
-fn party_entry(s: &[u8], from: usize, n: usize, map: usize, q: usize) -> Span
-    requires { from ≤ length s.now }
-    ensures { Spans result (party_entry n map q (drop from s.now)) s.now }
+// An entry's bytes; those that are there, if it runs short.
+#[tactic(auto, unfolding(buffer::specs::Entries::body))]
+fn body(s: &[u8]) -> &[u8]
+    ensures { result.now ≡ body s.now }
+{
+    let rest = s.get(2..).unwrap_or_default();
+    rest.get(..buffer::size_at(s, 0)).unwrap_or(rest)
+}
+
+// The bytes of party q's entry, behind those of lower parties; no bytes if it has none.
+#[tactic(auto, unfolding(crate::specs::Layout::party_entry, limits::specs::Limits::numbered))]
+fn party_entry(s: &[u8], n: usize, map: usize, q: usize) -> &[u8]
+    ensures { result.now ≡ party_entry n map q s.now }
 {
     if !member(n, map, q) {
-        return Span { from: 0, end: 0 };
+        return &[];
     }
-    let at = or_end(skip_entries(s, from, q - 1, map), s.len());
-    let size = buffer::size_at(s, at);
-    let start = buffer::skip(s, at, 2);
-    let end = buffer::skip(s, start, size);
-    Span { from: start, end }
+    body(skip_entries(s, q - 1, map).unwrap_or_default())
 }
 
 // Whether no book is over the greatest length.
-fn books_fit(s: &[u8], from: usize, n: usize, map: usize) -> bool
-    requires { from ≤ length s.now }
-    ensures { result ≡ books_fit n map (drop from s.now) }
+fn books_fit(s: &[u8], n: usize, map: usize) -> bool
+    ensures { result ≡ books_fit n map s.now }
 {
-    let mut p = n;
-    while 0 < p {
-        let book = party_entry(s, from, n, map, p);
-        if MAX_MESSAGE < book.end - book.from {
-            return false;
-        }
-        p -= 1;
-    }
-    true
+    (1..=n).all(|p| party_entry(s, n, map, p).len() <= MAX_MESSAGE)
 }
 
-// The offset behind a bad party's block, whose receivers are good parties up to n.
-fn skip_block(s: &[u8], at: usize, n: usize, good: usize) -> Offset
-    requires { at ≤ length s.now }
-    ensures { Ends result (skip_block n good (drop at s.now)) s.now }
+// What a block has for party i; no bytes if it does not name i.
+fn block_entry(s: &[u8], n: usize, i: usize) -> &[u8]
+    ensures { result.now ≡ block_entry n i s.now }
 {
-    if s.len() - at < MAP {
-        return Offset::Nowhere;
-    }
-    let map = buffer::size_at(s, at);
-    if bitmap::up_to(n, map) {
-        if within(n, map, good) {
-            return skip_entries(s, at + MAP, n, map);
-        }
-    }
-    Offset::Nowhere
+    let entries = s.get(MAP..).unwrap_or_default();
+    party_entry(entries, n, buffer::size_at(s, 0), i)
 }
 
-// The offset behind the blocks of the bad ones among the first k parties.
-fn skip_blocks(s: &[u8], from: usize, k: usize, n: usize, good: usize) -> Offset
-    requires { from ≤ length s.now }
-    ensures { Ends result (skip_blocks k n good (drop from s.now)) s.now }
-{
-    let mut at = from;
-    let mut p: usize = 0;
-    while p < k {
-        p += 1;
-        if bitmap::names(good, p) {
-            continue;
-        }
-        let Offset::At(next) = skip_block(s, at, n, good) else {
-            return Offset::Nowhere;
+impl Group {
+    // What stands behind the books of those that a map names, and behind a bad sender's block, if all is in order and no byte is left over behind
+    // the exchanges.
+    fn behind(self, books: &[u8], holders: usize, sender: Option<Sender>) -> Option<Behind>
+        ensures { BehindIs result self holders sender books.now }
+    {
+        let packets = skip_entries(books, self.n, holders)?;
+        let exchanges = match sender {
+            Some(x) if !x.good => self.skip_block(packets)?,
+            _ => packets,
         };
-        at = next;
+        let rest = self.skip_exchanges(exchanges, EXCHANGES)?;
+        if !rest.is_empty() {
+            return None;
+        }
+        Some(Behind { packets, exchanges })
     }
-    Offset::At(at)
-}
 
-// The offset behind e exchanges.
-fn skip_exchanges(s: &[u8], from: usize, n: usize, good: usize, e: usize) -> Offset
-    requires { from ≤ length s.now }
-    ensures { Ends result (skip_exchanges e n good (drop from s.now)) s.now }
-{
-    let mut at = from;
-    let mut k: usize = 0;
-    while k < e {
-        let Offset::At(next) = skip_blocks(s, at, n, n, good) else {
-            return Offset::Nowhere;
-        };
-        at = next;
-        k += 1;
+    // Whether all parties that a map of receivers names are good.
+    fn within(self, receivers: usize) -> bool
+        ensures { result ≡ within self.n receivers self.good }
+    {
+        (1..=self.n).all(|p| !bitmap::names(receivers, p) || bitmap::names(self.good, p))
     }
-    Offset::At(at)
-}
 
-// Where the packet of bad party q to party i lies in an exchange; no bytes if there is none.
-fn packet_from(s: &[u8], n: usize, good: usize, q: usize, i: usize) -> Span
-    ensures { Spans result (packet_from n good q i s.now) s.now }
-{
-    if !limits::numbered(n, q) {
-        return Span { from: 0, end: 0 };
+    // What stands behind a bad party's block, whose receivers are good parties.
+    #[tactic(auto, unfolding(crate::specs::Layout::skip_block))]
+    fn skip_block(self, s: &[u8]) -> Option<&[u8]>
+        ensures { Finds result (skip_block self.n self.good s.now) }
+    {
+        let entries = s.get(MAP..)?;
+        let map = buffer::size_at(s, 0);
+        if !bitmap::up_to(self.n, map) || !self.within(map) {
+            return None;
+        }
+        skip_entries(entries, self.n, map)
     }
-    if bitmap::names(good, q) {
-        return Span { from: 0, end: 0 };
+
+    // What stands behind the blocks of the bad ones among the first k parties.
+    fn skip_blocks(self, s: &[u8], k: usize) -> Option<&[u8]>
+        ensures { Finds result (skip_blocks k self.n self.good s.now) }
+    {
+        walk(
+            s,
+            k,
+            |p| !bitmap::names(self.good, p),
+            |x| self.skip_block(x),
+        )
     }
-    let at = or_end(skip_blocks(s, 0, q - 1, n, good), s.len());
-    block_entry(s, at, n, i)
-}
 
-// Where the packet to party i lies in the block at an offset; no bytes if there is none.
-fn block_entry(s: &[u8], at: usize, n: usize, i: usize) -> Span
-    requires { at ≤ length s.now }
-    ensures { Spans result (block_entry n i (drop at s.now)) s.now }
-{
-    let map = buffer::size_at(s, at);
-    let from = buffer::skip(s, at, MAP);
-    party_entry(s, from, n, map, i)
-}
+    // What stands behind e exchanges.
+    fn skip_exchanges(self, s: &[u8], e: usize) -> Option<&[u8]>
+        ensures { Finds result (skip_exchanges e self.n self.good s.now) }
+    {
+        walk(s, e, |_| true, |x| self.skip_blocks(x, self.n))
+    }
 
-// Copies a span's bytes into a lent buffer.
-fn give(s: &[u8], span: Span, out: &mut [u8]) -> Written
-    requires { (span.from ≤ span.end) × (span.end ≤ length s.now) }
-    ensures { gave result out.new ≡ written (take (span.end - span.from) (drop span.from s.now)) out.old }
-{
-    let from = span.from;
-    let end = span.end;
-    buffer::give(&s[from..end], out)
+    // The packet of bad party q to party i in an exchange; no bytes if there is none.
+    #[tactic(auto, unfolding(crate::specs::Layout::packet_from, limits::specs::Limits::numbered))]
+    fn packet_from(self, s: &[u8], q: usize, i: usize) -> &[u8]
+        ensures { result.now ≡ packet_from self.n self.good q i s.now }
+    {
+        if !limits::numbered(self.n, q) || bitmap::names(self.good, q) {
+            return &[];
+        }
+        block_entry(self.skip_blocks(s, q - 1).unwrap_or_default(), self.n, i)
+    }
 }
