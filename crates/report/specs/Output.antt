@@ -3,7 +3,7 @@
 use Rattle.std.specs.Prelude.{Bool, true, false, cond, List, [], ◌∷◌, ◌++◌, ℕ, zero, suc, ◌+◌, ◌-◌, ◌/◌, ◌%◌, ltb, length}
 use Rattle.limits.specs.Limits.{max_message}
 use Rattle.buffer.specs.Given.{Given, gave, written}
-use Rattle.buffer.specs.declared.Written.TheVariants.{Refused}
+use Rattle.buffer.specs.Given.{Refused}
 
 abbrev pub space : ℕ
 space = 0x20

@@ -2,13 +2,13 @@
 #![tactic(auto)]
 
 ghost use Rattle.std.specs.Prelude.{◌≡◌, [], ◌∷◌, ◌++◌, ◌+◌, ◌*◌, ◌≤◌, ◌<◌, length, drop};
-ghost use Rattle.limits.specs.Limits.{max_message};
-ghost use Rattle.buffer.specs.Splice.{spliced};
-ghost use Rattle.buffer.specs.Given.{gave, written};
+ghost use Rattle.buffer.specs.Given.{said, gave, written};
 ghost use Rattle.report.specs.Output.{newline, decimal, hex_digit, hex, ending, line_of, sent_line_of, refused_line_of};
 
 use buffer::Written;
+use cause::{Cause, Refusal};
 use limits::MAX_MESSAGE;
+use std::marker::Model;
 
 // The most digits of a number.
 const MAX_DIGITS: usize = 20;
@@ -16,10 +16,91 @@ const MAX_DIGITS: usize = 20;
 // The longest line: a number, a space, the sign, a space, two digits for each byte, and a newline.
 const MAX_LINE: usize = MAX_DIGITS + 4 + 2 * MAX_MESSAGE;
 
-// The longest word in front of a number, and the line of both.
+// The longest word in front of a number.
 const MAX_WORD: usize = 8;
 
-const MAX_WORDED: usize = MAX_WORD + MAX_DIGITS + 1;
+// A line as it is written, from its start on.
+#[derive(Drop)]
+struct Text {
+    bytes: [u8; MAX_LINE],
+    len: usize,
+}
+
+impl Model for Text {
+    ghost use Rattle.std.specs.Prelude.{ℕ, ◌≤◌, List, take};
+    ghost use Rattle.report.specs.declared.TheConstants.{MAX_LINE};
+
+    ghost Value = { List ℕ };
+
+    ghost view = { λ t. take t.len t.bytes };
+
+    ghost invariant = { λ t. t.len ≤ MAX_LINE };
+}
+
+impl Text {
+    fn new() -> Text
+        ensures { result ≡ [] }
+    {
+        Text {
+            bytes: [0; MAX_LINE],
+            len: 0,
+        }
+    }
+
+    fn push(&mut self, s: &[u8])
+        requires { length self.old + length s.now ≤ MAX_LINE }
+        ensures { self.new ≡ self.old ++ s.now }
+    {
+        let end = self.len + s.len();
+        self.bytes[self.len..end].copy_from_slice(s);
+        self.len = end;
+    }
+
+    fn push_decimal(&mut self, x: usize)
+        requires { length self.old + MAX_DIGITS ≤ MAX_LINE }
+        ensures text { self.new ≡ self.old ++ decimal x }
+        ensures len { length self.new ≤ length self.old + MAX_DIGITS }
+    {
+        let Digits { bytes, from } = digits_of(x);
+        self.push(&bytes[from..]);
+    }
+
+    // Each byte as two hexadecimal digits.
+    fn push_hex(&mut self, message: &[u8])
+        requires { length self.old + 2 * length message.now ≤ MAX_LINE }
+        ensures text { self.new ≡ self.old ++ hex message.now }
+        ensures len { length self.new ≡ length self.old + 2 * length message.now }
+    {
+        for byte in message {
+            let high = hex_digit(*byte / 16);
+            let low = hex_digit(*byte % 16);
+            self.push(&[high, low]);
+        }
+    }
+
+    // A space, the sign, the message if there is one, and a newline.
+    fn push_ending(&mut self, some: bool, message: &[u8])
+        requires number { length self.old ≤ MAX_DIGITS }
+        requires message { length message.now ≤ MAX_MESSAGE }
+        ensures { self.new ≡ self.old ++ ending some message.now }
+    {
+        if !some {
+            self.push(b" -\n");
+        } else if message.is_empty() {
+            self.push(b" =\n");
+        } else {
+            self.push(b" = ");
+            self.push_hex(message);
+            self.push(b"\n");
+        }
+    }
+
+    fn give(&self, out: &mut [u8]) -> Written
+        ensures { gave (said result) out.new ≡ written self.now out.old }
+    {
+        buffer::give(&self.bytes[..self.len], out)
+    }
+}
 
 // A number's digits, at the end of the array.
 #[derive(Clone, Copy)]
@@ -29,125 +110,66 @@ struct Digits {
 }
 
 // A party's line in a lent buffer: its number, and its message if it has one.
+#[tactic(auto, using(crate::proofs::Lines::line_refused, crate::proofs::Lines::line_given))]
 pub fn line(number: usize, some: bool, message: &[u8], out: &mut [u8]) -> Written
-    ensures { gave result out.new ≡ line_of number some message.now out.old }
+    ensures { gave (said result) out.new ≡ line_of number some message.now out.old }
 {
     if MAX_MESSAGE < message.len() {
-        return Written::Refused(4);
+        return Err(Refusal::Because(Cause::Length));
     }
-    let mut text = blank_line();
-    let at = put_decimal(number, &mut text, 0);
-    let end = put_result(some, message, &mut text, at);
-    buffer::give(&text[..end], out)
-}
-
-// Room for a line, in a function of its own: its caller's proof then meets its length and not its bytes.
-fn blank_line() -> [u8; MAX_LINE]
-    ensures { length result ≡ 24 + 2 * max_message }
-{
-    [0; MAX_LINE]
+    let mut text = Text::new();
+    text.push_decimal(number);
+    text.push_ending(some, message);
+    text.give(out)
 }
 
 // The last line in a lent buffer: the bytes sent.
+#[tactic(auto, unfolding(crate::specs::Output::sent_line_of, crate::specs::Output::sent_line))]
 pub fn sent_line(bytes: usize, out: &mut [u8]) -> Written
-    ensures { gave result out.new ≡ sent_line_of bytes out.old }
+    ensures { gave (said result) out.new ≡ sent_line_of bytes out.old }
 {
     worded(b"sent ", bytes, out)
 }
 
 // The one line of a plan that is refused, in a lent buffer.
+#[tactic(auto, unfolding(crate::specs::Output::refused_line_of, crate::specs::Output::refused_line))]
 pub fn refused_line(cause: usize, out: &mut [u8]) -> Written
-    ensures { gave result out.new ≡ refused_line_of cause out.old }
+    ensures { gave (said result) out.new ≡ refused_line_of cause out.old }
 {
     worded(b"refused ", cause, out)
 }
 
 // A word, a number and a newline in a lent buffer.
 fn worded(word: &[u8], x: usize, out: &mut [u8]) -> Written
-    requires { length word.now ≤ 8 }
-    ensures { gave result out.new ≡ written ((word.now ++ decimal x) ++ (newline ∷ [])) out.old }
+    requires { length word.now ≤ MAX_WORD }
+    ensures { gave (said result) out.new ≡ written ((word.now ++ decimal x) ++ (newline ∷ [])) out.old }
 {
-    let mut text = [0u8; MAX_WORDED];
-    buffer::put(&mut text, 0, word);
-    let from = word.len();
-    let at = put_decimal(x, &mut text, from);
-    buffer::put(&mut text, at, &[0x0A]);
-    let end = at + 1;
-    buffer::give(&text[..end], out)
-}
-
-// A number in decimal at an offset; the offset behind it.
-fn put_decimal(x: usize, text: &mut [u8], at: usize) -> usize
-    requires { at + 20 ≤ length text.old }
-    ensures { (result ≡ at + length (decimal x)) × (length (decimal x) ≤ 20)
-        × (text.new ≡ spliced text.old at (decimal x)) }
-{
-    let Digits { bytes, from } = digits_of(x);
-    buffer::put(text, at, &bytes[from..]);
-    at + (MAX_DIGITS - from)
+    let mut text = Text::new();
+    text.push(word);
+    text.push_decimal(x);
+    text.push(b"\n");
+    text.give(out)
 }
 
 // The digits of a number, the last at the end of the array.
 fn digits_of(x: usize) -> Digits
-    ensures { (result.from ≤ 20) × (length result.bytes ≡ 20) × (drop result.from result.bytes ≡ decimal x) }
+    ensures { (result.from ≤ MAX_DIGITS) × (drop result.from result.bytes ≡ decimal x) }
 {
     let mut bytes = [0u8; MAX_DIGITS];
-    let mut from: usize = MAX_DIGITS - 1;
-    let mut left: usize = x;
-    while 9 < left {
-        bytes[from] = 0x30 + (left % 10) as u8;
-        from -= 1;
-        left = left / 10;
+    let mut left = x;
+    for from in (0..MAX_DIGITS).rev() {
+        bytes[from] = b'0' + (left % 10) as u8;
+        left /= 10;
+        if left == 0 {
+            return Digits { bytes, from };
+        }
     }
-    bytes[from] = 0x30 + left as u8;
-    Digits { bytes, from }
-}
-
-// A space, the sign, the message if there is one, and a newline, from an offset on; the offset behind them.
-fn put_result(some: bool, message: &[u8], text: &mut [u8], at: usize) -> usize
-    requires { (length message.now ≤ max_message) × (at + 4 + 2 * length message.now ≤ length text.old) }
-    ensures { (result ≤ length text.old) × (result ≡ at + length (ending some message.now))
-        × (text.new ≡ spliced text.old at (ending some message.now)) }
-{
-    if !some {
-        buffer::put(text, at, &[0x20, 0x2D, 0x0A]);
-        return at + 3;
-    }
-    if message.len() == 0 {
-        buffer::put(text, at, &[0x20, 0x3D, 0x0A]);
-        return at + 3;
-    }
-    buffer::put(text, at, &[0x20, 0x3D, 0x20]);
-    let end = put_hex(message, text, at + 3);
-    buffer::put(text, end, &[0x0A]);
-    end + 1
-}
-
-// Bytes as pairs of hexadecimal digits at an offset; the offset behind them.
-fn put_hex(message: &[u8], text: &mut [u8], at: usize) -> usize
-    requires { (length message.now ≤ max_message) × (at + 2 * length message.now ≤ length text.old) }
-    ensures { (result ≡ at + 2 * length message.now)
-        × (text.new ≡ spliced text.old at (hex message.now)) }
-{
-    let mut i: usize = 0;
-    while i < message.len() {
-        let byte = message[i];
-        let high = hex_digit(byte / 16);
-        let low = hex_digit(byte % 16);
-        let offset = at + 2 * i;
-        text[offset] = high;
-        text[offset + 1] = low;
-        i += 1;
-    }
-    at + 2 * i
+    Digits { bytes, from: 0 }
 }
 
 fn hex_digit(x: u8) -> u8
     requires { x < 16 }
     ensures { result ≡ hex_digit x }
 {
-    if x < 10 {
-        return 0x30 + x;
-    }
-    0x61 + (x - 10)
+    if x < 10 { b'0' + x } else { b'a' + (x - 10) }
 }
