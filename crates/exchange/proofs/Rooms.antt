@@ -13,7 +13,7 @@ use Rattle.limits.proofs.Ranges.{parties-some, numbered_within}
 use Rattle.buffer.specs.Splice.{spliced, tabulate}
 use Rattle.buffer.specs.Entries.{entry_at}
 use Rattle.buffer.specs.Given.{Given, gave, value_of}
-use Rattle.buffer.specs.declared.Written.{Written}
+use Rattle.buffer.specs.Given.{Written}
 use Rattle.buffer.proofs.Splice.{length-spliced, take-spliced}
 use Rattle.buffer.proofs.Places.{entry-within}
 use Rattle.packet.specs.Format.{entry_of}

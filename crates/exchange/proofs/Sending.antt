@@ -1,20 +1,23 @@
 -- What a party sends to another, by whether it is that party itself, good or bad; an inbox depends on what good parties wrote alone; and the
 -- outcomes of filling one. By the tests of the definitions. Assumes nothing.
-use mathlib.Core.Path.{◌≡◌, refl, ap, ◌∙◌}
+use mathlib.Core.Path.{◌≡◌, refl, sym, ap, ◌∙◌}
 use mathlib.Core.Bool.{Bool, true, false, cond}
 use mathlib.Core.List.{List, [], ◌∷◌, ◌++◌}
 use Prim.Native.Nat.{ℕ, zero, suc, ◌+◌, ◌-◌, ◌≤◌, ◌<◌}
 use native.Mathlib.Omega.{arith}
-use borrow.Author.Tests.{eq-eqb, ne_eqb, lt-ltb, le-ltb}
+use borrow.Author.Tests.{ne_eqb, le-ltb}
 use lib.Dec.{eqb}
 use lib.ListN.{length}
 use Rattle.limits.specs.Limits.{max_entry, max_plan, parties, numbered}
 use Rattle.buffer.specs.Splice.{spliced, tabulate}
 use Rattle.buffer.specs.Entries.{entry_at}
-use Rattle.buffer.specs.Given.{Given, gave, value_of, written}
-use Rattle.buffer.specs.declared.Written.{Written}
+use Rattle.std.specs.Prelude.{Result, Ok, Err}
+use Rattle.cause.specs.declared.Refusal.{Refusal}
+use Rattle.cause.specs.declared.Refusal.TheVariants.{Because, Short}
+use Rattle.buffer.specs.Given.{Given, said, gave, value_of, written}
+use Rattle.buffer.specs.Given.{Written}
 use Rattle.buffer.proofs.Given.{written-done}
-use Rattle.buffer.specs.declared.Written.TheVariants.{Refused, Short, Done}
+use Rattle.buffer.specs.Given.{Done}
 use Rattle.packet.specs.Inbox.{inbox_of}
 use Rattle.bitmap.specs.Bitmap.{names}
 use Rattle.plan.specs.Layout.{packet_from}
@@ -23,18 +26,10 @@ use Rattle.exchange.specs.Private.{inbox_by}
 use Rattle.exchange.specs.declared.Mail.{Mail}
 
 module _ (n g : ℕ) (whole : Bool) (wrote : ℕ → List ℕ) (blocks : List ℕ) (i p : ℕ) where
-  pub sent-self : p ≡ i → sent_to n g whole wrote blocks i p ≡ []
-  unfolding sent_to
-  sent-self e = rw (eq-eqb p i e)
-
   module _ (other : p ≡ i → ⊥) where
     pub sent-good : names g p ≡ true → sent_to n g whole wrote blocks i p ≡ cond whole (wrote p) (entry_at (i - 1) (wrote p))
     unfolding sent_to
     sent-good h = rw (ne_eqb p i other, h)
-
-    pub sent-bad : names g p ≡ false → sent_to n g whole wrote blocks i p ≡ packet_from n g p i blocks
-    unfolding sent_to
-    sent-bad h = rw (ne_eqb p i other, h)
 
 -- bytes given into a buffer that has room for them
 pub given-done : (f out : List ℕ) (a : Written) (o : List ℕ) → length f ≤ length out → gave a o ≡ written f out
@@ -42,6 +37,21 @@ pub given-done : (f out : List ℕ) (a : Written) (o : List ℕ) → length f �
 given-done f out a o room e =
     let w = e ∙ written-done f out room in
     (ap (λ (x : Given). x.value) w, ap (λ (x : Given). x.buffer) w)
+
+-- the same by the result that says it
+said-done : (r : Result ℕ Refusal) (n : ℕ) → said r ≡ Done n → r ≡ Ok n
+said-done (Ok k) n h = ap (λ (x : Written). Ok (value_of x)) h
+said-done (Err (Because c)) n h = absurd (cc)
+said-done (Err (Short k)) n h = absurd (cc)
+
+pub ok-same : (r : Result ℕ Refusal) (j k : ℕ) → r ≡ Ok j → r ≡ Ok k → j ≡ k
+ok-same r j k a b = ap (λ (x : Result ℕ Refusal). value_of (said x)) (sym a ∙ b)
+
+pub given-ok : (f out : List ℕ) (r : Result ℕ Refusal) (o : List ℕ) → length f ≤ length out → gave (said r) o ≡ written f out
+    → (r ≡ Ok (length f)) × (o ≡ spliced out 0 f)
+given-ok f out r o room e =
+    let w = e ∙ written-done f out room in
+    (said-done r (length f) (ap (λ (x : Given). x.answer) w), ap (λ (x : Given). x.buffer) w)
 
 -- a list of values that are the same
 tabulate-same : (k : ℕ) (f h : ℕ → List ℕ) → ((j : ℕ) → j < k → f j ≡ h j) → tabulate k f ≡ tabulate k h
@@ -72,48 +82,10 @@ module _ (n g : ℕ) (whole : Bool) (f h : ℕ → List ℕ) (blocks : List ℕ)
       (tabulate-same n (λ k. sent_to n g whole f blocks i (k + 1)) (λ k. sent_to n g whole h blocks i (k + 1))
       (λ k l. sent-same (k + 1) (omega arith) (omega arith)))
 
--- the outcomes of filling an inbox
-module _ (m : Mail) (slots lens blocks : List ℕ) (i : ℕ) (out : List ℕ) where
-  pub fill-1 : parties m.n ≡ false → fill_of m slots lens blocks i out ≡ gave (Refused 1) out
-  unfolding fill_of
-  fill-1 a = rw a
-
-  module _ (a : parties m.n ≡ true) where
-    pub fill-3 : numbered m.n i ≡ false → fill_of m slots lens blocks i out ≡ gave (Refused 3) out
-    unfolding fill_of
-    fill-3 b = rw (a, b)
-
-    module _ (b : numbered m.n i ≡ true) where
-      pub fill-4 : max_entry < m.size → fill_of m slots lens blocks i out ≡ gave (Refused 4) out
-      unfolding fill_of
-      fill-4 c = rw (a, b, lt-ltb max_entry m.size c)
-
-      module _ (c : m.size ≤ max_entry) where
-        pub fill-9 : length out < max_inbox m.n m.size
-            → fill_of m slots lens blocks i out ≡ gave (Short (max_inbox m.n m.size)) out
-        unfolding fill_of
-        fill-9 d = rw (a, b, le-ltb max_entry m.size c, lt-ltb (length out) (max_inbox m.n m.size) d)
-
-        module _ (d : max_inbox m.n m.size ≤ length out) where
-          pub fill-13 : max_plan < length blocks → fill_of m slots lens blocks i out ≡ gave (Refused 13) out
-          unfolding fill_of
-          fill-13 e =
-              rw (
-                a,
-                b,
-                le-ltb max_entry m.size c,
-                le-ltb (length out) (max_inbox m.n m.size) d,
-                lt-ltb max_plan (length blocks) e,
-              )
-
-          pub fill_done : length blocks ≤ max_plan → fill_of m slots lens blocks i out
-              ≡ gave (Done (length (inbox_by m slots lens blocks i))) (spliced out 0 (inbox_by m slots lens blocks i))
-          unfolding fill_of
-          fill_done e =
-              rw (
-                a,
-                b,
-                le-ltb max_entry m.size c,
-                le-ltb (length out) (max_inbox m.n m.size) d,
-                le-ltb max_plan (length blocks) e,
-              )
+-- an inbox that is filled, for which there is no cause
+pub fill_done : (m : Mail) (slots lens blocks : List ℕ) (i : ℕ) (out : List ℕ) → parties m.n ≡ true → numbered m.n i ≡ true → m.size ≤ max_entry
+    → max_inbox m.n m.size ≤ length out → length blocks ≤ max_plan
+    → fill_of m slots lens blocks i out ≡ gave (Done (length (inbox_by m slots lens blocks i))) (spliced out 0 (inbox_by m slots lens blocks i))
+unfolding fill_of
+fill_done m slots lens blocks i out a b c d e =
+    rw (a, b, le-ltb max_entry m.size c, le-ltb (length out) (max_inbox m.n m.size) d, le-ltb max_plan (length blocks) e)

@@ -3,13 +3,11 @@ use mathlib.Core.Path.{◌≡◌, sym, ap, ap₂, ◌∙◌}
 use mathlib.Core.Bool.{true, false, true≢false}
 use mathlib.Core.List.{List, ◌++◌}
 use Prim.Native.Nat.{ℕ, ◌+◌, ◌-◌, ◌*◌, ◌≤◌, ◌<◌, min}
-use native.Mathlib.Nat.{zero-add}
 use native.Mathlib.Decide.{ℕ_discrete}
 use native.Mathlib.Omega.{arith}
 use lib.ListN.{length, get_or, take, drop, set, length-drop, take-append-drop}
 use lib.Seq.{length-take-le, take-append-le, take-append_seam, drop-append-le, drop_at, get_or-set_same, get_or-set_other}
 use Rattle.buffer.specs.Splice.{spliced}
-use Rattle.buffer.proofs.Places.{drop_min, take_min}
 use Rattle.buffer.proofs.Rows.{row_inside}
 use Rattle.bitmap.specs.Bitmap.{names}
 use Rattle.exchange.specs.Exchange.{slot_of, Slots}
@@ -90,13 +88,3 @@ module _ (g size : ℕ) (f : ℕ → List ℕ) where
       let w = slot-of n p all lens old low high c in
       let e : min (get_or lens (p - 1) 0) size ≡ get_or lens (p - 1) 0 = omega (arith, w.0) in
       ap (λ (k : ℕ). take k (drop ((p - 1) * size) all)) e ∙ w.1
-
--- a slot, by where it starts and ends
-pub slot-part : (size : ℕ) (slots lens : List ℕ) (p from k end : ℕ) → from ≡ min (0 + (p - 1) * size) (length slots)
-    → k ≡ min (get_or lens (p - 1) 0) size → end ≡ min (from + k) (length slots) → take (end - from) (drop from slots) ≡ slot_of size slots lens p
-unfolding slot_of
-slot-part size slots lens p from k end ef ek ee =
-    ap (λ (x : ℕ). take (x - from) (drop from slots)) ee
-    ∙ take_min from k slots (omega arith)
-    ∙ ap₂ (λ (x : ℕ) (l : List ℕ). take x l) ek
-    (ap (λ (x : ℕ). drop x slots) ef ∙ drop_min (0 + (p - 1) * size) slots ∙ ap (λ (x : ℕ). drop x slots) (zero-add ((p - 1) * size)))

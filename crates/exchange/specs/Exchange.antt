@@ -4,7 +4,7 @@ use Rattle.limits.specs.Limits.{max_entry, max_plan, parties, numbered}
 use Rattle.buffer.specs.Splice.{spliced, tabulate}
 use Rattle.buffer.specs.Entries.{entry_at}
 use Rattle.buffer.specs.Given.{Given, gave}
-use Rattle.buffer.specs.declared.Written.TheVariants.{Refused, Short, Done}
+use Rattle.buffer.specs.Given.{Refused, Short, Done}
 use Rattle.packet.specs.Inbox.{inbox_of}
 use Rattle.bitmap.specs.Bitmap.{names}
 use Rattle.plan.specs.Layout.{packet_from}
