@@ -9,3 +9,5 @@ pub mod Sums
 pub mod Text
 pub mod Shown
 pub mod Longest
+pub mod Chains
+pub mod Searches

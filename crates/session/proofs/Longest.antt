@@ -24,7 +24,8 @@ use Rattle.plan.proofs.Reading.{end-at, fine}
 use Rattle.session.specs.Session.{message_of, agreed_bit, same_roots, same_bits, unlawful, session_cause, ends_with, good_party, good_parties}
 use Rattle.session.specs.Session.{each_good, book_of}
 use Rattle.session.proofs.Played.{one-result}
-use Rattle.session.proofs.Rule.{root-own, bit-own, bit-none, first_root, first_bit, unlawful-vote}
+use Rattle.session.specs.Private.{first_root, first_bit}
+use Rattle.session.proofs.Rule.{root-own, bit-own, bit-none, unlawful-vote}
 
 -- party 3's block: what it sends to parties 1 and 2
 abbrev pub block : List ℕ → List ℕ → List ℕ

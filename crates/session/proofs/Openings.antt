@@ -18,7 +18,10 @@ use Rattle.buffer.proofs.Splice.{take-spliced}
 use Rattle.packet.specs.Message.{max_message_packet, message_packet}
 use Rattle.packet.proofs.Messages.{packet-bytes}
 use Rattle.commitment.proofs.Opening.{open-fine}
+use Rattle.limits.proofs.Group.{group_of}
+use Rattle.party.specs.Answer.{Opened}
 use Rattle.party.specs.Steps.{open_of}
+use Rattle.party.proofs.Progress.{open-accepted}
 use Rattle.party.specs.Sender.{message_by, packet_by, sender_cause, Begun}
 use Rattle.party.proofs.Sender.{read_short, sender-message, other-message, message-bytes, cause-none, packet-fits, begun-given}
 use Rattle.plan.specs.Layout.{session_of, n_in, t_in, has_sender, sender_in, books_in, holders, good_sender, sender_packet}
@@ -104,6 +107,19 @@ module _ (s : List ℕ) (taken : plan_cause s ≡ 0) where
           ap (λ (r : Begun). take r.value r.buffer) (begun-given (n_in s) (t_in s) q q b H (session_of s) room c
           (omega (arith, packet-fits (n_in s) (t_in s) q q b c, length-replicate {A = ℕ} max_message_packet 0)))
           ∙ take-spliced room (packet_by (n_in s) q q b)
+
+      -- and the sender's opening is not refused
+      pub sender-begins : (q : ℕ) (m : List ℕ) → q ≡ sender_in s → m ≡ book_of s q → (opened_by_sender H s q m).opened.cause ≡ 0
+      sender-begins q m e b =
+          let p = sender_in s in
+          let x = book_of s p in
+          let r = sender-there s plan there in
+          let g = group_of (n_in s) (t_in s) plan.group in
+          let short : length (message_by p p x) ≤ max_message = omega (arith, ap length (sender-message p p x refl), book-fits p) in
+          ap (λ (z : List ℕ). (opened_by_sender H s q z).opened.cause) b
+          ∙ ap (λ (i : ℕ). (opened_by_sender H s i (book_of s i)).opened.cause) e
+          ∙ ap (λ (o : Opened). o.cause) (begins p x r.0 r.1 short)
+          ∙ open-accepted H (session_of s) (n_in s) (t_in s) p (message_by p p x) g.low g.high g.faults r.0 r.1 short
 
       -- and what is handed to a party is of bytes if the plan is
       pub handed-bytes : Bytes s → (p : ℕ) → Bytes (handed_to H s p)

@@ -36,8 +36,8 @@ use Rattle.party.specs.State.{seat_of, Result, nothing, result_bytes, at_root, a
 use Rattle.party.specs.Steps.{turn_of, open_cause, with_root, Stepped, gives, outbox_of, held_of, relay_of, faulty_shares}
 use Rattle.party.specs.Steps as steps
 use Rattle.party.specs.declared.Party.{Party}
-use Rattle.party.specs.declared.Opened.{Opened}
-use Rattle.party.specs.declared.Answer.TheVariants.{Happy}
+use Rattle.party.specs.Answer.{Opened}
+use Rattle.party.specs.Answer.{Happy}
 use Rattle.party.proofs.Ways.{Way, on, off, way, clash}
 use Rattle.party.proofs.Kept.{message-root, message-bit, message-first, result-end}
 use Rattle.commitment.specs.Private.{Coded}

@@ -2,43 +2,56 @@
 -- Assumes nothing.
 use mathlib.Core.Path.{◌≡◌, refl, sym, ap, ap₂, ◌∙◌}
 use mathlib.Core.Bool.{Bool, true, false, cond, not, ◌&&◌, ◌||◌, true≢false, false≢true}
-use mathlib.Core.List.{List, []}
-use Prim.Native.Nat.{ℕ, suc, ◌+◌, ◌-◌, ◌*◌, ◌%◌, ◌/◌, ◌^◌, ◌<◌, ◌≤◌}
-use native.Mathlib.Decide.{ℕ_discrete}
+use mathlib.Core.List.{List, [], ◌∷◌}
+use Prim.Native.Nat.{ℕ, ◌+◌, ◌-◌, ◌*◌, ◌<◌, ◌≤◌}
 use native.Mathlib.Omega.{arith}
-use borrow.Author.Tests.{lt-ltb, le-ltb, eq-eqb, ne_eqb}
+use borrow.Author.Tests.{lt-ltb, le-ltb}
 use lib.Dec.{ltb, eqb}
-use lib.ListN.{length, take, drop, length-drop}
+use lib.Pointwise.{pointwise}
+use lib.ListN.{length, take, drop, replicate, length-drop}
+use Rattle.std.specs.Prelude.{Some, None, Result, Ok, Err, IsOk}
+use Rattle.std.specs.Result.{result_unwrap_or}
 use Rattle.limits.specs.Limits.{max_parties, max_message, max_plan}
 use Rattle.limits.proofs.Ranges.{numbered_within}
 use Rattle.limits.proofs.Group.{group_of}
 use Rattle.buffer.specs.Entries.{size}
 use Rattle.buffer.specs.Splice.{spliced}
 use Rattle.buffer.specs.Given.{Given, gave, value_of}
-use Rattle.buffer.specs.declared.Written.{Written}
-use Rattle.buffer.specs.declared.Written.TheVariants.{Refused, Done}
+use Rattle.buffer.specs.Given.{Written}
+use Rattle.buffer.specs.Given.{Refused, Done}
 use Rattle.buffer.proofs.Splice.{length-spliced, take-spliced}
 use Rattle.buffer.proofs.Given.{written-done}
-use Rattle.merkle.specs.Shares.{same}
+use Rattle.cause.specs.declared.Cause.{Cause}
+use Rattle.cause.specs.declared.Refusal.{Refusal}
+use Rattle.cause.specs.declared.Refusal.TheVariants as refusal
+use Rattle.cause.proofs.Numbers.{number-nonzero}
+use Rattle.merkle.specs.Shares.{blank, same}
+use Rattle.merkle.specs.Answer.{root_said}
 use Rattle.party.specs.State.{happy}
 use Rattle.party.specs.Steps.{open_of, root_cause, with_root, gives, refused, agree_root_of}
+use Rattle.party.specs.Sender.{Begun, open_by_sender_of}
 use Rattle.party.specs.declared.Party.{Party}
-use Rattle.party.specs.declared.Answer.TheVariants.{Happy}
+use Rattle.party.specs.declared.Begun.{Begun as Told}
+use Rattle.party.proofs.Sender.{value-fits}
+use Rattle.packet.specs.Message.{max_message_packet}
+use Rattle.party.specs.Answer.{Happy, opened_by, value_by}
 use Rattle.bitmap.specs.Bitmap.{names}
-use Rattle.plan.specs.Layout.{session_of, map_width, member, unnamed, lowest, field_at, n_in, t_in, options_in, has_root, has_bit, root_in, bit_in, good_at, good_in, books_in}
+use Rattle.plan.specs.Layout.{session_of, map_width, member, field_at, n_in, t_in, options_in, has_root, has_bit, root_in, bit_in, good_at, good_in, books_in}
 use Rattle.plan.specs.Layout.{has_sender, sender_in, good_sender, bad_sender, holders, behind_books, block_entry, sender_packet, laid_out}
-use Rattle.plan.specs.Plan.{plan_cause, parts_of, plan_of, book_given, block_given}
+use Rattle.plan.specs.Plan.{plan_cause, parts_said, parts_of, plan_of, book_given, block_given}
+use Rattle.plan.specs.Plan.{Plan as Said}
 use Rattle.plan.specs.declared.Plan.{Plan}
-use Rattle.bitmap.proofs.Maps.{named}
-use Rattle.bitmap.proofs.Maps as maps
 use Rattle.plan.proofs.Given.{book-none, book-some, block-given}
 use Rattle.plan.proofs.Tails.{behind-there, behind-short}
 use Rattle.plan.proofs.Packets.{entries_fit}
 use Rattle.plan.proofs.Blocks.{entry-none}
 use Rattle.plan.proofs.Accepted.{accepted, books-inside, sender-there}
-use Rattle.session.specs.Session.{is_good, book_of, lowest_good, opened_by_sender, handed_to, opened, agreed_root, step2, agreed_bit, same_roots, same_bits, unlawful}
-use Rattle.session.specs.Private.{Ready, own_bit}
+use Rattle.session.specs.Session.{is_good, book_of, lowest_good, opened_by_sender, sender_wrote, handed_to, opened, agreed_root, step2, agreed_bit, unlawful}
+use Rattle.session.specs.Private.{opening_of, root_begun, own_bit, many_bad, no_bit, other_root, other_bit}
+use Rattle.session.specs.declared.Opening.{Opening}
+use Rattle.session.specs.declared.Play.{Play}
 use Rattle.session.proofs.Openings.{book-fits}
+use Rattle.session.proofs.Text.{cause-is}
 
 -- the parts of a plan that is taken
 pub record Known (s : List ℕ) (parts : Plan) : Type 0 where
@@ -46,7 +59,6 @@ pub record Known (s : List ℕ) (parts : Plan) : Type 0 where
   pub t-is : parts.t ≡ t_in s
   pub options-are : parts.options ≡ options_in s
   pub good-is : parts.good ≡ good_in s
-  pub sender-is : parts.sender ≡ cond (has_sender s) (sender_in s) 0
   pub session-is : parts.session ≡ session_of s
   pub holders-are : parts.holders ≡ holders s
   pub books-are : parts.books ≡ good_at s + map_width
@@ -60,25 +72,28 @@ pub record Known (s : List ℕ) (parts : Plan) : Type 0 where
   pub sender-one : has_sender s ≡ true → (1 ≤ sender_in s) × (sender_in s ≤ n_in s)
   pub short : (q : ℕ) → length (book_of s q) ≤ max_message
 
-plan-is : (s : List ℕ) → plan_cause s ≡ 0 → plan_of s ≡ parts_of s
-unfolding plan_of
-plan-is s e = rw e
+pub taken : (p : Play) → plan_cause p.bytes.now ≡ 0
+taken p = sym (cause-is p.bytes.now) ∙ ap (λ (x : Said). x.cause) (sym p.read)
 
-pub known : (s : List ℕ) (parts : Plan) → Ready s parts → Known s parts
-known s parts r =
-    let e : parts ≡ parts_of s = r.read ∙ plan-is s r.taken in
-    let a = accepted s r.taken in
+parts-are : (s : List ℕ) → plan_cause s ≡ 0 → plan_of s ≡ parts_of s
+unfolding plan_of
+parts-are s e = rw e
+
+pub known : (p : Play) → Known p.bytes.now p.parts
+known p =
+    let s = p.bytes.now in
+    let e : parts_said p.parts ≡ parts_of s = p.read ∙ parts-are s (taken p) in
+    let a = accepted s (taken p) in
     let g = group_of (n_in s) (t_in s) a.group in
     record {
-      n-is = ap (λ (x : Plan). x.n) e;
-      t-is = ap (λ (x : Plan). x.t) e;
-      options-are = ap (λ (x : Plan). x.options) e;
-      good-is = ap (λ (x : Plan). x.good) e;
-      sender-is = ap (λ (x : Plan). x.sender) e;
-      session-is = ap (λ (x : Plan). x.session) e;
-      holders-are = ap (λ (x : Plan). x.holders) e;
-      books-are = ap (λ (x : Plan). x.books) e;
-      packets-are = ap (λ (x : Plan). x.packets) e;
+      n-is = ap (λ (x : Said). x.n) e;
+      t-is = ap (λ (x : Said). x.t) e;
+      options-are = ap (λ (x : Said). x.options) e;
+      good-is = ap (λ (x : Said). x.good) e;
+      session-is = ap (λ (x : Said). x.session) e;
+      holders-are = ap (λ (x : Said). x.holders) e;
+      books-are = ap (λ (x : Said). x.books) e;
+      packets-are = ap (λ (x : Said). x.packets) e;
       low = g.low;
       high = g.high;
       faults = g.faults;
@@ -86,31 +101,60 @@ known s parts r =
       laid = a.laid;
       inside = books-inside s a.laid;
       sender-one = sender-there s a;
-      short = book-fits s r.taken;
+      short = book-fits s (taken p);
     }
+
+-- its sender
+named-by : (b : Bool) (q x : ℕ) → Some q ≡ cond b (Some x) None → (b ≡ true) × (q ≡ x)
+named-by true q x e = (refl, cc)
+named-by false q x e = absurd (let z : ◌≡◌ {A = ℕ} 0 1 = cc in omega arith)
+
+none-by : (b : Bool) (x : ℕ) → None ≡ cond b (Some x) None → b ≡ false
+none-by true x e = absurd (let z : ◌≡◌ {A = ℕ} 0 1 = cc in omega arith)
+none-by false x e = refl
+
+pub sender-named : (p : Play) (q : ℕ) → p.parts.sender ≡ Some q → (has_sender p.bytes.now ≡ true) × (q ≡ sender_in p.bytes.now)
+sender-named p q e = named-by (has_sender p.bytes.now) q (sender_in p.bytes.now) (sym e ∙ p.sender_is)
+
+pub sender-none : (p : Play) → p.parts.sender ≡ None → has_sender p.bytes.now ≡ false
+sender-none p e = none-by (has_sender p.bytes.now) (sender_in p.bytes.now) (sym e ∙ p.sender_is)
+
+-- the root that an opening gives, and what it wrote
+root-or-blank : (r : Result (List ℕ) Cause) → result_unwrap_or r blank ≡ (root_said r).root
+root-or-blank (Ok w) = refl
+root-or-blank (Err c) = refl
+
+pub opening-by : (x : Party) (r : Result Told Refusal) (w : List ℕ) → w ≡ root_begun r
+    → ◌≡◌ {A = Opening} (record { state = x; root = w }) (opening_of (opened_by x r))
+opening-by x (Ok b) w h = ap {B = Opening} (λ (l : List ℕ). record { state = x; root = l }) h
+opening-by x (Err (refusal.Because c)) w h = ap {B = Opening} (λ (l : List ℕ). record { state = x; root = l }) h
+opening-by x (Err (refusal.Short k)) w h = ap {B = Opening} (λ (l : List ℕ). record { state = x; root = l }) h
+
+pub opening-plain : (x : Party) (r : Result (List ℕ) Cause) (w : List ℕ) → w ≡ result_unwrap_or r blank
+    → ◌≡◌ {A = Opening} (record { state = x; root = w }) (record { state = x; root = (root_said r).root })
+opening-plain x r w h = ap {B = Opening} (λ (l : List ℕ). record { state = x; root = l }) (h ∙ root-or-blank r)
+
+pub begun-ok : (x : Party) (r : Result Told Refusal) → (opened_by x r).cause ≡ 0 → IsOk r
+begun-ok x (Ok b) e = refl
+begun-ok x (Err (refusal.Because c)) e = elim (number-nonzero c e) [ ]
+begun-ok x (Err (refusal.Short k)) e = absurd (let z : ◌≡◌ {A = ℕ} 9 0 = e in omega arith)
+
+pub begun-value : (r : Result Told Refusal) (b : Told) → r ≡ Ok b → value_by r ≡ b.len
+begun-value r b e = ap value_by e
 
 -- what the code reads of such a plan is what the definitions say
 module _ (s : List ℕ) (parts : Plan) (k : Known s parts) where
-  pub lowest-is : lowest parts.n 1 parts.good ≡ lowest_good s
-  lowest-is = ap₂ (λ (n g : ℕ). lowest n 1 g) k.n-is k.good-is
-
-  pub unnamed-is : unnamed parts.n 1 parts.good ≡ unnamed (n_in s) 1 (good_in s)
-  unnamed-is = ap₂ (λ (n g : ℕ). unnamed n 1 g) k.n-is k.good-is
-
-  pub good-named : (p : ℕ) (b : Bool) → b ≡ names parts.good p → b ≡ is_good s p
-  good-named p b e = e ∙ ap (λ (g : ℕ). names g p) k.good-is
+  pub good-named : (q : ℕ) → names parts.good q ≡ is_good s q
+  good-named q = ap (λ (g : ℕ). names g q) k.good-is
 
   pub books-room : parts.books ≤ length s
   books-room = omega (arith, k.books-are, k.inside)
 
-  pub option-named : (j : ℕ) (b : Bool) → b ≡ names parts.options j → b ≡ names (options_in s) j
-  option-named j b e = e ∙ ap (λ (o : ℕ). names o j) k.options-are
+  pub option-named : (j : ℕ) → names parts.options j ≡ names (options_in s) j
+  option-named j = ap (λ (o : ℕ). names o j) k.options-are
 
-  pub field_is : (j x : ℕ) → x ≡ field_at parts.options j → x ≡ field_at (options_in s) j
-  field_is j x e = e ∙ ap (λ (o : ℕ). field_at o j) k.options-are
-
-  pub sender-number : has_sender s ≡ true → parts.sender ≡ sender_in s
-  sender-number h = k.sender-is ∙ ap (λ (b : Bool). cond b (sender_in s) 0) h
+  pub field_is : (j : ℕ) → field_at parts.options j ≡ field_at (options_in s) j
+  field_is j = ap (λ (o : ℕ). field_at o j) k.options-are
 
   pub packets-room : parts.packets ≤ length s
   packets-room = omega (arith, k.packets-are)
@@ -124,11 +168,28 @@ module _ (s : List ℕ) (parts : Plan) (k : Known s parts) where
   unfolding opened
   open_by H q h = rw h
 
+  -- an opening by the sender, and what the sender wrote in its own
+  pub opens-by : (H : List ℕ → List ℕ) (q sender : ℕ) (m out : List ℕ) → sender ≡ sender_in s → out ≡ replicate max_message_packet 0
+      → open_by_sender_of H parts.session parts.n parts.t q sender m out ≡ opened_by_sender H s q m
+  unfolding opened_by_sender
+  opens-by H q sender m out e z = rw (k.session-is, k.n-is, k.t-is, e, z)
+
+  pub sender-gives : (H : List ℕ → List ℕ) (q : ℕ) (m : List ℕ) → q ≡ sender_in s → m ≡ book_of s q → (r : Begun) → r ≡ opened_by_sender H s q m
+      → (r.value ≤ max_message_packet) × (take r.value r.buffer ≡ sender_wrote H s)
+  unfolding sender_wrote opened_by_sender
+  sender-gives H q m z e r w =
+      let p = sender_in s in
+      let out = replicate {A = ℕ} max_message_packet 0 in
+      let g : r ≡ opened_by_sender H s p (book_of s p) = w ∙ ap (opened_by_sender H s q) e ∙ ap (λ (i : ℕ). opened_by_sender H s i (book_of s i)) z in (
+        omega (arith, ap (λ (x : Begun). x.value) g, value-fits (n_in s) (t_in s) p p (book_of s p) H (session_of s) out),
+        ap (λ (x : Begun). take x.value x.buffer) g,
+      )
+
   -- whether a sender is good, and what the plan says that a bad one sends
-  pub sender-good : has_sender s ≡ true → (b : Bool) → b ≡ names parts.good parts.sender → b ≡ good_sender s
-  sender-good h b e =
+  pub sender-good : has_sender s ≡ true → (q : ℕ) → q ≡ sender_in s → is_good s q ≡ good_sender s
+  sender-good h q e =
       let r = k.sender-one h in
-      e ∙ ap₂ names k.good-is (sender-number h) ∙ sym (rw (h, numbered_within (n_in s) (sender_in s) r.0 r.1))
+      ap (is_good s) e ∙ sym (rw (h, numbered_within (n_in s) (sender_in s) r.0 r.1))
 
   pub block-told : has_sender s ≡ true → good_sender s ≡ false → (q : ℕ) (out : List ℕ) → max_plan ≤ length out → (r : Written) (o : List ℕ)
       → gave r o ≡ block_given parts.n q (drop parts.packets s) out
@@ -226,96 +287,12 @@ module _ (H : List ℕ → List ℕ) (s : List ℕ) where
       go true = refl
       go false = refl
 
--- no party is left
-pub lowest-end : (k p g : ℕ) → k ≡ 0 → lowest k p g ≡ 0
-unfolding lowest
-lowest-end k p g e = rw e
-
-pub unnamed-end : (k p g : ℕ) → k ≡ 0 → unnamed k p g ≡ 0
-unfolding unnamed
-unnamed-end k p g e = rw e
-
--- party p of k, with j behind it
-module _ (j k p g : ℕ) (e : k ≡ suc j) where
-  pub lowest-found : names g p ≡ true → lowest k p g ≡ p
-  unfolding lowest
-  lowest-found h = rw (e, h)
-
-  pub lowest-later : names g p ≡ false → lowest k p g ≡ lowest j (p + 1) g
-  unfolding lowest
-  lowest-later h = rw (e, h)
-
--- the same with the map halved p times
-module _ (j k p g m : ℕ) (e : k ≡ suc j) (h : m ≡ g / 2 ^ p) where
-  pub unnamed-more : unnamed k (p + 1) g ≡ 1 - m % 2 + unnamed j (p + 1 + 1) g
-  unfolding unnamed
-  unnamed-more =
-      elim (ℕ_discrete (m % 2) 1) [
-        | yes b ↦ rw (e, named g p m h b) (omega arith)
-        | no b ↦ rw (e, maps.unnamed g p m h (omega arith)) (omega arith)
-      ]
-
-module _ (H : List ℕ → List ℕ) (s : List ℕ) where
-  pub roots-end : (k p : ℕ) (w : List ℕ) → k ≡ 0 → same_roots H s k p w ≡ true
-  unfolding same_roots
-  roots-end k p w e = rw e
-
-  pub bits-end : (k p b : ℕ) → k ≡ 0 → same_bits H s k p b ≡ true
-  unfolding same_bits
-  bits-end k p b e = rw e
-
-  module _ (j k p : ℕ) (e : k ≡ suc j) where
-    module _ (w : List ℕ) where
-      pub roots-bad : is_good s p ≡ false → same_roots H s k p w ≡ same_roots H s j (p + 1) w
-      unfolding same_roots
-      roots-bad h = rw (e, h)
-
-      pub roots-same : is_good s p ≡ true → same (opened H s p).root w ≡ true → same_roots H s k p w ≡ same_roots H s j (p + 1) w
-      unfolding same_roots
-      roots-same h q = rw (e, h, q)
-
-      pub roots-other : is_good s p ≡ true → same (opened H s p).root w ≡ false → same_roots H s k p w ≡ false
-      unfolding same_roots
-      roots-other h q = rw (e, h, q)
-
-    module _ (b : ℕ) where
-      pub bits-bad : is_good s p ≡ false → same_bits H s k p b ≡ same_bits H s j (p + 1) b
-      unfolding same_bits
-      bits-bad h = rw (e, h)
-
-      pub bits-same : is_good s p ≡ true → (step2 H s p).value ≡ b → same_bits H s k p b ≡ same_bits H s j (p + 1) b
-      unfolding same_bits
-      bits-same h q = rw (e, h, eq-eqb (step2 H s p).value b q)
-
-      pub bits-other : is_good s p ≡ true → ((step2 H s p).value ≡ b → ⊥) → same_bits H s k p b ≡ false
-      unfolding same_bits
-      bits-other h q = rw (e, h, ne_eqb (step2 H s p).value b q)
-
 -- the rule of the short agreement, by its four tests
 module _ (s : List ℕ) where
-  abbrev pub many_bad : Bool
-  many_bad = ltb (t_in s) (unnamed (n_in s) 1 (good_in s))
-
-  abbrev pub no_bit : Bool
-  no_bit = has_bit s && ltb 1 (bit_in s)
-
-  pub bit-none : has_bit s ≡ false → no_bit ≡ false
+  pub bit-none : has_bit s ≡ false → no_bit s ≡ false
   bit-none h = ap (λ (x : Bool). x && ltb 1 (bit_in s)) h
 
 module _ (H : List ℕ → List ℕ) (s : List ℕ) where
-  -- the root and the bit that the lowest-numbered good party put in
-  abbrev pub first_root : List ℕ
-  first_root = (opened H s (lowest_good s)).root
-
-  abbrev pub first_bit : ℕ
-  first_bit = (step2 H s (lowest_good s)).value
-
-  abbrev pub other_root : Bool
-  other_root = same_roots H s (n_in s) 1 first_root && not (same (agreed_root H s) first_root)
-
-  abbrev pub other_bit : Bool
-  other_bit = same_bits H s (n_in s) 1 first_bit && not (eqb (agreed_bit H s) first_bit)
-
   pub bit-beyond : has_bit s ≡ true → 1 < agreed_bit H s → no_bit s ≡ true
   bit-beyond h l = ap₂ (λ (x y : Bool). x && y) h (lt-ltb 1 (bit_in s) (omega (arith, bit-given H s h)))
 
@@ -324,27 +301,26 @@ module _ (H : List ℕ → List ℕ) (s : List ℕ) where
 
   pub unlawful-many : many_bad s ≡ true → unlawful H s ≡ true
   unfolding unlawful
-  unlawful-many a = ap (λ (x : Bool). x || no_bit s || other_root || other_bit) a
+  unlawful-many a = ap (λ (x : Bool). x || no_bit s || other_root H s || other_bit H s) a
 
   module _ (a : many_bad s ≡ false) where
     pub unlawful-bit : no_bit s ≡ true → unlawful H s ≡ true
     unfolding unlawful
-    unlawful-bit b = ap₂ (λ (x y : Bool). x || y || other_root || other_bit) a b
+    unlawful-bit b = ap₂ (λ (x y : Bool). x || y || other_root H s || other_bit H s) a b
 
     module _ (b : no_bit s ≡ false) where
-      pub unlawful-root : other_root ≡ true → unlawful H s ≡ true
+      pub unlawful-root : other_root H s ≡ true → unlawful H s ≡ true
       unfolding unlawful
-      unlawful-root c = ap₂ (λ (x y : Bool). x || y || other_root || other_bit) a b ∙ ap (λ (x : Bool). x || other_bit) c
+      unlawful-root c = ap₂ (λ (x y : Bool). x || y || other_root H s || other_bit H s) a b ∙ ap (λ (x : Bool). x || other_bit H s) c
 
-      pub unlawful-vote : other_root ≡ false → unlawful H s ≡ other_bit
+      pub unlawful-vote : other_root H s ≡ false → unlawful H s ≡ other_bit H s
       unfolding unlawful
-      unlawful-vote c = ap₂ (λ (x y : Bool). x || y || other_root || other_bit) a b ∙ ap (λ (x : Bool). x || other_bit) c
+      unlawful-vote c = ap₂ (λ (x y : Bool). x || y || other_root H s || other_bit H s) a b ∙ ap (λ (x : Bool). x || other_bit H s) c
 
--- tests turned around
-pub not-true : (b : Bool) → not b ≡ true → b ≡ false
-not-true true e = absurd (false≢true e)
-not-true false e = refl
-
-pub not-false : (b : Bool) → not b ≡ false → b ≡ true
-not-false true e = refl
-not-false false e = absurd (true≢false e)
+-- whether two roots are one, as the code compares them
+pub equal-is : (a b : List ℕ) → pointwise eqb a b ≡ same a b
+unfolding same
+equal-is [] [] = refl
+equal-is [] (y ∷ b) = refl
+equal-is (x ∷ a) [] = refl
+equal-is (x ∷ a) (y ∷ b) = ap (λ (t : Bool). eqb x y && t) (equal-is a b)

@@ -1,18 +1,15 @@
 -- What is printed, by the answer of a rehearsal: refused, the one line; else what was written. Assumes nothing.
-use mathlib.Core.Path.{◌≡◌, sym, ap, ap₂, ◌∙◌, subst}
+use mathlib.Core.Path.{◌≡◌, sym, ap, ap₂, ◌∙◌}
 use mathlib.Core.Bool.{Bool, true, false, cond, not}
-use mathlib.Core.List.{List, [], ◌∷◌}
+use mathlib.Core.List.{List}
 use Prim.Native.Nat.{ℕ}
 use native.Mathlib.Omega.{arith}
-use types.Run.{OneOf, miss}
-use denote.Enum.Declared.{tag_of}
 use lib.Dec.{eqb, ltb}
 use lib.ListN.{length}
 use Rattle.buffer.specs.Splice.{spliced}
 use Rattle.buffer.specs.Given.{Given, gave, written}
-use Rattle.buffer.specs.declared.Written.{Written}
-use Rattle.buffer.specs.declared.Written.TheVariants.{Refused, Short, Done}
-use Rattle.buffer.specs.contracts.Written.{the_type as written_type}
+use Rattle.buffer.specs.Given.{Written}
+use Rattle.buffer.specs.Given.{Refused, Short, Done}
 use Rattle.report.specs.Output.{refused_line, refused_line_of}
 use Rattle.party.proofs.Ways.{Way, on, off, way}
 use Rattle.session.specs.Session.{session_cause, output, rehearse_of, printed, print_of}
@@ -28,6 +25,12 @@ not-refused bs out k = go (ltb (length out) (length bs))
 
 same-cause : {j k : ℕ} → Refused j ≡ Refused k → j ≡ k
 same-cause e = cc
+
+done-apart : {n k : ℕ} → Done n ≡ Refused k → ⊥
+done-apart e = let z : ◌≡◌ {A = ℕ} 0 1 = cc in omega arith
+
+short-apart : {n k : ℕ} → Short n ≡ Refused k → ⊥
+short-apart e = let z : ◌≡◌ {A = ℕ} 0 1 = cc in omega arith
 
 module _ (H : List ℕ → List ℕ) (s out o : List ℕ) (r : Written) (e : gave r o ≡ rehearse_of H s out) where
   abbrev k : ℕ
@@ -46,7 +49,7 @@ module _ (H : List ℕ → List ℕ) (s out o : List ℕ) (r : Written) (e : gav
           let c : j ≡ k = same-cause (sym q ∙ ap (λ (g : Given). g.answer) w) in
           rw f (ap₂ (λ (i : ℕ) (l : List ℕ). written (refused_line i) l) c (ap (λ (g : Given). g.buffer) w))
 
-  pub print-other : OneOf (1 ∷ 2 ∷ []) (tag_of written_type r) → gave r o ≡ print_of H s out
+  print-other : ((j : ℕ) → r ≡ Refused j → ⊥) → gave r o ≡ print_of H s out
   unfolding rehearse_of print_of printed
   print-other h = go (way (eqb k 0))
     where
@@ -54,5 +57,11 @@ module _ (H : List ℕ → List ℕ) (s out o : List ℕ) (r : Written) (e : gav
       go (on f) = e ∙ rw f
       go (off f) =
           let w : gave r o ≡ gave (Refused k) out = e ∙ rw f in
-          absurd (miss (1 ∷ 2 ∷ []) 0 tt
-          (subst (λ (y : Written). OneOf (1 ∷ 2 ∷ []) (tag_of written_type y)) (ap (λ (g : Given). g.answer) w) h))
+          absurd (h k (ap (λ (g : Given). g.answer) w))
+
+module _ (H : List ℕ → List ℕ) (s out o : List ℕ) (n : ℕ) where
+  pub print-done : gave (Done n) o ≡ rehearse_of H s out → gave (Done n) o ≡ print_of H s out
+  print-done e = print-other H s out o (Done n) e (λ j z. done-apart z)
+
+  pub print-short : gave (Short n) o ≡ rehearse_of H s out → gave (Short n) o ≡ print_of H s out
+  print-short e = print-other H s out o (Short n) e (λ j z. short-apart z)

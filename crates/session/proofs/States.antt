@@ -2,15 +2,19 @@
 use mathlib.Core.Path.{◌≡◌, sym, ap, ap₂, ◌∙◌}
 use mathlib.Core.Bool.{false, true≢false}
 use mathlib.Core.List.{List}
-use Prim.Native.Nat.{ℕ, ◌+◌, ◌<◌}
+use Prim.Native.Nat.{ℕ, ◌+◌, ◌*◌, ◌<◌, ◌≤◌}
 use native.Mathlib.Decide.{ℕ_discrete}
 use native.Mathlib.Omega.{arith}
 use lib.ListN.{length, get_or, set}
 use lib.Seq.{get_or-set_same, get_or-set_other}
-use Rattle.sha256.specs.Sha256.{sha256}
 use Rattle.party.specs.declared.Party.{Party}
-use Rattle.session.specs.Session.{is_good, step2, step3, step4}
-use Rattle.session.specs.Private.{step_for, state_for, States}
+use Rattle.buffer.specs.Splice.{spliced}
+use Rattle.plan.specs.Layout.{n_in, good_in}
+use Rattle.exchange.proofs.Slots.{slots-none, slots-skip, slots-more}
+use Rattle.session.specs.Session.{is_good, max_outbox, wrote_in}
+use Rattle.session.specs.Private.{step_for, state_for, States, Turn}
+use Rattle.session.specs.declared.Outgoing.{Outgoing}
+use Rattle.session.specs.declared.Step.{Step}
 
 module _ (s : List ℕ) (f : ℕ → Party) where
   -- those before place k, with the one there, or without it where the party is bad
@@ -36,20 +40,32 @@ module _ (s : List ℕ) (f : ℕ → Party) where
   pub states-past : (k n : ℕ) (l m : List Party) → m ≡ l → States s f k n l → States s f (k + 1) n m
   states-past k n l m em old d j a h g = ap (λ (y : List Party). get_or y j d) em ∙ old d j (omega arith) h g
 
--- the step in which a party writes for an exchange, and its state before that
-module _ (e : ℕ) (s : List ℕ) (q : ℕ) where
-  pub step-first : e ≡ 0 → step_for e s q ≡ step3 sha256 s q
-  unfolding step_for
-  step-first h = rw h
+-- a round: before its first turn, and after one more, with or without a good party
+module _ (s : List ℕ) (step : Step) where
+  abbrev W : ℕ → List ℕ
+  W p = wrote_in (step_for step s p)
 
-  pub step-second : e ≡ 1 → step_for e s q ≡ step4 sha256 s q
-  unfolding step_for
-  step-second h = rw h
+  abbrev A : ℕ → Party
+  A p = (step_for step s p).state
 
-  pub state-first : e ≡ 0 → state_for e s q ≡ (step2 sha256 s q).state
-  unfolding state_for
-  state-first h = rw h
+  pub turn-none : (l : List Party) (a : Outgoing) → States s (state_for step s) 0 (n_in s) l → Turn s step 0 l a
+  turn-none l a h =
+      record { wrote = slots-none (good_in s) max_outbox W a.slots a.lens; moved = λ d j x y g. absurd (omega arith); waiting = h }
 
-  pub state-second : e ≡ 1 → state_for e s q ≡ (step3 sha256 s q).state
-  unfolding state_for
-  state-second h = rw h
+  pub turn-more : (j at len : ℕ) (x : Party) (l m : List Party) (a b : Outgoing) → j < length l → at ≤ length a.slots → j < length a.lens
+      → at ≡ j * max_outbox → x ≡ A (j + 1) → len ≡ length (W (j + 1)) → len ≤ max_outbox → m ≡ set l j x
+      → b.slots ≡ spliced a.slots at (W (j + 1)) → b.lens ≡ set a.lens j len → Turn s step j l a → Turn s step (j + 1) m b
+  turn-more j at len x l m a b hl ha hs ea ex el short em eb es t =
+      record {
+        wrote = slots-more (good_in s) max_outbox W j at len a.slots a.lens b.slots b.lens ea el eb es short ha hs t.wrote;
+        moved = states-more s A j x l m em ex hl t.moved;
+        waiting = states-later s (state_for step s) j (n_in s) x l m em t.waiting;
+      }
+
+  pub turn-skip : (j : ℕ) (l m : List Party) (a b : Outgoing) → is_good s (j + 1) ≡ false → m ≡ l → b ≡ a → Turn s step j l a → Turn s step (j + 1) m b
+  turn-skip j l m a b bad em eb t =
+      record {
+        wrote = slots-skip (good_in s) max_outbox W j a.slots a.lens b.slots b.lens (ap (λ (o : Outgoing). o.slots) eb) (ap (λ (o : Outgoing). o.lens) eb) bad t.wrote;
+        moved = states-skip s A j l m em bad t.moved;
+        waiting = states-past s (state_for step s) j (n_in s) l m em t.waiting;
+      }

@@ -8,7 +8,7 @@ use native.Mathlib.Nat.{mul-zero, zero-add}
 use native.Mathlib.Omega.{arith}
 use borrow.Author.Tests.{eq-eqb, ne_eqb}
 use lib.Dec.{eqb}
-use lib.ListN.{length, get_or, take, drop, replicate, length-take, length-drop, length-replicate, get_or-replicate}
+use lib.ListN.{length, get_or, take, drop, replicate, length-take, length-drop, get_or-replicate}
 use lib.Seq.{length-take-le}
 use Rattle.limits.specs.Limits.{max_parties}
 use Rattle.sha256.specs.Sha256.{sha256}
@@ -17,10 +17,10 @@ use Rattle.buffer.proofs.Entries.{bodies-more}
 use Rattle.buffer.proofs.Rows.{row_inside}
 use Rattle.party.specs.declared.Party.{Party}
 use Rattle.agreement.specs.Calls.{lengths}
-use Rattle.plan.specs.Layout.{n_in, good_in}
-use Rattle.exchange.specs.Exchange.{Slots}
+use Rattle.plan.specs.Layout.{n_in}
 use Rattle.session.specs.Session.{is_good, max_outbox, wrote_in, agreed_bit, step3, step4, sent_later, sent_of, sent_from}
-use Rattle.session.specs.Private.{States, Relayed, Sizes}
+use Rattle.session.specs.Private.{States, Wrote, Relayed, Sizes}
+use Rattle.session.specs.declared.Outgoing.{Outgoing}
 
 -- the bytes of n packets: of none, and of a list with no packet left
 none_left : (n : ℕ) (s : List ℕ) → length s < 2 → lengths (bodies n s) ≡ 0
@@ -95,35 +95,29 @@ module _ (H : List ℕ → List ℕ) (s : List ℕ) where
     sent-bad g = rw (e, g) (zero-add (sent_from H s j (p + 1)))
 
 -- the lengths of the relays: none on bit 0, and else those of what stands in the slots
-module _ (s : List ℕ) (few : n_in s ≤ max_parties) (relays sizes : List ℕ) (long : length relays ≡ max_parties * max_outbox) (l : List Party) where
-  pub relays-none : agreed_bit sha256 s ≡ 0 → sizes ≡ replicate max_parties 0 → Relayed s relays sizes l × Sizes s sizes
-  relays-none h e =
-      let k : length sizes ≡ max_parties = ap length e ∙ length-replicate {A = ℕ} max_parties 0 in (
-        record { relays-long = long; sizes-long = k; slots = λ w. absurd (w h); states = λ w. absurd (w h) },
-        record {
-          sizes-long = k;
-          lengths-are = λ j i g.
-              let z : get_or sizes j 0 ≡ 0 = ap (λ (x : List ℕ). get_or x j 0) e ∙ get_or-replicate max_parties j 0 0 (omega arith) in (
-                omega arith,
-                z ∙ ap (λ (b : Bool). cond b 0 (length (wrote_in (step4 sha256 s (j + 1)))))
-                    (sym (eq-eqb (agreed_bit sha256 s) 0 h)),
-              );
-        },
-      )
+module _ (s : List ℕ) (few : n_in s ≤ max_parties) (relays : Outgoing) (l : List Party) where
+  pub relays-none : agreed_bit sha256 s ≡ 0 → relays.lens ≡ replicate max_parties 0 → Relayed s relays l × Sizes s relays
+  relays-none h e = (
+    record { slots = λ w. absurd (w h); states = λ w. absurd (w h) },
+    λ j i g.
+        let z : get_or relays.lens j 0 ≡ 0 = ap (λ (x : List ℕ). get_or x j 0) e ∙ get_or-replicate max_parties j 0 0 (omega arith) in (
+          omega arith,
+          z ∙ ap (λ (b : Bool). cond b 0 (length (wrote_in (step4 sha256 s (j + 1)))))
+              (sym (eq-eqb (agreed_bit sha256 s) 0 h)),
+        ),
+  )
 
-  pub relays-all : (agreed_bit sha256 s ≡ 0 → ⊥) → length sizes ≡ max_parties → States s (λ p. (step4 sha256 s p).state) 0 (n_in s) l
-      → Slots (good_in s) max_outbox (λ p. wrote_in (step4 sha256 s p)) (n_in s) relays sizes → Relayed s relays sizes l × Sizes s sizes
-  relays-all h k st all = (
-    record { relays-long = long; sizes-long = k; slots = λ w. all; states = λ w. st },
-    record {
-      sizes-long = k;
-      lengths-are = λ j i g.
-          let w = all j i g in
-          let z = length-take-le (get_or sizes j 0) (drop (j * max_outbox) relays)
-          (omega (arith, w.0, length-drop (j * max_outbox) relays, row_inside max_parties j max_outbox (omega arith), long)) in (
-            w.0,
-            sym z ∙ ap length w.1 ∙ ap (λ (b : Bool). cond b 0 (length (wrote_in (step4 sha256 s (j + 1)))))
-                (sym (ne_eqb (agreed_bit sha256 s) 0 h)),
-          );
-    },
+  pub relays-all : (agreed_bit sha256 s ≡ 0 → ⊥) → length relays.slots ≡ max_parties * max_outbox
+      → States s (λ p. (step4 sha256 s p).state) 0 (n_in s) l
+      → Wrote s (λ p. wrote_in (step4 sha256 s p)) relays → Relayed s relays l × Sizes s relays
+  relays-all h long st all = (
+    record { slots = λ w. all; states = λ w. st },
+    λ j i g.
+        let w = all j i g in
+        let z = length-take-le (get_or relays.lens j 0) (drop (j * max_outbox) relays.slots)
+        (omega (arith, w.0, length-drop (j * max_outbox) relays.slots, row_inside max_parties j max_outbox (omega arith), long)) in (
+          w.0,
+          sym z ∙ ap length w.1 ∙ ap (λ (b : Bool). cond b 0 (length (wrote_in (step4 sha256 s (j + 1)))))
+              (sym (ne_eqb (agreed_bit sha256 s) 0 h)),
+        ),
   )

@@ -7,31 +7,30 @@ use Prim.Native.Nat.{ℕ, zero, suc, ◌+◌, ◌-◌, ◌*◌, ◌/◌, ◌%◌
 use native.Mathlib.Decide.{ℕ_discrete}
 use native.Mathlib.Omega.{arith}
 use borrow.Author.Tests.{le-ltb, ltb-false, eq-eqb, ne_eqb}
-use types.Run.{OneOf, miss}
-use denote.Enum.Declared.{tag_of}
 use lib.Dec.{ltb, eqb}
 use lib.ListN.{length, take, drop, replicate, length-append, length-drop, length-replicate}
 use lib.Seq.{length-take-le, take_at}
+use Rattle.std.specs.Prelude.{Option, Some, None, IfSome, unwrap_or}
 use Rattle.limits.specs.Limits.{max_message}
 use Rattle.buffer.specs.Splice.{spliced}
 use Rattle.buffer.specs.Given.{Given, gave, value_of, written}
-use Rattle.buffer.specs.declared.Written.{Written}
-use Rattle.buffer.specs.declared.Written.TheVariants.{Refused, Done}
+use Rattle.buffer.specs.Given.{Written}
+use Rattle.buffer.specs.Given.{Refused, Done}
 use Rattle.buffer.proofs.Given.{written-done}
-use Rattle.party.specs.State.{Result, nothing, settled}
+use Rattle.party.specs.State.{Result, nothing, settled, result_from}
 use Rattle.party.specs.Steps.{result_given, refused, ending, relays_cause, result_of, faulty_of, take_relays_of}
 use Rattle.party.specs.declared.Party.{Party}
-use Rattle.party.specs.declared.Answer.{Answer}
-use Rattle.party.specs.declared.Answer.TheVariants as answer
-use Rattle.party.specs.contracts.Answer.{the_type as answer-type}
+use Rattle.party.specs.Answer.{Answer}
+use Rattle.party.specs.Answer as answer
 use Rattle.buffer.proofs.Parts.{tail-spliced, part-rest}
+use Rattle.exchange.proofs.Sending.{given-done}
 use Rattle.plan.specs.Layout.{n_in}
 use Rattle.plan.specs.Plan.{plan_cause, plan_of}
 use Rattle.report.specs.Output.{digits, decimal, shown, line, sent_line, line_of, sent_line_of}
 use Rattle.report.proofs.Hexes.{length-hex}
 use Rattle.session.specs.Session.{or_nothing, line_with, is_good, agreed_bit, step4, second_inbox, step5, ends_with, lines_from, sent_from}
 use Rattle.session.specs.Session.{unlawful, session_cause, output, rehearse_of}
-use Rattle.session.specs.Private.{max_line, message_length}
+use Rattle.session.specs.Private.{max_line, message_in, message_length}
 
 -- the length of a line
 digits-short : (k x : ℕ) → length (digits k x) ≤ k
@@ -70,6 +69,23 @@ line-written p some m out h = rw (le-ltb max_message (length m) h)
 pub sent-written : (x : ℕ) (out : List ℕ) → sent_line_of x out ≡ written (sent_line x) out
 unfolding sent_line_of
 sent-written x out = refl
+
+-- the answer for a line, where there is room for it
+pub line-given : (p : ℕ) (some : Bool) (m out : List ℕ) (r : Written) (o : List ℕ) → length m ≤ max_message → max_line ≤ length out
+    → gave r o ≡ line_of p some m out
+    → (value_of r ≡ length (line p some m)) × (value_of r ≤ max_line) × (o ≡ spliced out 0 (line p some m))
+line-given p some m out r o short long e =
+    let s = line-short p some m short in
+    let g = given-done (line p some m) out r o (omega (arith, s)) (e ∙ line-written p some m out short) in
+    (g.0, omega (arith, g.0, s), g.1)
+
+-- what is written at the start of a part that reaches to the end stands in the whole
+pub part-written : (o w : List ℕ) (at k : ℕ) (x : List ℕ) → k ≡ length o - at → x ≡ spliced (take k (drop at o)) 0 w
+    → take at o ++ (x ++ drop k (drop at o)) ≡ spliced o at w
+part-written o w at k x e h =
+    ap (λ (z : List ℕ). take at o ++ (z ++ drop k (drop at o)))
+    (h ∙ ap (λ (z : List ℕ). spliced z 0 w) (ap (λ (i : ℕ). take i (drop at o)) e ∙ part-rest o at))
+    ∙ tail-spliced o w at k e
 
 -- bytes given at the start of what follows a place stand at that place
 pub given-at : (o w : List ℕ) (at : ℕ) (r : Written) (x : List ℕ) → at + length w ≤ length o
@@ -151,14 +167,18 @@ module _ (H : List ℕ → List ℕ) where
         length-replicate {A = ℕ} max_message 0,
       )
 
--- an answer without a message
-pub no-message : (r : Answer) (o : List ℕ) → OneOf (0 ∷ 1 ∷ 2 ∷ 3 ∷ 4 ∷ []) (tag_of answer-type r) → or_nothing (result_given r o) ≡ nothing
-no-message (answer.Refused k) o h = refl
-no-message (answer.Short l) o h = refl
-no-message (answer.Happy b) o h = refl
-no-message (answer.Sent l) o h = refl
-no-message (answer.Nothing f) o h = refl
-no-message (answer.Message l f) o h = absurd (miss (0 ∷ 1 ∷ 2 ∷ 3 ∷ 4 ∷ []) 5 tt h)
+-- what a party ends with, by the length of its message
+pub some-within : (o : Option ℕ) (k : ℕ) → unwrap_or o 0 ≤ k → IfSome o (λ l. l ≤ k)
+some-within None k h = tt
+some-within (Some l) k h = h
+
+pub given-from : (a : Answer) (o : List ℕ) → result_from (message_in a) o ≡ or_nothing (result_given a o)
+given-from (answer.Refused k) o = refl
+given-from (answer.Short l) o = refl
+given-from (answer.Happy b) o = refl
+given-from (answer.Sent l) o = refl
+given-from (answer.Nothing f) o = refl
+given-from (answer.Message l f) o = refl
 
 -- the outcomes of a rehearsal
 pub cause-is : (s : List ℕ) → (plan_of s).cause ≡ plan_cause s

@@ -1,22 +1,19 @@
 -- How much a step wrote, and what, by its answer. By the tests of the definitions. Assumes nothing.
 use mathlib.Core.Path.{◌≡◌, refl}
 use mathlib.Core.Bool.{Bool, true, false, cond, not}
-use mathlib.Core.List.{List, [], ◌∷◌}
-use Prim.Native.Nat.{ℕ, zero, suc, ◌≤◌}
+use mathlib.Core.List.{List}
+use Prim.Native.Nat.{ℕ, ◌≤◌}
 use native.Mathlib.Omega.{arith}
 use borrow.Author.Tests.{ltb-false}
-use types.Run.{OneOf, miss}
-use denote.Enum.Declared.{tag_of}
 use lib.Dec.{ltb, eqb}
 use lib.ListN.{length, replicate, length-take, length-replicate}
 use Rattle.sha256.specs.Sha256.{sha256}
 use Rattle.party.specs.Steps.{Stepped, writes, refused, bit_cause, outbox_of, agree_bit_of, inbox_cause, relay_of, take_shares_of}
-use Rattle.party.specs.declared.Answer.{Answer}
-use Rattle.party.specs.declared.Answer.TheVariants as answer
 use Rattle.party.specs.declared.Party.{Party}
-use Rattle.party.specs.contracts.Answer.{the_type as answer-type}
 use Rattle.session.specs.Session.{max_outbox, sent_length, wrote_in, step2, agreed_bit, step3, first_inbox, step4}
 use Rattle.session.specs.Private.{step_for}
+use Rattle.session.specs.declared.Step.{Step}
+use Rattle.session.specs.declared.Step.TheVariants.{Outbox, Relay}
 
 -- what came of writing: no more than the buffer holds was written, and where it was accepted as much as the value says
 pub record Counted (out : List ℕ) (r : Stepped) : Type 0 where
@@ -52,21 +49,11 @@ module _ (H : List ℕ → List ℕ) where
     unfolding step4
     step4-counted = shares-counted (step3 H s q).state (first_inbox H s q) (replicate max_outbox 0)
 
--- the step in which a party writes for an exchange, 0 or 1
-pub step_room : (e : ℕ) (s : List ℕ) (q : ℕ) → sent_length (step_for e s q).answer ≤ max_outbox
-unfolding step_for
-step_room zero s q = omega (arith, (step3-counted sha256 s q).room, length-replicate {A = ℕ} max_outbox 0)
-step_room (suc e) s q = omega (arith, (step4-counted sha256 s q).room, length-replicate {A = ℕ} max_outbox 0)
+-- the step in which a party writes for an exchange
+pub step_room : (step : Step) (s : List ℕ) (q : ℕ) → sent_length (step_for step s q).answer ≤ max_outbox
+step_room Outbox s q = omega (arith, (step3-counted sha256 s q).room, length-replicate {A = ℕ} max_outbox 0)
+step_room (Relay boxes) s q = omega (arith, (step4-counted sha256 s q).room, length-replicate {A = ℕ} max_outbox 0)
 
 -- what it wrote
 pub wrote-short : (r : Stepped) (m : ℕ) → sent_length r.answer ≤ m → length (wrote_in r) ≤ m
 wrote-short r m h = omega (arith, length-take (sent_length r.answer) r.buffer)
-
--- an answer that says nothing of it
-pub sent-none : (a : Answer) → OneOf (0 ∷ 1 ∷ 2 ∷ 4 ∷ 5 ∷ []) (tag_of answer-type a) → sent_length a ≡ 0
-sent-none (answer.Refused k) h = refl
-sent-none (answer.Short k) h = refl
-sent-none (answer.Happy b) h = refl
-sent-none (answer.Sent k) h = absurd (miss (0 ∷ 1 ∷ 2 ∷ 4 ∷ 5 ∷ []) 3 tt h)
-sent-none (answer.Nothing f) h = refl
-sent-none (answer.Message l f) h = refl

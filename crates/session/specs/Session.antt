@@ -6,15 +6,15 @@ use Rattle.std.proofs.Math.Option.{Option, none, some}
 use Rattle.limits.specs.Limits.{max_message}
 use Rattle.buffer.specs.Entries.{bodies}
 use Rattle.buffer.specs.Given.{Given, gave, written}
-use Rattle.buffer.specs.declared.Written.TheVariants.{Refused}
+use Rattle.buffer.specs.Given.{Refused}
 use Rattle.merkle.specs.Shares.{same}
 use Rattle.party.specs.State.{Result, nothing, settled}
 use Rattle.packet.specs.Message.{max_message_packet}
 use Rattle.party.specs.Steps.{open_of, Stepped, agree_root_of, agree_bit_of, take_shares_of, take_relays_of}
 use Rattle.party.specs.Sender.{message_by, Begun, open_by_sender_of}
-use Rattle.party.specs.declared.Answer.{Answer}
-use Rattle.party.specs.declared.Answer.TheVariants.{Refused, Short, Happy, Sent, Nothing, Message}
-use Rattle.party.specs.declared.Opened.{Opened}
+use Rattle.party.specs.Answer.{Answer}
+use Rattle.party.specs.Answer.{Refused, Short, Happy, Sent, Nothing, Message}
+use Rattle.party.specs.Answer.{Opened}
 pub use Rattle.commitment.specs.Rooms.{max_outbox}
 use Rattle.agreement.specs.Calls.{Call, agree_root, agree_bit, take_shares, take_relays, lengths}
 use Rattle.agreement.specs.Agreement.{Good}

@@ -5,9 +5,7 @@ use Rattle.buffer.specs.Entries.{bodies}
 use Rattle.agreement.specs.Calls.{lengths}
 use Rattle.session.proofs.packet_bytes.Given as goal
 
-abbrev pub invariant-loop-p : goal.invariant-loop-p
-invariant-loop-p l =
-    (l.at ≤ length l.outbox) × (l.p ≤ l.n) × (l.sum ≤ l.at) × (lengths (bodies l.n l.outbox) ≡ l.sum + lengths (bodies (l.n - l.p) (drop l.at l.outbox)))
-
-abbrev pub decreases-loop-p : goal.decreases-loop-p
-decreases-loop-p l = l.n - l.p
+abbrev pub invariant-loop-k : goal.invariant-loop-k
+invariant-loop-k l =
+    (l.at ≤ length l.outbox) × (l.sum ≤ l.at)
+    × (lengths (bodies l.n l.outbox) ≡ l.sum + lengths (bodies (l.n - l._k) (drop l.at l.outbox)))

@@ -1,17 +1,31 @@
 -- `session::print` meets its contract: a refused plan's line, or what the rehearsal wrote. Assumes nothing.
-use mathlib.Core.Path.{◌∙◌}
-use borrow.Enum.Refused.{opened}
+use Rattle.std.proofs.Common.{ℕ, Result, Err, sym, ap, ◌∙◌}
 use Rattle.sha256.specs.Sha256.{sha256}
-use Rattle.session.proofs.Shown.{print-refused, print-other}
+use Rattle.cause.specs.declared.Refusal.{Refusal}
+use Rattle.buffer.specs.Given.{said, gave}
+use Rattle.report.specs.Output.{refused_line_of}
+use Rattle.session.proofs.Shown.{print-refused, print-done, print-short}
 use Rattle.session.proofs.print.Goals as goal
 
-pub returns-in_default : goal.returns-in_default
-returns-in_default c =
+pub returns-in-Ok : goal.returns-in-Ok
+returns-in-Ok c =
     let a = c.args in
-    print-other sha256 a.bytes.now a.out.now c.rehearse-answer.new.out c.rehearse-answer.result c.rehearse-answer.ensures (opened c.in_default.in_default-own.keys2)
+    let o = c.rehearse.new.out in
+    print-done sha256 a.bytes.now a.out.now o c.in-Ok.len
+    (ap (λ (r : Result ℕ Refusal). gave (said r) o) (sym c.in-Ok.is) ∙ c.rehearse.ensures)
 
-pub returns : goal.returns
-returns c =
+pub returns-in-Err-Because : goal.returns-in-Err-Because
+returns-in-Err-Because c =
     let a = c.args in
-    c.refused_line.ensures
-    ∙ print-refused sha256 a.bytes.now a.out.now c.rehearse-answer.new.out c.rehearse-answer.result c.rehearse-answer.ensures _ c.in-Refused.is
+    let o = c.rehearse.new.out in
+    c.refused_line.ensures ∙ ap (λ (k : ℕ). refused_line_of k o) (c.from-in-Err-Because.ensures ∙ c.from.ensures)
+    ∙ print-refused sha256 a.bytes.now a.out.now o (said c.rehearse.result) c.rehearse.ensures _
+    (ap said c.in-Err-Because.is ∙ ap (λ (x : Refusal). said (Err x)) c.in-Err-Because.field-0-is)
+
+pub returns-in-Err-Short : goal.returns-in-Err-Short
+returns-in-Err-Short c =
+    let a = c.args in
+    let o = c.rehearse.new.out in
+    print-short sha256 a.bytes.now a.out.now o c.in-Err-Short.len
+    (ap (λ (x : Refusal). gave (said (Err x)) o) (sym c.in-Err-Short.field-0-is)
+    ∙ ap (λ (r : Result ℕ Refusal). gave (said r) o) (sym c.in-Err-Short.is) ∙ c.rehearse.ensures)
