@@ -7,12 +7,10 @@
 // No contract can say what is read or written.
 #![tactic(auto)]
 
-ghost use Rattle.std.specs.Prelude.{◌≡◌, ◌<◌, ◌≤◌, true, ◌&&◌, length, drop, replicate, ◌==◌};
+ghost use Rattle.std.specs.Prelude.{◌≡◌, ◌<◌, ◌≤◌, ◌&&◌, length, drop, ◌==◌, IfOk, IfErr, IfSome};
 ghost use Rattle.stream.specs.Number.{spelled};
-ghost use Rattle.stream.specs.Parts.{part_of, start_of, Told};
+ghost use Rattle.stream.specs.Parts.{told, part_of, start_of, Told};
 ghost use Rattle.stream.specs.Tally.{◌⊞◌, counted_of};
-
-use std::num::wrapping_add_u64;
 
 // The descriptors of standard input and output.
 const IN: i32 = 0;
@@ -22,11 +20,8 @@ const OUT: i32 = 1;
 // The loop over cases needs a bound; a stream with more of them counts as broken.
 pub const MAX_CASES: usize = 1_000_000;
 
-// The numbers below this have room for one more byte behind them.
-const ROOMY: usize = 1 << 56;
-
 // The cases of one kind: how many agreed and failed, and the running number of the first that failed.
-#[derive(Clone, Copy)]
+#[derive(Clone, Copy, Default)]
 pub struct Tally {
     pub agreed: u64,
     pub failed: u64,
@@ -34,134 +29,103 @@ pub struct Tally {
 }
 
 impl Tally {
-    pub fn none() -> Tally
-        ensures { result ≡ record { agreed = 0; failed = 0; first = 0 } }
-    {
-        Tally {
-            agreed: 0,
-            failed: 0,
-            first: 0,
-        }
-    }
-
     // With one more case. Before the first that failed all agreed, so its number follows theirs.
+    #[tactic(auto, unfolding(crate::specs::Tally::counted_of))]
     pub fn counted(self, good: bool) -> Tally
         ensures { result ≡ counted_of self good }
     {
         let mut tally = self;
         if good {
-            tally.agreed = wrapping_add_u64(self.agreed, 1);
+            tally.agreed = self.agreed.wrapping_add(1);
             return tally;
         }
-        tally.failed = wrapping_add_u64(self.failed, 1);
+        tally.failed = self.failed.wrapping_add(1);
         if self.first == 0 {
-            tally.first = wrapping_add_u64(self.agreed, 1);
+            tally.first = self.agreed.wrapping_add(1);
         }
         tally
     }
 }
 
-// The kind of the next case. 0: there is none, and `whole` tells whether the stream ended there as it should.
-#[derive(Clone, Copy)]
-pub struct Next {
-    pub kind: usize,
-    pub whole: bool,
-}
-
-// Reads the byte that a case starts with, or that the stream ends with.
-pub fn read_kind(kinds: usize) -> Next
-    ensures { (result.kind ≤ kinds) × (0 < result.kind → result.whole ≡ true) }
-{
-    let mut byte = [0u8; 1];
-    if !read(&mut byte).whole {
-        return Next {
-            kind: 0,
-            whole: false,
-        };
-    }
-    let kind = wide(byte[0]);
-    if kind == 0 {
-        let whole = at_end();
-        return Next { kind: 0, whole };
-    }
-    if kinds < kind {
-        return Next {
-            kind: 0,
-            whole: false,
-        };
-    }
-    Next { kind, whole: true }
-}
-
-// Whether the input has no more bytes.
-fn at_end() -> bool {
-    let mut byte = [0u8; 1];
-    io::read_full(IN, &mut byte) == 0
-}
-
-// A part of a case, at the start of a buffer: its length, how many of its bytes came, and whether the stream and the buffer had them all.
-#[derive(Clone, Copy)]
-pub struct Part {
+// Where a stream is not as it should be: of a part of `len` bytes only `got` came. Both are 0 where it has no kind that is there, no length
+// of a part, or one that the buffer has not as many bytes for.
+#[derive(Clone, Copy, Debug, Default, PartialEq, Eq)]
+pub struct Broken {
     pub len: usize,
     pub got: usize,
-    pub whole: bool,
 }
 
-// Reads a part, and leaves the bytes of the buffer behind it.
-pub fn read_part(buffer: &mut [u8]) -> Part
-    ensures { (result.len ≤ length buffer.new) × (length buffer.new ≡ length buffer.old)
-        × (drop result.len buffer.new ≡ drop result.len buffer.old) × Told result }
+// Reads the byte that a case starts with, which is its kind, or that the stream ends with.
+pub fn read_kind(kinds: usize) -> Result<Option<usize>, Broken>
+    ensures { IfOk result (λ next. IfSome next (λ kind. (0 < kind) × (kind ≤ kinds))) }
 {
-    let mut front = [0u8; 4];
-    if !read(&mut front).whole {
-        return Part {
-            len: 0,
-            got: 0,
-            whole: false,
-        };
+    let [byte] = read_bytes::<1>()?;
+    let kind = usize::from(byte);
+    if kind == 0 {
+        return read_end();
     }
-    let len = number(&front);
-    read_start(buffer, len)
+    if kinds < kind {
+        return Err(Broken::default());
+    }
+    Ok(Some(kind))
+}
+
+// The end of a stream has nothing behind it.
+fn read_end() -> Result<Option<usize>, Broken>
+    ensures { IfOk result (λ next. next ≡ None) }
+{
+    match read_bytes::<1>() {
+        Ok(_) => Err(Broken::default()),
+        Err(_) => Ok(None),
+    }
+}
+
+// The next N bytes.
+fn read_bytes<const N: usize>() -> Result<[u8; N], Broken>
+    ensures { IfErr result (λ b. b ≡ record { len = 0; got = 0 }) }
+{
+    let mut bytes = [0u8; N];
+    if io::read_full(IN, &mut bytes) == N {
+        Ok(bytes)
+    } else {
+        Err(Broken::default())
+    }
+}
+
+// Reads a part to the start of a buffer, and gives its length. The bytes of the buffer behind it are left.
+#[tactic(auto, using(crate::proofs::Parts::start_told))]
+pub fn read_part(buffer: &mut [u8]) -> Result<usize, Broken>
+    ensures { ((told result).len ≤ length buffer.new) × (length buffer.new ≡ length buffer.old)
+        × (drop (told result).len buffer.new ≡ drop (told result).len buffer.old) × Told (told result) }
+{
+    let front = read_bytes::<4>()?;
+    read_start(buffer, number(&front))
 }
 
 // Fills the first `len` bytes of a buffer from the stream, and leaves the others. A buffer that has not as many is left whole.
-fn read_start(buffer: &mut [u8], len: usize) -> Part
+#[tactic(auto, using(crate::proofs::Parts::start_over))]
+fn read_start(buffer: &mut [u8], len: usize) -> Result<usize, Broken>
     ensures { (length buffer.new ≡ length buffer.old)
-        × (drop result.len buffer.new ≡ drop result.len buffer.old)
-        × (result.got ≤ result.len) × (result ≡ start_of (length buffer.old) len result.got) }
+        × (drop (told result).len buffer.new ≡ drop (told result).len buffer.old)
+        × ((told result).got ≤ (told result).len) × (told result ≡ start_of (length buffer.old) len (told result).got) }
 {
     if buffer.len() < len {
-        return Part {
-            len: 0,
-            got: 0,
-            whole: false,
-        };
+        return Err(Broken::default());
     }
     read(&mut buffer[..len])
 }
 
 // Fills a buffer from the stream.
-fn read(buffer: &mut [u8]) -> Part
+fn read(buffer: &mut [u8]) -> Result<usize, Broken>
     ensures { (length buffer.new ≡ length buffer.old)
-        × (result.got ≤ result.len) × (result ≡ part_of (length buffer.old) result.got) }
+        × ((told result).got ≤ (told result).len) × (told result ≡ part_of (length buffer.old) (told result).got) }
 {
     let len = buffer.len();
     let got = io::read_full(IN, buffer);
-    Part {
-        len,
-        got,
-        whole: got == len,
-    }
-}
-
-// Sets each byte of a buffer to a value.
-pub fn fill(buffer: &mut [u8], value: u8)
-    ensures { buffer.new ≡ replicate (length buffer.old) value }
-{
-    let mut i = 0;
-    while i < buffer.len() {
-        buffer[i] = value;
-        i += 1;
+    if got == len {
+        Ok(got)
+    } else {
+        Err(Broken { len, got })
     }
 }
 
@@ -169,20 +133,10 @@ pub fn fill(buffer: &mut [u8], value: u8)
 pub fn number(bytes: &[u8]) -> usize
     ensures { result ≡ spelled bytes.now }
 {
-    let mut value: usize = 0;
-    let mut i: usize = 0;
-    while i < bytes.len() {
-        let byte = wide(bytes[i]);
-        value = value % ROOMY * 256 + byte;
-        i += 1;
-    }
-    value
-}
-
-pub fn wide(x: u8) -> usize
-    ensures { (result ≡ x) × (result < 256) }
-{
-    x as usize
+    bytes.iter().fold(
+        0,
+        |value: usize, byte| value.wrapping_mul(256).wrapping_add(usize::from(*byte)),
+    )
 }
 
 // Prints the cases of a kind, if there were any. Gives a number of failed cases with those of this kind.
@@ -192,7 +146,7 @@ pub fn print_tally(name: &[u8], tally: Tally, failed: u64) -> u64
     if tally.agreed != 0 || tally.failed != 0 {
         print_counts(name, tally);
     }
-    wrapping_add_u64(failed, tally.failed)
+    failed.wrapping_add(tally.failed)
 }
 
 // Prints how many cases of a kind agreed and, if any failed, which was the first.

@@ -1,81 +1,90 @@
 // What the modules of cases share: numbers in what is handed in, and the answers of calls in what comes of it.
-use buffer::Written;
+ghost use Rattle.std.specs.Prelude.{◌≤◌, IfSome};
 
-// More bytes than any buffer has, so that nothing agrees with it: what is handed in is not as its kind says, or functions that have to agree do not.
-pub(crate) const MALFORMED: usize = 1 << 63;
+use cause::{Cause, Refusal};
 
 // The length of an answer in bytes: its code (1) and its value (8).
 pub(crate) const ANSWER: usize = 9;
 
-// An answer. The codes: 0 done, with the bytes written or another result; 1 nothing; 2 short, with the length needed; 3 refused, with
-// the cause.
-#[derive(Clone, Copy)]
-pub(crate) struct Answer {
-    pub code: u8,
-    pub value: usize,
+// What a call answered.
+#[derive(Clone, Copy, Debug, PartialEq, Eq)]
+pub(crate) enum Answer {
+    // With the bytes written or another result.
+    Done(usize),
+    Nothing,
+    // With the length needed.
+    Short(usize),
+    Refused(Cause),
 }
 
-pub(crate) fn done(value: usize) -> Answer {
-    Answer { code: 0, value }
-}
+impl Answer {
+    // The codes: 0 done, 1 nothing, 2 short, 3 refused, whose value is document 01's number of the cause.
+    pub(crate) fn bytes(self) -> [u8; ANSWER] {
+        let (code, value) = match self {
+            Answer::Done(value) => (0, value),
+            Answer::Nothing => (1, 0),
+            Answer::Short(needed) => (2, needed),
+            Answer::Refused(cause) => (3, usize::from(u8::from(cause))),
+        };
+        let mut bytes = [code; ANSWER];
+        buffer::put(&mut bytes, 1, &value.to_be_bytes());
+        bytes
+    }
 
-pub(crate) fn short(needed: usize) -> Answer {
-    Answer {
-        code: 2,
-        value: needed,
+    // Writes it from a place on.
+    pub(crate) fn put(self, out: &mut [u8], at: usize) {
+        buffer::put(out, at, &self.bytes());
     }
 }
 
-pub(crate) fn refused(cause: u8) -> Answer {
-    Answer {
-        code: 3,
-        value: stream::wide(cause),
+impl From<Cause> for Answer {
+    fn from(cause: Cause) -> Answer {
+        Answer::Refused(cause)
     }
 }
 
-pub(crate) fn written(got: Written) -> Answer {
-    match got {
-        Written::Refused(cause) => refused(cause),
-        Written::Short(needed) => short(needed),
-        Written::Done(len) => done(len),
+impl From<Refusal> for Answer {
+    fn from(refusal: Refusal) -> Answer {
+        match refusal {
+            Refusal::Because(cause) => Answer::Refused(cause),
+            Refusal::Short(needed) => Answer::Short(needed),
+        }
     }
 }
 
-// Writes an answer from a place on.
-pub(crate) fn put(out: &mut [u8], at: usize, answer: Answer) {
-    let mut bytes = [answer.code; ANSWER];
-    buffer::put(&mut bytes, 1, &spelled(answer.value));
-    buffer::put(out, at, &bytes);
-}
-
-// Writes one byte, with which its length comes back.
-pub(crate) fn put_byte(out: &mut [u8], value: u8) -> usize {
-    let bytes = [value; 1];
-    buffer::put(out, 0, &bytes);
-    1
-}
-
-// A number in eight bytes.
-pub(crate) fn spelled(number: usize) -> [u8; 8] {
-    let mut bytes = [0u8; 8];
-    let mut rest = number;
-    let mut i: usize = 8;
-    while i > 0 {
-        i -= 1;
-        bytes[i] = (rest % 256) as u8;
-        rest = rest / 256;
+impl<T: Into<usize>, E: Into<Answer>> From<Result<T, E>> for Answer {
+    fn from(got: Result<T, E>) -> Answer {
+        match got {
+            Ok(value) => Answer::Done(value.into()),
+            Err(why) => why.into(),
+        }
     }
-    bytes
+}
+
+// The byte at a place; 0 past the end.
+pub(crate) fn byte_at(bytes: &[u8], at: usize) -> u8 {
+    match bytes.get(at) {
+        Some(byte) => *byte,
+        None => 0,
+    }
 }
 
 // The number in so many bytes from a place on; 0 where there are fewer.
 pub(crate) fn number_at(bytes: &[u8], at: usize, width: usize) -> usize {
-    if bytes.len() < at {
-        return 0;
+    match bytes.get(at..).and_then(|rest| rest.get(..width)) {
+        Some(part) => stream::number(part),
+        None => 0,
     }
-    if bytes.len() - at < width {
-        return 0;
-    }
-    let end = at + width;
-    stream::number(&bytes[at..end])
+}
+
+// The length of a buffer lent, which a kind bounds.
+pub(crate) fn room(len: usize, most: usize) -> Option<usize>
+    ensures { IfSome result (λ room. room ≤ most) }
+{
+    (len <= most).then_some(len)
+}
+
+// SHA-256 of a string; zeros where it is longer than any that is hashed.
+pub(crate) fn digest(string: &[u8]) -> [u8; 32] {
+    sha256::hash(string).unwrap_or([0; 32])
 }

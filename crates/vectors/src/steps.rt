@@ -1,28 +1,27 @@
 // One party, call after call.
 //
 // The party and an inbox are carried from case to case, each call taking the state that the last one gave back.
-// 1, openings: the session's number (4 bytes), n, t and own (8 each), the message. The verdict, and the root (32, zero if refused).
-// 2, openings by a sender: the session's number (4), n, t, own and the sender's number (8 each), the length of the buffer lent (2), the sender's
+// Openings: the session's number (4 bytes), n, t and own (8 each), the message. The verdict, and the root (32, zero if refused).
+// Openings by a sender: the session's number (4), n, t, own and the sender's number (8 each), the length of the buffer lent (2), the sender's
 // own message or the packet that came. The verdict, the root as before, and how many bytes were written, or are needed with cause 9 (8, zero
 // with other causes).
-// 3, agreed roots, step 2: the root. The verdict.
-// 4, agreed bits, step 3: the bit (2), the length of the buffer lent (2). The verdict.
-// 5, first inboxes, step 4, and 6, second inboxes, step 5: how many bytes of the inbox are handed in (2), the length of the buffer lent
+// Agreed roots, step 2: the root. The verdict.
+// Agreed bits, step 3: the bit (2), the length of the buffer lent (2). The verdict.
+// First inboxes, step 4, and second inboxes, step 5: how many bytes of the inbox are handed in (2), the length of the buffer lent
 // (2). The verdict; for step 5 also the map given with the result (4, zero where none is given).
-// 7, numbers changed: where (1: 0 n, 1 t, 2 own, 3 len, 4 held, 5 the session's, 6 the map of the parties seen to cheat), the number (8; of the
+// Numbers changed: where (1: 0 n, 1 t, 2 own, 3 len, 4 held, 5 the session's, 6 the map of the parties seen to cheat), the number (8; of the
 // last two the low four bytes count). Nothing.
-// 8, stages changed: which (1: 0 root, 1 bit, 2 first, 3 second, 4 ended with nothing, 5 with a message), that message's length (8).
+// Stages changed: which (1: 0 root, 1 bit, 2 first, 3 second, 4 ended with nothing, 5 with a message), that message's length (8).
 // Nothing.
-// 9, bytes changed: where (1: 0 message, 1 root, 2 share, 3 the inbox), from which place (2), the bytes. Nothing.
+// Bytes changed: where (1: 0 message, 1 root, 2 share, 3 the inbox), from which place (2), the bytes. Nothing.
 // The verdict: the answer, and SHA-256 (32) of the state given back with SHA-256 of the buffer behind it, which is empty where none is
-// lent. The state for it: the session's number (4), the map (4), n, t, own (8 each), the stage as in 8 (1) with its message's length or 0
+// lent. The state for it: the session's number (4), the map (4), n, t, own (8 each), the stage as in a change (1) with its message's length or 0
 // (8), len, held (8 each), the root, the message's MAX_MESSAGE bytes and the share's MAX_SHARE.
-use crate::answer::{ANSWER, Answer, MALFORMED, number_at, spelled};
-use crate::{KINDS, answer};
+use crate::answer::{ANSWER, Answer, byte_at, digest, number_at, room};
+use cause::Refusal;
 use commitment::{MAX_OUTBOX, Seat};
 use limits::{MAX_MESSAGE, MAX_SHARE};
-use party::{Opened, OpenedBySender, Party, Reply, Stage};
-use stream::Tally;
+use party::{Begun, Opened, OpenedBySender, Party, Reply, Stage};
 
 // The greatest length of an inbox: packets of the longest message, or a few of the longest packets, with bytes over.
 const MAX_INBOX: usize = 2 * MAX_OUTBOX;
@@ -37,7 +36,9 @@ const ENDED: usize = VERDICT + 4;
 
 const BEGUN: usize = VERDICT + 40;
 
-// The bytes of an opening by a sender in front of what the party is handed.
+// The bytes of an opening, and of one by a sender, in front of what the party is handed.
+const AT_OPENING: usize = 28;
+
 const AT_BYTES: usize = 38;
 
 // The length of the numbers at the start of what a digest is taken of, the places of what follows the root, and the whole length.
@@ -47,412 +48,244 @@ const AT_MESSAGE: usize = NUMBERS + 32;
 
 const AT_SHARE: usize = AT_MESSAGE + MAX_MESSAGE;
 
-const AT_OUT: usize = AT_SHARE + MAX_SHARE;
+const AT_LENT: usize = AT_SHARE + MAX_SHARE;
 
-const DIGESTED: usize = AT_OUT + 32;
+const DIGESTED: usize = AT_LENT + 32;
 
 // What a case finds.
-#[derive(Clone, Copy)]
+#[derive(Drop)]
 pub(crate) struct World {
-    pub state: Party,
-    pub inbox: [u8; MAX_INBOX],
-}
-
-// What the next case finds, and how many bytes came of this one.
-#[derive(Clone, Copy)]
-pub(crate) struct Moved {
-    pub world: World,
-    pub len: usize,
-}
-
-// The state that a call or a change gives, and how many bytes came of it.
-#[derive(Clone, Copy)]
-struct Called {
     state: Party,
-    len: usize,
+    inbox: [u8; MAX_INBOX],
 }
 
-// What the first case finds.
-pub(crate) fn blank() -> World {
-    World {
-        state: Party {
-            seat: Seat {
-                session: 0,
-                n: 0,
-                t: 0,
-                own: 0,
+impl World {
+    // What the first case finds.
+    pub(crate) fn blank() -> World {
+        World {
+            state: Party {
+                seat: Seat {
+                    session: 0,
+                    n: 0,
+                    t: 0,
+                    own: 0,
+                },
+                stage: Stage::Root,
+                message: [0; MAX_MESSAGE],
+                len: 0,
+                root: [0; 32],
+                share: [0; MAX_SHARE],
+                held: 0,
+                faulty: 0,
             },
-            stage: Stage::Root,
-            message: [0; MAX_MESSAGE],
-            len: 0,
-            root: [0; 32],
-            share: [0; MAX_SHARE],
-            held: 0,
-            faulty: 0,
-        },
-        inbox: [0; MAX_INBOX],
+            inbox: [0; MAX_INBOX],
+        }
     }
 }
 
-pub(crate) fn run(kind: usize, world: World, input: &[u8], out: &mut [u8]) -> Moved {
-    let mut inbox = world.inbox;
-    if kind == 9 && number_at(input, 0, 1) == 3 {
-        let len = put_bytes(&mut inbox, input);
-        let state = world.state;
-        return Moved {
-            world: World { state, inbox },
-            len,
-        };
-    }
-    let Called { state, len } = call(kind, world.state, &inbox, input, out);
-    Moved {
-        world: World { state, inbox },
-        len,
-    }
-}
-
-// What changes the state alone.
-fn call(kind: usize, state: Party, inbox: &[u8], input: &[u8], out: &mut [u8]) -> Called {
-    if kind == 1 {
-        return opening(state, input, out);
-    }
-    if kind == 2 {
-        return opening_by_sender(state, input, out);
-    }
-    if kind == 3 {
-        return agreed_root(state, input, out);
-    }
-    if kind <= 6 {
-        return lent(kind, state, inbox, input, out);
-    }
-    if kind == 7 {
-        return new_number(state, number_at(input, 0, 1), input);
-    }
-    if kind == 8 {
-        return new_stage(state, number_at(input, 0, 1), number_at(input, 1, 8));
-    }
-    new_bytes(state, input)
-}
-
-fn malformed(state: Party) -> Called {
-    Called {
-        state,
-        len: MALFORMED,
-    }
-}
-
-fn opening(before: Party, input: &[u8], out: &mut [u8]) -> Called {
-    if input.len() < 28 {
-        return malformed(before);
-    }
-    let session = buffer::number_at(input, 0);
-    let n = number_at(input, 4, 8);
-    let t = number_at(input, 12, 8);
-    let own = number_at(input, 20, 8);
-    let Opened { state, cause, root } = Party::open(session, n, t, own, &input[28..]);
-    buffer::put(out, VERDICT, &root);
-    buffer::put(out, 0, &verdict(state, opened(cause), b""));
-    Called {
-        state,
-        len: VERDICT + 32,
-    }
-}
-
-fn opened(cause: u8) -> Answer {
-    if cause == 0 {
-        return answer::done(0);
-    }
-    answer::refused(cause)
+pub(crate) fn open(world: &mut World, input: &[u8], out: &mut [u8]) -> Option<usize> {
+    let (front, message) = input.split_at_checked(AT_OPENING)?;
+    let Opened { state, root } = Party::open(
+        buffer::number_at(front, 0),
+        number_at(front, 4, 8),
+        number_at(front, 12, 8),
+        number_at(front, 20, 8),
+        message,
+    );
+    world.state = state;
+    let answer = Answer::from(root.map(|_| 0usize));
+    buffer::put(out, 0, &verdict(&world.state, answer, b""));
+    buffer::put(out, VERDICT, &root.unwrap_or([0; 32]));
+    Some(VERDICT + 32)
 }
 
 // An opening by a sender. The buffer lent lies behind what is told.
-fn opening_by_sender(before: Party, input: &[u8], out: &mut [u8]) -> Called {
-    if input.len() < AT_BYTES {
-        return malformed(before);
-    }
-    let room = number_at(input, 36, 2);
-    if MAX_ROOM < room {
-        return malformed(before);
-    }
-    let end = BEGUN + room;
-    if out.len() < end {
-        return malformed(before);
-    }
-    let session = buffer::number_at(input, 0);
-    let n = number_at(input, 4, 8);
-    let t = number_at(input, 12, 8);
-    let own = number_at(input, 20, 8);
-    let sender = number_at(input, 28, 8);
-    let OpenedBySender { opened, len } = Party::open_by_sender(
-        session,
-        n,
-        t,
-        own,
-        sender,
-        &input[AT_BYTES..],
-        &mut out[BEGUN..end],
+pub(crate) fn open_by_sender(world: &mut World, input: &[u8], out: &mut [u8]) -> Option<usize> {
+    let (front, bytes) = input.split_at_checked(AT_BYTES)?;
+    let end = BEGUN + room(number_at(front, 36, 2), MAX_ROOM)?;
+    let lent = out.get_mut(BEGUN..end)?;
+    let OpenedBySender { state, answer } = Party::open_by_sender(
+        buffer::number_at(front, 0),
+        number_at(front, 4, 8),
+        number_at(front, 12, 8),
+        number_at(front, 20, 8),
+        number_at(front, 28, 8),
+        bytes,
+        lent,
     );
-    let Opened { state, cause, .. } = opened;
-    let bytes = verdict(state, begun(cause, len), &out[BEGUN..end]);
+    world.state = state;
+    let written = answer.map(|begun| begun.len);
+    let bytes = verdict(&world.state, Answer::from(written), lent);
     buffer::put(out, 0, &bytes);
-    buffer::put(out, VERDICT, &root_of(opened));
-    buffer::put(out, VERDICT + 32, &spelled(len));
-    Called { state, len: BEGUN }
+    buffer::put(out, VERDICT, &root_of(answer));
+    buffer::put(out, VERDICT + 32, &buffer::value_of(written).to_be_bytes());
+    Some(BEGUN)
 }
 
-fn root_of(opened: Opened) -> [u8; 32] {
-    opened.root
-}
-
-fn begun(cause: u8, len: usize) -> Answer {
-    if cause == 0 {
-        return answer::done(len);
-    }
-    if cause == 9 {
-        return answer::short(len);
-    }
-    answer::refused(cause)
-}
-
-fn agreed_root(before: Party, root: &[u8], out: &mut [u8]) -> Called {
-    let Reply { state, answer } = before.agree_root(root);
-    buffer::put(out, 0, &verdict(state, answered(answer), b""));
-    Called {
-        state,
-        len: VERDICT,
-    }
-}
-
-fn answered(answer: party::Answer) -> Answer {
+fn root_of(answer: Result<Begun, Refusal>) -> [u8; 32] {
     match answer {
-        party::Answer::Refused(cause) => answer::refused(cause),
-        party::Answer::Short(needed) => answer::short(needed),
-        party::Answer::Happy(happy) => answer::done(if happy { 1 } else { 0 }),
-        party::Answer::Sent(len) => answer::done(len),
-        party::Answer::Nothing(_) => Answer { code: 1, value: 0 },
-        party::Answer::Message(len, _) => answer::done(len),
+        Ok(begun) => begun.root,
+        Err(_) => [0; 32],
+    }
+}
+
+pub(crate) fn agree_root(world: &mut World, root: &[u8], out: &mut [u8]) -> Option<usize> {
+    let Reply { state, answer } = world.state.agree_root(root);
+    world.state = state;
+    buffer::put(out, 0, &verdict(&world.state, answered(answer), b""));
+    Some(VERDICT)
+}
+
+fn answered(answer: Result<party::Answer, Refusal>) -> Answer {
+    match answer {
+        Ok(party::Answer::Happy(happy)) => Answer::Done(usize::from(happy)),
+        Ok(party::Answer::Sent(len)) => Answer::Done(len),
+        Ok(party::Answer::Nothing(_)) => Answer::Nothing,
+        Ok(party::Answer::Message(len, _)) => Answer::Done(len),
+        Err(refusal) => Answer::from(refusal),
     }
 }
 
 // The map given with a result, 0 with any other answer.
-fn map_given(answer: party::Answer) -> u32 {
+fn map_given(answer: Result<party::Answer, Refusal>) -> u32 {
     match answer {
-        party::Answer::Nothing(faulty) => faulty,
-        party::Answer::Message(_, faulty) => faulty,
+        Ok(party::Answer::Nothing(faulty) | party::Answer::Message(_, faulty)) => faulty,
         _ => 0,
     }
 }
 
-// A step that a buffer is lent to, which lies behind the verdict and a map; the map is told of step 5 alone.
-fn lent(kind: usize, before: Party, inbox: &[u8], input: &[u8], out: &mut [u8]) -> Called {
-    let given = number_at(input, 0, 2);
-    if inbox.len() < given {
-        return malformed(before);
-    }
-    let room = number_at(input, 2, 2);
-    if MAX_ROOM < room {
-        return malformed(before);
-    }
-    let end = ENDED + room;
-    if out.len() < end {
-        return malformed(before);
-    }
-    let Reply { state, answer } = step(kind, before, given, &inbox[0..given], &mut out[ENDED..end]);
-    let bytes = verdict(state, answered(answer), &out[ENDED..end]);
+pub(crate) fn agree_bit(world: &mut World, input: &[u8], out: &mut [u8]) -> Option<usize> {
+    let bit = number_at(input, 0, 2);
+    step(world, input, out, |own, _, lent| own.agree_bit(bit, lent))?;
+    Some(VERDICT)
+}
+
+pub(crate) fn take_shares(world: &mut World, input: &[u8], out: &mut [u8]) -> Option<usize> {
+    step(world, input, out, Party::take_shares)?;
+    Some(VERDICT)
+}
+
+// The map is told of step 5 alone.
+pub(crate) fn take_relays(world: &mut World, input: &[u8], out: &mut [u8]) -> Option<usize> {
+    let map = step(world, input, out, Party::take_relays)?;
+    buffer::put(out, VERDICT, &map.to_be_bytes());
+    Some(ENDED)
+}
+
+// A step that is handed as many bytes of the inbox as the case says, where step 3 has its bit, and a buffer, which lies behind the verdict and a map.
+// The map that the step gave comes back.
+fn step<F: Fn(Party, &[u8], &mut [u8]) -> Reply>(
+    world: &mut World,
+    input: &[u8],
+    out: &mut [u8],
+    call: F,
+) -> Option<u32>
+    requires { F.IsAlwaysCallable call }
+{
+    let inbox = world.inbox.get(..number_at(input, 0, 2))?;
+    let end = ENDED + room(number_at(input, 2, 2), MAX_ROOM)?;
+    let lent = out.get_mut(ENDED..end)?;
+    let Reply { state, answer } = call(world.state, inbox, lent);
+    world.state = state;
+    let bytes = verdict(&world.state, answered(answer), lent);
     buffer::put(out, 0, &bytes);
-    buffer::put(out, VERDICT, &buffer::four_bytes(map_given(answer)));
-    Called {
-        state,
-        len: if kind == 6 { ENDED } else { VERDICT },
-    }
+    Some(map_given(answer))
 }
 
-// Step 3 with a bit, or step 4 or 5 with an inbox.
-fn step(kind: usize, before: Party, bit: usize, inbox: &[u8], out: &mut [u8]) -> Reply {
-    if kind == 4 {
-        return before.agree_bit(bit, out);
-    }
-    if kind == 5 {
-        return before.take_shares(inbox, out);
-    }
-    before.take_relays(inbox, out)
-}
-
-fn verdict(state: Party, answer: Answer, out: &[u8]) -> [u8; VERDICT] {
+fn verdict(state: &Party, answer: Answer, lent: &[u8]) -> [u8; VERDICT] {
     let mut bytes = [0u8; VERDICT];
-    answer::put(&mut bytes, 0, answer);
-    buffer::put(&mut bytes, ANSWER, &digest_of(state, out));
+    answer.put(&mut bytes, 0);
+    buffer::put(&mut bytes, ANSWER, &digest_of(state, lent));
     bytes
 }
 
 // The digest that a verdict gives.
-fn digest_of(state: Party, out: &[u8]) -> [u8; 32] {
-    let mut text = text_of(state);
-    let written = sha256::hash(out).digest;
-    buffer::put(&mut text, AT_OUT, &written);
-    sha256::hash(&text).digest
-}
-
-// The state, and room for the digest of out.
-fn text_of(state: Party) -> [u8; DIGESTED] {
+fn digest_of(state: &Party, lent: &[u8]) -> [u8; 32] {
     let mut text = [0u8; DIGESTED];
-    let root = state.root;
-    let message = state.message;
-    let share = state.share;
     buffer::put(&mut text, 0, &numbers(state));
-    buffer::put(&mut text, NUMBERS, &root);
-    buffer::put(&mut text, AT_MESSAGE, &message);
-    buffer::put(&mut text, AT_SHARE, &share);
-    text
+    buffer::put(&mut text, NUMBERS, &state.root);
+    buffer::put(&mut text, AT_MESSAGE, &state.message);
+    buffer::put(&mut text, AT_SHARE, &state.share);
+    buffer::put(&mut text, AT_LENT, &digest(lent));
+    digest(&text)
 }
 
 // The state's numbers and its stage.
-fn numbers(state: Party) -> [u8; NUMBERS] {
+fn numbers(state: &Party) -> [u8; NUMBERS] {
     let mut bytes = [0u8; NUMBERS];
-    let stage = state.stage;
-    buffer::put(&mut bytes, 0, &buffer::four_bytes(state.seat.session));
-    buffer::put(&mut bytes, 4, &buffer::four_bytes(state.faulty));
-    buffer::put(&mut bytes, 8, &spelled(state.seat.n));
-    buffer::put(&mut bytes, 16, &spelled(state.seat.t));
-    buffer::put(&mut bytes, 24, &spelled(state.seat.own));
-    buffer::put(&mut bytes, 32, &stage_bytes(stage));
-    buffer::put(&mut bytes, 41, &spelled(state.len));
-    buffer::put(&mut bytes, 49, &spelled(state.held));
+    let (stage, ended) = number_of(state.stage);
+    buffer::put(&mut bytes, 0, &state.seat.session.to_be_bytes());
+    buffer::put(&mut bytes, 4, &state.faulty.to_be_bytes());
+    buffer::put(&mut bytes, 8, &state.seat.n.to_be_bytes());
+    buffer::put(&mut bytes, 16, &state.seat.t.to_be_bytes());
+    buffer::put(&mut bytes, 24, &state.seat.own.to_be_bytes());
+    buffer::put(&mut bytes, 32, &[stage]);
+    buffer::put(&mut bytes, 33, &ended.to_be_bytes());
+    buffer::put(&mut bytes, 41, &state.len.to_be_bytes());
+    buffer::put(&mut bytes, 49, &state.held.to_be_bytes());
     bytes
 }
 
 // A stage's number, and the length of the message that it ended with.
-fn stage_bytes(stage: Stage) -> [u8; 9] {
-    let mut bytes = [0u8; 9];
+fn number_of(stage: Stage) -> (u8, usize) {
     match stage {
-        Stage::Root => bytes[0] = 0,
-        Stage::Bit => bytes[0] = 1,
-        Stage::First => bytes[0] = 2,
-        Stage::Second => bytes[0] = 3,
-        Stage::Ended(outcome) => match outcome {
-            party::Outcome::Nothing => bytes[0] = 4,
-            party::Outcome::Message(len) => {
-                bytes[0] = 5;
-                buffer::put(&mut bytes, 1, &spelled(len));
-            }
-        },
+        Stage::Root => (0, 0),
+        Stage::Bit => (1, 0),
+        Stage::First => (2, 0),
+        Stage::Second => (3, 0),
+        Stage::Ended(None) => (4, 0),
+        Stage::Ended(Some(len)) => (5, len),
     }
-    bytes
 }
 
-// The stage of a number.
-fn stage_of(number: usize, len: usize) -> Stage {
+// The stage of a number, from 5 on one that ended with a message.
+fn stage_of(number: u8, len: usize) -> Stage {
     match number {
         0 => Stage::Root,
         1 => Stage::Bit,
         2 => Stage::First,
         3 => Stage::Second,
-        4 => Stage::Ended(party::Outcome::Nothing),
-        _ => Stage::Ended(party::Outcome::Message(len)),
+        4 => Stage::Ended(None),
+        _ => Stage::Ended(Some(len)),
     }
 }
 
-// A change: nothing comes of it, if it can be made.
-fn changed(state: Party, good: bool) -> Called {
-    if good {
-        return Called { state, len: 0 };
-    }
-    malformed(state)
-}
-
-fn new_number(old: Party, place: usize, input: &[u8]) -> Called {
-    let mut state = old;
+// Past the last number that can be changed, the map changes, and nothing comes of it.
+pub(crate) fn change_number(world: &mut World, input: &[u8]) -> Option<usize> {
+    let place = byte_at(input, 0);
     let number = number_at(input, 1, 8);
     let low = buffer::number_at(input, 5);
     match place {
-        0 => state.seat.n = number,
-        1 => state.seat.t = number,
-        2 => state.seat.own = number,
-        3 => state.len = number,
-        4 => state.held = number,
-        5 => state.seat.session = low,
-        _ => state.faulty = low,
+        0 => world.state.seat.n = number,
+        1 => world.state.seat.t = number,
+        2 => world.state.seat.own = number,
+        3 => world.state.len = number,
+        4 => world.state.held = number,
+        5 => world.state.seat.session = low,
+        _ => world.state.faulty = low,
     }
-    changed(state, place <= 6)
+    (place <= 6).then_some(0)
 }
 
-fn new_stage(old: Party, number: usize, len: usize) -> Called {
-    let seat = old.seat;
-    let message = old.message;
-    let root = old.root;
-    let share = old.share;
-    let state = Party {
-        seat,
-        stage: stage_of(number, len),
-        message,
-        len: old.len,
-        root,
-        share,
-        held: old.held,
-        faulty: old.faulty,
-    };
-    changed(state, number <= 5)
+// Past the last stage, the last is taken, and nothing comes of it.
+pub(crate) fn change_stage(world: &mut World, input: &[u8]) -> Option<usize> {
+    let number = byte_at(input, 0);
+    world.state.stage = stage_of(number, number_at(input, 1, 8));
+    (number <= 5).then_some(0)
 }
 
-fn new_bytes(state: Party, input: &[u8]) -> Called {
-    let place = number_at(input, 0, 1);
-    if place == 0 {
-        return new_message(state, input);
+pub(crate) fn change_bytes(world: &mut World, input: &[u8]) -> Option<usize> {
+    match byte_at(input, 0) {
+        0 => put_bytes(&mut world.state.message, input),
+        1 => put_bytes(&mut world.state.root, input),
+        2 => put_bytes(&mut world.state.share, input),
+        3 => put_bytes(&mut world.inbox, input),
+        _ => None,
     }
-    if place == 1 {
-        return new_root(state, input);
-    }
-    if place == 2 {
-        return new_share(state, input);
-    }
-    malformed(state)
-}
-
-fn new_message(old: Party, input: &[u8]) -> Called {
-    let mut state = old;
-    let mut message = old.message;
-    let len = put_bytes(&mut message, input);
-    state.message = message;
-    Called { state, len }
-}
-
-fn new_root(old: Party, input: &[u8]) -> Called {
-    let mut state = old;
-    let mut root = old.root;
-    let len = put_bytes(&mut root, input);
-    state.root = root;
-    Called { state, len }
-}
-
-fn new_share(old: Party, input: &[u8]) -> Called {
-    let mut state = old;
-    let mut share = old.share;
-    let len = put_bytes(&mut share, input);
-    state.share = share;
-    Called { state, len }
 }
 
 // Changes bytes from a place on.
-fn put_bytes(bytes: &mut [u8], input: &[u8]) -> usize {
-    if input.len() < 3 {
-        return MALFORMED;
-    }
-    if buffer::put(bytes, number_at(input, 1, 2), &input[3..]) {
-        return 0;
-    }
-    MALFORMED
-}
-
-// A line for each kind that had cases.
-pub(crate) fn print(tallies: [Tally; KINDS], before: u64) -> u64 {
-    let mut failed = before;
-    failed = stream::print_tally(b"openings", tallies[16], failed);
-    failed = stream::print_tally(b"openings by a sender", tallies[17], failed);
-    failed = stream::print_tally(b"agreed roots", tallies[18], failed);
-    failed = stream::print_tally(b"agreed bits", tallies[19], failed);
-    failed = stream::print_tally(b"first inboxes", tallies[20], failed);
-    failed = stream::print_tally(b"second inboxes", tallies[21], failed);
-    failed = stream::print_tally(b"numbers changed", tallies[22], failed);
-    failed = stream::print_tally(b"stages changed", tallies[23], failed);
-    stream::print_tally(b"bytes changed", tallies[24], failed)
+fn put_bytes(bytes: &mut [u8], input: &[u8]) -> Option<usize> {
+    let (front, new) = input.split_at_checked(3)?;
+    buffer::put(bytes, number_at(front, 1, 2), new).then_some(0)
 }
