@@ -36,7 +36,8 @@ pub fn encode(n: usize, t: usize, message: &[u8], out: &mut [u8]) -> Written
     if out.len() < need {
         return Err(Refusal::Short(need));
     }
-    let frame = frame_of(message);
+    let mut frame = [0; MAX_FRAME];
+    frame_of(message, &mut frame);
     write_shares(&frame, n, b, s, out);
     Ok(need)
 }
@@ -49,16 +50,15 @@ fn share_length(b: usize, len: usize) -> usize
     (len + 2).div_ceil(b)
 }
 
-// The frame of a message, and zeros past it.
-fn frame_of(message: &[u8]) -> [u8; MAX_FRAME]
+// Writes the frame of a message, and zeros past it. It is written where it is used, as is that of shares: one given back by value lies on the stack twice.
+fn frame_of(message: &[u8], frame: &mut [u8; MAX_FRAME])
     requires { length message.now ≤ max_message }
-    ensures { (i : ℕ) → get_or result i 0 ≡ get_or (headed message.now) i 0 }
+    ensures { (i : ℕ) → get_or frame.new i 0 ≡ get_or (headed message.now) i 0 }
 {
     let len = message.len();
-    let mut frame = [0; MAX_FRAME];
+    frame.fill(0);
     frame[..2].copy_from_slice(&(len as u16).to_be_bytes());
     frame[2..len + 2].copy_from_slice(message);
-    frame
 }
 
 // Horner's rule on each byte of a row: j times it, and the byte of a block.
@@ -214,7 +214,8 @@ fn recover(shares: &[&[u8]], b: usize, out: &mut [u8]) -> Written
     let lowest = lowest_present(shares, b).ok_or(Cause::TooFew)?;
     let used = &lowest.shares[..b];
     let s = size_of(used).ok_or(Cause::NoMessage)?;
-    let frame = whole_frame(used, s);
+    let mut frame = [0; MAX_FRAME];
+    whole_frame(used, s, &mut frame);
     let message = message_in(&frame[..b * s], b, s).ok_or(Cause::NoMessage)?;
     buffer::give(message, out)
 }
@@ -352,19 +353,18 @@ fn add_share(frame: &mut [u8], coefficients: &[u8], share: &[u8])
     }
 }
 
-// The frame of shares of s bytes, at the start of an array: they are added one after the other.
-fn whole_frame(shares: &[Share], s: usize) -> [u8; MAX_FRAME]
+// Writes the frame of shares of s bytes to the start of an array: they are added one after the other.
+fn whole_frame(shares: &[Share], s: usize, frame: &mut [u8; MAX_FRAME])
     requires { (length shares.now ≤ max_parties) × (length shares.now * s ≤ max_share + max_parties)
         × ((m : ℕ) → m < length shares.now → length (point (points shares.now) m).share ≡ s) }
-    ensures { take (length shares.now * s) result ≡ framed (length shares.now) s (points shares.now) }
+    ensures { take (length shares.now * s) frame.new ≡ framed (length shares.now) s (points shares.now) }
 {
     let b = shares.len();
-    let mut frame = [0; MAX_FRAME];
+    frame.fill(0);
     for (m, share) in shares.iter().enumerate() {
         let row = basis_of(shares, m);
-        add_share(&mut frame, &row[..b], share.bytes);
+        add_share(frame, &row[..b], share.bytes);
     }
-    frame
 }
 
 // The message in a frame of b blocks of s bytes, unless the frame is none.

@@ -61,8 +61,8 @@ returns c =
     let s = c.share_length-s.result in
     let fine = sym c.in_ok-check_group.ensures in
     let need : a.n * s ≡ length (shares a.n b m) = ap (λ s. a.n * s) c.share_length-s.ensures ∙ sym (length-shares a.n b m) in
-    let whole : shares_of a.n b s c.frame_of-frame.result ≡ shares a.n b m =
-    shares_of-cong a.n b s c.frame_of-frame.result (frame b m) (λ i. c.frame_of-frame.ensures i ∙ sym (get_or-frame b m i))
+    let whole : shares_of a.n b s c.frame_of.new.frame ≡ shares a.n b m =
+    shares_of-cong a.n b s c.frame_of.new.frame (frame b m) (λ i. c.frame_of.ensures i ∙ sym (get_or-frame b m i))
     ∙ ap (λ s. shares_of a.n b s (frame b m)) c.share_length-s.ensures ∙ sym (shares-frame a.n b m) in
     ap₂ (λ k o. gave (Done k) o) need (c.write_shares.ensures ∙ ap (spliced out 0) whole)
     ∙ sym (encode-written a.n a.t m out fine c.if-message-gt-MAX_MESSAGE.false

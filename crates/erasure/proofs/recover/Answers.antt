@@ -25,8 +25,8 @@ returns-in_err-s c =
     (sym (used-joined b (present 1 (slices c.args.shares.now)) (take b c.in_ok-lowest.lowest.shares) c.requires.0 h.0 h.1
     ∙ rw none.ok_part at c.size_of.ensures))
 
-pub whole_frame-frame-requires : goal.whole_frame-frame-requires
-whole_frame-frame-requires c =
+pub whole_frame-requires : goal.whole_frame-requires
+whole_frame-requires c =
     let b = c.args.b in
     let us = take b c.in_ok-lowest.lowest.shares in
     let h = rw c.in_ok-lowest.ensures.ok_part at c.lowest_present.ensures in
@@ -44,7 +44,7 @@ returns-in_err-message c =
     none-because _ cause.NoMessage _ _ out none.ok_part none.value c.from_residual-in_err-message.ensures.1
     ∙ ap (λ r. answered r out)
     (sym (used-framed b (present 1 (slices c.args.shares.now)) (take b c.in_ok-lowest.lowest.shares) c.requires.0 h.0 h.1
-    c.in_ok-s.s c.whole_frame-frame.result even.0 even.1 c.whole_frame-frame.ensures
+    c.in_ok-s.s c.whole_frame.new.frame even.0 even.1 c.whole_frame.ensures
     ∙ rw none.ok_part at c.message_in.ensures))
 
 pub returns : goal.returns
@@ -55,5 +55,5 @@ returns c =
     c.give.ensures
     ∙ ap (λ r. answered r c.args.out.now)
     (sym (used-framed b (present 1 (slices c.args.shares.now)) (take b c.in_ok-lowest.lowest.shares) c.requires.0 h.0 h.1
-    c.in_ok-s.s c.whole_frame-frame.result even.0 even.1 c.whole_frame-frame.ensures
+    c.in_ok-s.s c.whole_frame.new.frame even.0 even.1 c.whole_frame.ensures
     ∙ rw c.in_ok-message.ensures.ok_part at c.message_in.ensures))

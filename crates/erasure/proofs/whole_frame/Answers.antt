@@ -4,7 +4,6 @@ use Rattle.std.specs.Int.Bits.{bit_xor}
 use borrow.Author.Rules.{rules}
 use native.Mathlib.Nat.{div-add-mod'}
 use native.Mathlib.Numerals.{add-one}
-use lib.ListN.{length-replicate}
 use lib.Seq.{get_or-take}
 use Rattle.limits.specs.Limits.{max_parties}
 use Rattle.gf256.specs.Field.{product}
@@ -22,7 +21,10 @@ sum_more m f x e = ap (λ (y : ℕ). bit_xor y (f m)) e ∙ ap (λ (n : ℕ). su
 
 pub loop-m-init : goal.loop-m-init
 unfolding sum
-loop-m-init c = (length-replicate {A = ℕ} 3090 0, λ k i h g. all-zero 3090 (k * c.args.s + i))
+loop-m-init c = (
+  c.fill.ensures.len ∙ search rules,
+  λ k i h g. ap (λ l. get_or l (k * c.args.s + i) 0) (c.fill.ensures.after (λ y e. e)) ∙ all-zero (length c.args.frame.now) (k * c.args.s + i),
+)
 
 pub add_share-requires : goal.add_share-requires
 add_share-requires c =
