@@ -18,6 +18,8 @@ use Rattle.packet.specs.Packet.{Packet}
 use Rattle.packet.specs.Packet as packet
 use Rattle.packet.specs.declared.Share.{Share}
 use Rattle.party.specs.Steps.{Taken, missing, found}
+use Rattle.party.specs.Answer.{opened}
+use Rattle.party.specs.Answer.{Opened as Told}
 use Rattle.party.specs.declared.Party.{Party}
 use Rattle.party.specs.declared.Answer.TheVariants as answer
 use Rattle.party.specs.declared.Begun.{Begun}
@@ -130,3 +132,9 @@ begun_with (Err c) l = Err (refusal.Because c)
 
 abbrev pub with_length : Opened → ℕ → OpenedBySender
 with_length o l = record { state = o.state; answer = begun_with o.root l }
+
+-- what begins with an opening that says this, of which so many bytes were written for the others
+pub record Begins (told : Told) (len : ℕ) (r : OpenedBySender) : Type 0 where
+  pub opening : Opened
+  pub says : opened opening ≡ told
+  pub is : r ≡ with_length opening len

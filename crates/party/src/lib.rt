@@ -19,7 +19,7 @@ ghost use Rattle.party.specs.Sender.{message_read, sender_cause, begun, open_by_
 ghost use Rattle.packet.specs.Packet.{read_said};
 ghost use Rattle.packet.specs.Answer.{judge_of};
 ghost use Rattle.erasure.specs.Rebuild.{place_at};
-ghost use Rattle.party.specs.Private.{Fit, Judges, Found, TakenIs, Gathered, finding_of, found_faulty, marks, first_place, Lies_as, after, with_length};
+ghost use Rattle.party.specs.Private.{Fit, Judges, Found, TakenIs, Gathered, finding_of, found_faulty, marks, first_place, Lies_as, after, with_length, Begins};
 
 use buffer::Written;
 use cause::{Cause, Refusal};
@@ -159,10 +159,10 @@ impl Party {
             return begin(Party::open_with_packet(session, n, t, own, bytes), 0);
         }
         if n == 1 {
-            return begin(Party::open(session, n, t, own, bytes), 0);
+            return open_and_begin(session, n, t, own, bytes, 0);
         }
         match packet::write_message(bytes, out) {
-            Ok(len) => begin(Party::open(session, n, t, own, bytes), len),
+            Ok(len) => open_and_begin(session, n, t, own, bytes, len),
             Err(refusal) => turned_away(refusal),
         }
     }
@@ -225,8 +225,9 @@ impl Party {
             let next = self.ended(None, [0; Party::MAX_MESSAGE], 0);
             return self.silent(next, out);
         }
+        let sent = self.send(false, out);
         let next = self.waiting(Stage::First, self.root, [0; MAX_SHARE], 0, 0);
-        let Some(written) = self.send(false, out) else {
+        let Some(written) = sent else {
             return self.silent(next, out);
         };
         self.after(next, written)
@@ -240,8 +241,9 @@ impl Party {
             return self.refused(cause);
         }
         let Shares { taken, faulty } = self.judge_shares(inbox);
+        let sent = self.send(true, out);
         let next = self.waiting(Stage::Second, self.root, [0; MAX_SHARE], 0, faulty);
-        if let Some(written) = self.send(true, out) {
+        if let Some(written) = sent {
             return self.after(next, written);
         }
         let Some(
@@ -760,6 +762,21 @@ fn turned_away(refusal: Refusal) -> OpenedBySender
         state: blank(),
         answer: Err(refusal),
     }
+}
+
+// The opening with a message, of which so many bytes were written for the others. It is a call of its own, so that its caller has no room for each.
+#[inline(never)]
+fn open_and_begin(
+    session: u32,
+    n: usize,
+    t: usize,
+    own: usize,
+    message: &[u8],
+    len: usize,
+) -> OpenedBySender
+    ensures { Begins (open_of sha256 session n t own message.now) len result }
+{
+    begin(Party::open(session, n, t, own, message), len)
 }
 
 // An opening, of which so many bytes were written for the others.

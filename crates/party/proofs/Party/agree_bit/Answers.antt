@@ -41,24 +41,24 @@ returns-then-bit-eq0 c =
 pub waiting-next-requires : goal.waiting-next-requires
 waiting-next-requires c = (fit c.args.self c.args.bit c.in_default.ensures).short
 
-pub send-requires : goal.send-requires
-send-requires c = fit c.args.self c.args.bit c.in_default.ensures
+pub send-sent-requires : goal.send-sent-requires
+send-sent-requires c = fit c.args.self c.args.bit c.in_default.ensures
 
-pub silent-requires-in_default-send : goal.silent-requires-in_default-send
-silent-requires-in_default-send c = (fit c.args.self c.args.bit c.in_default.ensures).high
+pub silent-requires-in_default-sent : goal.silent-requires-in_default-sent
+silent-requires-in_default-sent c = (fit c.args.self c.args.bit c.in_default.ensures).high
 
-pub returns-in_default-send : goal.returns-in_default-send
-returns-in_default-send c =
+pub returns-in_default-sent : goal.returns-in_default-sent
+returns-in_default-sent c =
     let x = c.args.self in
     let f = fit x c.args.bit c.in_default.ensures in
-    c.silent-in_default-send.ensures ∙ ap (writes x c.waiting-next.result _) c.in_default-send.ensures.1
+    c.silent-in_default-sent.ensures ∙ ap (writes x c.waiting-next.result _) c.in_default-sent.ensures.1
     ∙ first x c.args.bit c.args.out.now _ c.waiting-next.result c.in_default.ensures c.if-bit-eq0.false
-    (c.waiting-next.ensures ∙ waits_on x First _ x.root _ [] 0 0 f.short (search rules) refl refl refl) (outbox-silent sha256 x 1 c.in_default-send.ensures.0)
+    (c.waiting-next.ensures ∙ waits_on x First _ x.root _ [] 0 0 f.short (search rules) refl refl refl) (outbox-silent sha256 x 1 c.in_default-sent.ensures.0)
 
 pub returns : goal.returns
 returns c =
     let x = c.args.self in
     let f = fit x c.args.bit c.in_default.ensures in
-    rw c.after.ensures (writes-given x c.waiting-next.result _ c.args.out.now c.in-Some.written c.send.new.out c.in-Some.ensures.1)
+    rw c.after.ensures (writes-given x c.waiting-next.result _ c.args.out.now c.in-Some.written c.send-sent.new.out c.in-Some.ensures.1)
     ∙ first x c.args.bit c.args.out.now _ c.waiting-next.result c.in_default.ensures c.if-bit-eq0.false
     (c.waiting-next.ensures ∙ waits_on x First _ x.root _ [] 0 0 f.short (search rules) refl refl refl) (outbox-mail sha256 x c.in-Some.ensures.0)

@@ -23,16 +23,18 @@ returns-then-own-sender c =
 pub returns-then-n-eq1 : goal.returns-then-n-eq1
 returns-then-n-eq1 c =
     let a = c.args in
-    rw c.begin-then-n-eq1.ensures (silent sha256 a.session a.n a.t a.own a.sender a.bytes.now a.out.now (sym c.in_default.ensures) c.open.result
-    (c.open.ensures ∙ ap (open_of sha256 a.session a.n a.t a.own) (sym (sender-message a.own a.sender a.bytes.now c.if-own-sender.false)))
+    let b = c.open_and_begin.ensures in
+    rw b.is (silent sha256 a.session a.n a.t a.own a.sender a.bytes.now a.out.now (sym c.in_default.ensures) b.opening
+    (b.says ∙ ap (open_of sha256 a.session a.n a.t a.own) (sym (sender-message a.own a.sender a.bytes.now c.if-own-sender.false)))
     (alone-packet a.own a.sender a.bytes.now a.n c.if-n-eq1.true))
 
 pub returns-in-Ok : goal.returns-in-Ok
 returns-in-Ok c =
     let a = c.args in
-    rw c.begin-in-Ok.ensures (sent-all sha256 a.session a.n a.t a.own a.sender a.bytes.now a.out.now (sym c.in_default.ensures) c.if-own-sender.false c.if-n-eq1.false
-    c.write_message.new.out c.open-in-Ok.result
-    (c.open-in-Ok.ensures ∙ ap (open_of sha256 a.session a.n a.t a.own) (sym (sender-message a.own a.sender a.bytes.now c.if-own-sender.false)))
+    let b = c.open_and_begin-in-Ok.ensures in
+    rw b.is (sent-all sha256 a.session a.n a.t a.own a.sender a.bytes.now a.out.now (sym c.in_default.ensures) c.if-own-sender.false c.if-n-eq1.false
+    c.write_message.new.out b.opening
+    (b.says ∙ ap (open_of sha256 a.session a.n a.t a.own) (sym (sender-message a.own a.sender a.bytes.now c.if-own-sender.false)))
     c.in-Ok.len c.in-Ok.ensures)
 
 pub returns-in-Err-write_message : goal.returns-in-Err-write_message

@@ -91,15 +91,15 @@ judge_shares-taken-requires c =
 pub waiting-next-requires : goal.waiting-next-requires
 waiting-next-requires c = (fit c.args.self c.args.inbox.now c.in_default.ensures).short
 
-pub send-requires : goal.send-requires
-send-requires c = fit c.args.self c.args.inbox.now c.in_default.ensures
+pub send-sent-requires : goal.send-sent-requires
+send-sent-requires c = fit c.args.self c.args.inbox.now c.in_default.ensures
 
 pub returns-in-Some : goal.returns-in-Some
 returns-in-Some c =
     let x = c.args.self in
     let s = c.args.inbox.now in
     let f = fit x s c.in_default.ensures in
-    rw c.after.ensures (writes-given x c.waiting-next.result _ c.args.out.now c.in-Some.written c.send.new.out c.in-Some.ensures.1)
+    rw c.after.ensures (writes-given x c.waiting-next.result _ c.args.out.now c.in-Some.written c.send-sent.new.out c.in-Some.ensures.1)
     ∙ relays x s c.args.out.now c.waiting-next.result c.in_default.ensures c.in-Some.ensures.0
     (next x s [] c.waiting-next.result _ c.judge_shares-taken.ensures.1
     (c.waiting-next.ensures ∙ waits_on x Second _ x.root _ [] 0 _ f.short (search rules) refl refl refl))
@@ -119,14 +119,26 @@ returns-in_default-taken c =
     let y = c.waiting-next.result in
     let none = taken_none (taken_by sha256 x s) s
     (subst (λ (o : Option Share). TakenIs o (taken_by sha256 x s) s) c.in_default-taken.is c.judge_shares-taken.ensures.0) in
-    rw c.after-in_default-taken.ensures (sym (writes_nothing x y c.send.new.out))
-    ∙ ap (writes x y []) c.in_default-send.ensures.1
-    ∙ taking x s c.args.out.now y _ c.in_default.ensures c.in_default-send.ensures.0 none
+    rw c.after-in_default-taken.ensures (sym (writes_nothing x y c.send-sent.new.out))
+    ∙ ap (writes x y []) c.in_default-sent.ensures.1
+    ∙ taking x s c.args.out.now y _ c.in_default.ensures c.in_default-sent.ensures.0 none
     (next x s [] y _ c.judge_shares-taken.ensures.1
     (c.waiting-next.ensures ∙ waits_on x Second _ x.root _ [] 0 _ f.short (search rules) refl refl refl))
 
 pub waiting-holding-requires : goal.waiting-holding-requires
 waiting-holding-requires c = (fit c.args.self c.args.inbox.now c.in_default.ensures).short
+
+pub overflow_add-end : goal.overflow_add-end
+overflow_add-end c =
+    let x = c.args.self in
+    let s = c.args.inbox.now in
+    omega (arith, (got x s (fit x s c.in_default.ensures) _ c.in-Some-taken.field-0 c.in-Some-taken.is c.judge_shares-taken.ensures.0).inside)
+
+pub slice_bounds-put-end-2 : goal.slice_bounds-put-end-2
+slice_bounds-put-end-2 c =
+    let x = c.args.self in
+    let s = c.args.inbox.now in
+    omega (arith, (got x s (fit x s c.in_default.ensures) _ c.in-Some-taken.field-0 c.in-Some-taken.is c.judge_shares-taken.ensures.0).inside)
 
 pub slice_bounds-write-end : goal.slice_bounds-write-end
 slice_bounds-write-end c =
@@ -146,9 +158,9 @@ returns c =
     let y = c.waiting-holding.result in
     rw c.after-2.ensures (writes-given x y (packet_of x.seat.own share (hashes p.count (Q x s f _ p is t))) c.args.out.now c.write-written.result c.write-written.new.out
     (c.write-written.ensures
-    ∙ ap (write_of x.seat.n x.seat.own (take (p.from + p.len - p.from) (drop p.from s)) c.path_at-path.result p.count) c.in_default-send.ensures.1
+    ∙ ap (write_of x.seat.n x.seat.own (take (p.from + p.len - p.from) (drop p.from s)) c.path_at-path.result p.count) c.in_default-sent.ensures.1
     ∙ wrote x s f _ p is t c.path_at-path.result c.args.out.now c.path_at-path.ensures))
-    ∙ taking x s c.args.out.now y _ c.in_default.ensures c.in_default-send.ensures.0 (got x s f _ p is t).is
+    ∙ taking x s c.args.out.now y _ c.in_default.ensures c.in_default-sent.ensures.0 (got x s f _ p is t).is
     (next x s share y _ c.judge_shares-taken.ensures.1
     (c.waiting-holding.ensures
     ∙ waits_on x Second _ x.root _ share p.len _ f.short (search rules) refl (c.put.ensures.1 ∙ kept x s f _ p is t) (sym (size x s f _ p is t))))
