@@ -85,10 +85,9 @@ fn read_bytes<const N: usize>() -> Result<[u8; N], Broken>
     ensures { IfErr result (λ b. b ≡ record { len = 0; got = 0 }) }
 {
     let mut bytes = [0u8; N];
-    if io::read_full(IN, &mut bytes) == N {
-        Ok(bytes)
-    } else {
-        Err(Broken::default())
+    match read(&mut bytes) {
+        Ok(_) => Ok(bytes),
+        Err(_) => Err(Broken::default()),
     }
 }
 
