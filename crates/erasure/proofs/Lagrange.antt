@@ -1,14 +1,14 @@
 -- Lagrange's polynomials worked out in arrays, a turn of each loop a law: coefficients are set one after the other, a row is multiplied whole, a
 -- factor (X + r) looks at no coefficient past its own, and a product over the points skips a point or takes a factor more. Assumes nothing.
 use mathlib.Core.Path.{◌≡◌, refl, sym, ap, ap₂, ◌∙◌}
-use mathlib.Core.List.{List, map, foldl, foldl-append, [], ◌∷◌}
+use mathlib.Core.List.{List, map, foldl, foldl-append, [], ◌∷◌, ◌++◌}
 use mathlib.Core.Logic.{◌≢◌}
 use Prim.Native.Nat.{ℕ, zero, suc, ◌+◌, ◌-◌, ◌<◌, ◌≤◌}
 use native.Mathlib.Numerals.{add-one}
 use native.Mathlib.Omega.{arith}
 use borrow.Author.Count.{below_more}
-use lib.ListN.{length, get_or, set, replicate, length-replicate, get_or-replicate, get_or-map, take}
-use lib.Seq.{get_or-set_same, get_or-set_other, take-suc-set}
+use lib.ListN.{length, get_or, set, take, drop, replicate, length-replicate, get_or-replicate, length-append, length-drop, length-map, get_or-append, get_or-map}
+use lib.Seq.{get_or-set_same, get_or-set_other, get_or-take, take-suc-set, length-take-le}
 use Rattle.gf256.specs.Field.{product}
 use Rattle.gf256.proofs.Laws.{product-zero}
 use Rattle.erasure.specs.Bytes.{bytes}
@@ -24,8 +24,21 @@ set_next v f k y l h e =
     (get_or-set_same v k y 0 l ∙ e)
 
 -- an entry of a row that is multiplied by a
-pub scaled_at : (a : ℕ) (w : List ℕ) (k : ℕ) → get_or (map (product a) w) k 0 ≡ product a (get_or w k 0)
-scaled_at a w k = ap (get_or (map (product a) w) k) (sym (product-zero a)) ∙ get_or-map (product a) w k 0
+pub scaled_row : (a : ℕ) (w : List ℕ) (k : ℕ) → get_or (map (product a) w) k 0 ≡ product a (get_or w k 0)
+scaled_row a w k = ap (get_or (map (product a) w) k) (sym (product-zero a)) ∙ get_or-map (product a) w k 0
+
+-- an array whose first b entries are multiplied by a
+module _ (a b : ℕ) (w x : List ℕ) (q : b ≤ length w) (e : x ≡ map (product a) (take b w)) where
+  scaled-part : length x ≡ b
+  scaled-part = rw e (length-map (take b w) (product a) ∙ length-take-le b w q)
+
+  pub scaled-length : length (x ++ drop b w) ≡ length w
+  scaled-length = simp (length-append, length-drop, scaled-part) (omega arith)
+
+  pub scaled_at : (k : ℕ) → k < b → get_or (x ++ drop b w) k 0 ≡ product a (get_or w k 0)
+  scaled_at k l =
+      get_or-append x (drop b w) 0 k (rw scaled-part l) ∙ ap (λ (y : List ℕ). get_or y k 0) e
+      ∙ scaled_row a (take b w) k ∙ ap (product a) (get_or-take b w k 0 l)
 
 -- the product of the first c entries, and of one more that is set
 pub product-more : (row : List ℕ) (c y : ℕ) → c < length row
@@ -45,6 +58,11 @@ module _ {A : Type 0} (F : Operations A) where
   unfolding factor
   factor_next r p zero below unit first later = ap (λ x. F.add x (F.mul r (p zero))) (first refl) ∙ unit (F.mul r (p zero))
   factor_next r p (suc k) below unit first later = ap (λ x. F.add x (F.mul r (p (suc k)))) (later (omega arith) ∙ ap p (omega arith))
+
+  pub factor-low : (r : A) (p : ℕ → A) (k : ℕ) → k < 1 → factor F r p k ≡ F.mul r (p k)
+  unfolding factor
+  factor-low r p zero l = refl
+  factor-low r p (suc k) l = absurd (omega arith)
 
   -- coefficients that agree below n
   pub factor-below : (n : ℕ) (r : A) {p q : ℕ → A} → ((k : ℕ) → k < n → p k ≡ q k)

@@ -3,7 +3,7 @@ use Rattle.std.proofs.Common.{◌≡◌, ℕ, ◌+◌, ◌-◌, get_or, sym, ap,
 use Rattle.std.specs.Int.Bits.{bit_xor, xor_zero_l}
 use Rattle.polynomial.specs.Polynomial.{factor}
 use Rattle.erasure.specs.Bytes.{bytes}
-use Rattle.erasure.proofs.Lagrange.{set_next, factor_next, scaled_at}
+use Rattle.erasure.proofs.Lagrange.{set_next, factor_next, scaled_row}
 use Rattle.erasure.proofs.times_factor.Goals as goal
 
 pub loop-k-preserved : goal.loop-k-preserved
@@ -15,7 +15,7 @@ loop-k-preserved c =
     let y = bit_xor l.below (get_or c.mul_row.new.row k 0) in
     let here : get_or l.w k 0 ≡ p k = l.invariant.1 k (omega arith) in
     let new : y ≡ factor bytes r p k =
-    ap (bit_xor l.below) (ap (λ v. get_or v k 0) c.mul_row.ensures ∙ scaled_at r c.args.w.now k)
+    ap (bit_xor l.below) (ap (λ v. get_or v k 0) c.mul_row.ensures ∙ scaled_row r c.args.w.now k)
     ∙ factor_next bytes r p k l.below (λ a. xor_zero_l a) l.invariant.2 l.invariant.3 in
     let last : k + 1 - 1 ≡ k = omega arith in (
       set_next l.w (factor bytes r p) k y (omega arith) l.invariant.0 new,
