@@ -16,48 +16,51 @@ const MAX_DIGITS: usize = 20;
 // The longest line: a number, a space, the sign, a space, two digits for each byte, and a newline.
 const MAX_LINE: usize = MAX_DIGITS + 4 + 2 * MAX_MESSAGE;
 
-// The longest word in front of a number.
+// The longest word in front of a number, and the longest line with one: the word, the number and a newline.
 const MAX_WORD: usize = 8;
 
-// A line as it is written, from its start on.
+const MAX_WORDED: usize = MAX_WORD + MAX_DIGITS + 1;
+
+// A line of at most N bytes as it is written, from its start on.
 #[derive(Drop)]
-struct Text {
-    bytes: [u8; MAX_LINE],
+struct Text<const N: usize> {
+    bytes: [u8; N],
     len: usize,
 }
 
-impl Model for Text {
+impl<const N: usize> Model for Text<N> {
     ghost use Rattle.std.specs.Prelude.{ℕ, ◌≤◌, List, take};
-    ghost use Rattle.report.specs.declared.TheConstants.{MAX_LINE};
 
     ghost Value = { List ℕ };
 
     ghost view = { λ t. take t.len t.bytes };
 
-    ghost invariant = { λ t. t.len ≤ MAX_LINE };
+    ghost invariant = { λ t. t.len ≤ N };
 }
 
-impl Text {
-    fn new() -> Text
+impl<const N: usize> Text<N> {
+    fn new() -> Text<N>
         ensures { result ≡ [] }
     {
         Text {
-            bytes: [0; MAX_LINE],
+            bytes: [0; N],
             len: 0,
         }
     }
 
     fn push(&mut self, s: &[u8])
-        requires { length self.old + length s.now ≤ MAX_LINE }
+        requires { length self.old + length s.now ≤ N }
         ensures { self.new ≡ self.old ++ s.now }
     {
-        let end = self.len + s.len();
-        self.bytes[self.len..end].copy_from_slice(s);
+        let at = self.len;
+        let end = at + s.len();
+        let bytes = &mut self.bytes[..];
+        bytes[at..end].copy_from_slice(s);
         self.len = end;
     }
 
     fn push_decimal(&mut self, x: usize)
-        requires { length self.old + MAX_DIGITS ≤ MAX_LINE }
+        requires { length self.old + MAX_DIGITS ≤ N }
         ensures text { self.new ≡ self.old ++ decimal x }
         ensures len { length self.new ≤ length self.old + MAX_DIGITS }
     {
@@ -67,7 +70,7 @@ impl Text {
 
     // Each byte as two hexadecimal digits.
     fn push_hex(&mut self, message: &[u8])
-        requires { length self.old + 2 * length message.now ≤ MAX_LINE }
+        requires { length self.old + 2 * length message.now ≤ N }
         ensures text { self.new ≡ self.old ++ hex message.now }
         ensures len { length self.new ≡ length self.old + 2 * length message.now }
     {
@@ -80,8 +83,7 @@ impl Text {
 
     // A space, the sign, the message if there is one, and a newline.
     fn push_ending(&mut self, some: bool, message: &[u8])
-        requires number { length self.old ≤ MAX_DIGITS }
-        requires message { length message.now ≤ MAX_MESSAGE }
+        requires { length self.old + 4 + 2 * length message.now ≤ N }
         ensures { self.new ≡ self.old ++ ending some message.now }
     {
         if !some {
@@ -117,7 +119,7 @@ pub fn line(number: usize, some: bool, message: &[u8], out: &mut [u8]) -> Writte
     if MAX_MESSAGE < message.len() {
         return Err(Refusal::Because(Cause::Length));
     }
-    let mut text = Text::new();
+    let mut text: Text<MAX_LINE> = Text::new();
     text.push_decimal(number);
     text.push_ending(some, message);
     text.give(out)
@@ -144,7 +146,7 @@ fn worded(word: &[u8], x: usize, out: &mut [u8]) -> Written
     requires { length word.now ≤ MAX_WORD }
     ensures { gave (said result) out.new ≡ written ((word.now ++ decimal x) ++ (newline ∷ [])) out.old }
 {
-    let mut text = Text::new();
+    let mut text: Text<MAX_WORDED> = Text::new();
     text.push(word);
     text.push_decimal(x);
     text.push(b"\n");

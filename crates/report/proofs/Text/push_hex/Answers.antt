@@ -6,10 +6,10 @@ use Rattle.report.proofs.Hexes.{hex_none, hex_more}
 use Rattle.report.proofs.Text.push_hex.Goals as goal
 
 pub loop-byte-init : goal.loop-byte-init
-loop-byte-init c = (omega arith, rw hex_none (sym (append-nil _)))
+loop-byte-init _ c = (omega arith, rw hex_none (sym (append-nil _)))
 
 pub loop-byte-preserved : goal.loop-byte-preserved
-loop-byte-preserved c =
+loop-byte-preserved _ c =
     let s = c.args.self.now in
     let l = c.loop-byte in
     let m = c.args.message.now in
