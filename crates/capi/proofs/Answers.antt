@@ -9,6 +9,7 @@ use native.Mathlib.Omega.{arith}
 use borrow.Author.Tests.{lt-ltb, le-ltb, eq-eqb, ne_eqb}
 use lib.ListN.{length}
 use Rattle.std.specs.Prelude.{Result as Answered, Ok, Err}
+use Rattle.cause.specs.declared.Cause.{Cause}
 use Rattle.cause.specs.declared.Refusal.{Refusal}
 use Rattle.cause.specs.declared.Refusal.TheVariants as refusal
 use Rattle.cause.proofs.Numbers.{number-nonzero}
@@ -123,26 +124,26 @@ module _ (H : List ℕ → List ℕ) (session n t own q : ℕ) (bs s z out : Lis
   ]
 
 -- what a refused opening by a named sender tells
-module _ (session n t own q : ℕ) (bs out : List ℕ) (r : OpenedBySender) (new : List ℕ) (e : Refusal)
+module _ (session n t own q : ℕ) (bs out : List ℕ) (r : OpenedBySender) (new : List ℕ) (e : Refusal Cause)
     (gives : begun r new ≡ open_by_sender_of sha256 session n t own q bs out) (short : r.answer ≡ Err e) where
   cause-told : (open_by_sender_of sha256 session n t own q bs out).opened.cause ≡ cause_of (said (Err e))
-  cause-told = sym (ap (λ (b : Begun). b.opened.cause) gives) ∙ ap (λ (a : Answered Started Refusal). (opened_by r.state a).cause) short ∙ of-cause e
+  cause-told = sym (ap (λ (b : Begun). b.opened.cause) gives) ∙ ap (λ (a : Answered Started (Refusal Cause)). (opened_by r.state a).cause) short ∙ of-cause e
     where
-      of-cause : (k : Refusal) → (opened_by r.state (Err k)).cause ≡ cause_of (said (Err k))
+      of-cause : (k : Refusal Cause) → (opened_by r.state (Err k)).cause ≡ cause_of (said (Err k))
       of-cause (refusal.Because c) = refl
       of-cause (refusal.Short l) = refl
 
   value-told : (open_by_sender_of sha256 session n t own q bs out).value ≡ value_of (said (Err e))
   value-told = sym (ap (λ (b : Begun). b.value) gives) ∙ ap value_by short ∙ of-value e
     where
-      of-value : (k : Refusal) → value_by (Err k) ≡ value_of (said (Err k))
+      of-value : (k : Refusal Cause) → value_by (Err k) ≡ value_of (said (Err k))
       of-value (refusal.Because c) = refl
       of-value (refusal.Short l) = refl
 
   refused-told : (open_by_sender_of sha256 session n t own q bs out).opened.cause ≡ 0 → ⊥
   refused-told h = nonzero e (sym cause-told ∙ h)
     where
-      nonzero : (k : Refusal) → cause_of (said (Err k)) ≡ 0 → ⊥
+      nonzero : (k : Refusal Cause) → cause_of (said (Err k)) ≡ 0 → ⊥
       nonzero (refusal.Because c) = number-nonzero c
       nonzero (refusal.Short l) = omega arith
 

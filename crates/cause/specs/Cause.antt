@@ -25,7 +25,7 @@ number cause.OtherRoot = 15
 abbrev pub IsNumber : Cause → ℕ → Type 0
 IsNumber c k = k ≡ number c
 
-abbrev pub IsCause : Cause → Refusal → Type 0
+abbrev pub IsCause : Cause → Refusal Cause → Type 0
 IsCause c r = r ≡ refusal.Because c
 
 -- the number of the cause for which a call was refused; 0 if it was not

@@ -46,11 +46,11 @@ impl From<Cause> for u8 {
     }
 }
 
-// Why bytes were not written to a lent buffer.
+// Why bytes were not written to a lent buffer. Causes of another kind may stand in the place of this crate's.
 #[derive(Clone, Copy, Debug, PartialEq, Eq)]
-pub enum Refusal {
+pub enum Refusal<C = Cause> {
     // For this cause.
-    Because(Cause),
+    Because(C),
     // Cause 9: the buffer is shorter than this.
     Short(usize),
 }

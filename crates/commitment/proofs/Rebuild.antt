@@ -64,7 +64,7 @@ short-under H session n t z (message m) s = go (same (message_root H session n t
     go false = tt
 
 -- the answer of rebuilding in a buffer that any message fits: a message found
-module _ (o out : List ℕ) (r : Result ℕ Refusal) (room : length out ≡ max_message) where
+module _ (o out : List ℕ) (r : Result ℕ (Refusal Cause)) (room : length out ≡ max_message) where
   pub answer-found : (a : Recovered) → Short a → gave (said r) o ≡ answered a out → (l : ℕ) → r ≡ Ok l
       → (a ≡ message (take l o)) × (l ≤ max_message) × (l ≤ length o)
   answer-found (cause k) s e l q =
@@ -119,7 +119,7 @@ module _ (n t : ℕ) (es out : List ℕ) where
         go false = refl
 
 -- rebuilding answered r, and o stands in its buffer
-module _ (n t : ℕ) (es : List ℕ) (fine : group_cause n t ≡ 0) (o room : List ℕ) (r : Result ℕ Refusal) (long : length room ≡ max_message)
+module _ (n t : ℕ) (es : List ℕ) (fine : group_cause n t ≡ 0) (o room : List ℕ) (r : Result ℕ (Refusal Cause)) (long : length room ≡ max_message)
     (told : gave (said r) o ≡ rebuild_of n t es room) where
   answer_given : gave (said r) o ≡ answered (entries_found n t es) room
   answer_given = told ∙ rebuild-entries n t es room fine
@@ -144,9 +144,9 @@ module _ (n t : ℕ) (es : List ℕ) (fine : group_cause n t ≡ 0) (o room : Li
 
   -- what the form with a root answers: the same cause
   module _ (H : List ℕ → List ℕ) (session : ℕ) (z : List ℕ) (wide : length z ≡ 32) (out : List ℕ) where
-    pub with-root-cause : (e : Refusal) → r ≡ Err e → (q : Result ℕ Refusal) → q ≡ Err e → gave (said q) out ≡ rebuild_with_root_of H session n t z es out
+    pub with-root-cause : (e : Refusal Cause) → r ≡ Err e → (q : Result ℕ (Refusal Cause)) → q ≡ Err e → gave (said q) out ≡ rebuild_with_root_of H session n t z es out
     with-root-cause e is q err =
-        ap (λ (x : Result ℕ Refusal). gave (said x) out) (err ∙ sym is)
+        ap (λ (x : Result ℕ (Refusal Cause)). gave (said x) out) (err ∙ sym is)
         ∙ go (entries_found n t es) (short-entries n t es) answer_given
         ∙ sym (with-root-entries n t es out H session z fine wide)
       where

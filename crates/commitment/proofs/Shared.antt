@@ -14,6 +14,7 @@ use Rattle.limits.specs.Limits.{max_parties, max_message, max_share}
 use Rattle.limits.proofs.Group.{group-fine}
 use Rattle.buffer.specs.Splice.{spliced}
 use Rattle.std.specs.Prelude.{Result, Ok}
+use Rattle.cause.specs.declared.Cause.{Cause}
 use Rattle.cause.specs.declared.Refusal.{Refusal}
 use Rattle.buffer.specs.Given.{Given, gave, said}
 use Rattle.buffer.proofs.Splice.{take-spliced}
@@ -88,7 +89,7 @@ module _ (n t : ℕ) (m out : List ℕ) (low : 1 ≤ n) (high : n ≤ max_partie
       (omega (arith, length-shares n (n - t) m, shares-bound n t (length m) faults high short))
 
 -- so encoding is not refused, and the array's first bytes are the shares
-module _ (n t : ℕ) (m out : List ℕ) (c : Coded n t m) (e : length out ≡ max_shares) (r : Result ℕ Refusal) (o : List ℕ)
+module _ (n t : ℕ) (m out : List ℕ) (c : Coded n t m) (e : length out ≡ max_shares) (r : Result ℕ (Refusal Cause)) (o : List ℕ)
     (given : gave (said r) o ≡ encode_of n t m out) where
   abbrev all : List ℕ
   all = shares n (n - t) m

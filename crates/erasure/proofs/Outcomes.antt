@@ -132,11 +132,11 @@ pub group_fits : (n t : ℕ) → group_cause n t ≡ 0 → (group_cause n t ≡ 
 group_fits n t e = let g = group_of n t e in (refl, g.low, g.high, g.faults)
 
 -- the answer of an Option that is None, by `ok_or` and `?`
-pub none-because : {A : Type 0} (o : Option A) (k e : Cause) (r : Result ℕ Refusal) (out : List ℕ) → o ≡ None → Err e ≡ ok_or o k
+pub none-because : {A : Type 0} (o : Option A) (k e : Cause) (r : Result ℕ (Refusal Cause)) (out : List ℕ) → o ≡ None → Err e ≡ ok_or o k
     → IsErrAnd r (IsCause e) → gave (said r) out ≡ gave (Refused (number k)) out
 none-because {A} o k e r out none is h = gave-because r e (number k) out h (ap cause_of is ∙ ap (λ (p : Option A). cause_of (ok_or p k)) none)
 
 -- the same of an answer that is itself a cause
-pub err-because : (n t : ℕ) (e : Cause) (r : Result ℕ Refusal) (out : List ℕ) → number e ≡ group_cause n t
+pub err-because : (n t : ℕ) (e : Cause) (r : Result ℕ (Refusal Cause)) (out : List ℕ) → number e ≡ group_cause n t
     → IsErrAnd r (IsCause e) → (group_cause n t ≢ 0) × (gave (said r) out ≡ gave (Refused (group_cause n t)) out)
 err-because n t e r out is h = (λ q. number-nonzero e (is ∙ q), gave-because r e (group_cause n t) out h is)

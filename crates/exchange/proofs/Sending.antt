@@ -12,6 +12,7 @@ use Rattle.limits.specs.Limits.{max_entry, max_plan, parties, numbered}
 use Rattle.buffer.specs.Splice.{spliced, tabulate}
 use Rattle.buffer.specs.Entries.{entry_at}
 use Rattle.std.specs.Prelude.{Result, Ok, Err}
+use Rattle.cause.specs.declared.Cause.{Cause}
 use Rattle.cause.specs.declared.Refusal.{Refusal}
 use Rattle.cause.specs.declared.Refusal.TheVariants.{Because, Short}
 use Rattle.buffer.specs.Given.{Given, said, gave, value_of, written}
@@ -39,15 +40,15 @@ given-done f out a o room e =
     (ap (λ (x : Given). x.value) w, ap (λ (x : Given). x.buffer) w)
 
 -- the same by the result that says it
-said-done : (r : Result ℕ Refusal) (n : ℕ) → said r ≡ Done n → r ≡ Ok n
+said-done : (r : Result ℕ (Refusal Cause)) (n : ℕ) → said r ≡ Done n → r ≡ Ok n
 said-done (Ok k) n h = ap (λ (x : Written). Ok (value_of x)) h
 said-done (Err (Because c)) n h = absurd (cc)
 said-done (Err (Short k)) n h = absurd (cc)
 
-pub ok-same : (r : Result ℕ Refusal) (j k : ℕ) → r ≡ Ok j → r ≡ Ok k → j ≡ k
-ok-same r j k a b = ap (λ (x : Result ℕ Refusal). value_of (said x)) (sym a ∙ b)
+pub ok-same : (r : Result ℕ (Refusal Cause)) (j k : ℕ) → r ≡ Ok j → r ≡ Ok k → j ≡ k
+ok-same r j k a b = ap (λ (x : Result ℕ (Refusal Cause)). value_of (said x)) (sym a ∙ b)
 
-pub given-ok : (f out : List ℕ) (r : Result ℕ Refusal) (o : List ℕ) → length f ≤ length out → gave (said r) o ≡ written f out
+pub given-ok : (f out : List ℕ) (r : Result ℕ (Refusal Cause)) (o : List ℕ) → length f ≤ length out → gave (said r) o ≡ written f out
     → (r ≡ Ok (length f)) × (o ≡ spliced out 0 f)
 given-ok f out r o room e =
     let w = e ∙ written-done f out room in

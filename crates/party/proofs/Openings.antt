@@ -71,18 +71,18 @@ module _ (H : List ℕ → List ℕ) (session n t own sender : ℕ) (bs out : Li
             ∙ sym (begun-given n t own sender bs H session out fine (omega (arith, size)))
       ]
 
-      pub sent-none : (r : Refusal) → gave (said (Err r)) left ≡ write_message_of bs out
+      pub sent-none : (r : Refusal Cause) → gave (said (Err r)) left ≡ write_message_of bs out
           → begun (record { state = blank_state; answer = Err r }) left ≡ open_by_sender_of H session n t own sender bs out
       sent-none r told = elim (dec_lt (length out) (3 + length bs)) [
         | yes l ↦ short-of r (told ∙ write-short bs out short l) l
         | no d ↦ absurd (unlike r (ap (λ (g : Given). g.answer) (told ∙ write_done bs out short (omega arith))))
       ]
         where
-          unlike : (r : Refusal) → said (Err r) ≡ Done (3 + length bs) → ⊥
+          unlike : (r : Refusal Cause) → said (Err r) ≡ Done (3 + length bs) → ⊥
           unlike (refusal.Because c) e = let f : Refused (number c) ≡ Done (3 + length bs) = e in cc
           unlike (refusal.Short k) e = let f : Short k ≡ Done (3 + length bs) = e in cc
 
-          short-of : (r : Refusal) → gave (said (Err r)) left ≡ gave (Short (3 + length bs)) out → length out < 3 + length bs
+          short-of : (r : Refusal Cause) → gave (said (Err r)) left ≡ gave (Short (3 + length bs)) out → length out < 3 + length bs
               → begun (record { state = blank_state; answer = Err r }) left ≡ open_by_sender_of H session n t own sender bs out
           short-of (refusal.Because c) e l = let f : Refused (number c) ≡ Short (3 + length bs) = ap (λ (g : Given). g.answer) e in absurd cc
           short-of (refusal.Short k) e l =

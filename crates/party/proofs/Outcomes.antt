@@ -12,6 +12,7 @@ use lib.Dec.{ltb, eqb}
 use lib.ListN.{length}
 use Rattle.buffer.specs.Splice.{spliced}
 use Rattle.std.specs.Prelude.{Result as Answered, Ok, Err}
+use Rattle.cause.specs.declared.Cause.{Cause}
 use Rattle.cause.specs.declared.Refusal.{Refusal}
 use Rattle.cause.specs.declared.Refusal.TheVariants as refusal
 use Rattle.buffer.specs.Given.{Given, Written, said, gave, written}
@@ -162,13 +163,13 @@ written_told x next (goal.Refused k) o = gives x (answer.Refused k) o
 written_told x next (goal.Short k) o = gives x (answer.Short k) o
 written_told x next (goal.Done k) o = gives next (answer.Sent k) o
 
-after-told : (x next : Party) (r : Answered ℕ Refusal) (o : List ℕ) → stepped (after x next r) o ≡ written_told x next (said r) o
+after-told : (x next : Party) (r : Answered ℕ (Refusal Cause)) (o : List ℕ) → stepped (after x next r) o ≡ written_told x next (said r) o
 after-told x next (Ok k) o = refl
 after-told x next (Err (refusal.Because c)) o = refl
 after-told x next (Err (refusal.Short k)) o = refl
 
 -- what is sent: the answer of the writer says whether the state is the next one
-pub writes-given : (x next : Party) (bs out : List ℕ) (r : Answered ℕ Refusal) (o : List ℕ) → gave (said r) o ≡ written bs out
+pub writes-given : (x next : Party) (bs out : List ℕ) (r : Answered ℕ (Refusal Cause)) (o : List ℕ) → gave (said r) o ≡ written bs out
     → stepped (after x next r) o ≡ writes x next bs out
 unfolding written
 writes-given x next bs out r o e =

@@ -2,6 +2,7 @@
 -- rebuilding. Assumes nothing.
 use Rattle.std.proofs.Common.{◌≡◌, Bool, true, false, cond, List, ℕ, ◌-◌, ◌≤◌, length, take, replicate, Result, Ok, refl, sym, ap, ◌∙◌, arith}
 use Rattle.std.proofs.lemmas.List.{length-replicate, length-take-le}
+use Rattle.cause.specs.declared.Cause.{Cause}
 use Rattle.cause.specs.declared.Refusal.{Refusal}
 use Rattle.sha256.specs.Sha256.{sha256}
 use Rattle.limits.specs.Limits.{max_message}
@@ -24,7 +25,7 @@ use Rattle.party.proofs.Outcomes.{found-rebuilt}
 use Rattle.party.proofs.Taking.{rebuilt-of}
 
 module _ (x : Party) (s : List ℕ) (f : Fit x) (ps : List Place) (g : Gathered x.seat.n (gathered sha256 x 1 (bodies x.seat.n s)) s (share_held x) ps)
-    (r : Result ℕ Refusal) (left : List ℕ) (given : gave (said r) left ≡ rebuild_at_of x.seat.n x.seat.t s (share_held x) ps (replicate max_message 0)) where
+    (r : Result ℕ (Refusal Cause)) (left : List ℕ) (given : gave (said r) left ≡ rebuild_at_of x.seat.n x.seat.t s (share_held x) ps (replicate max_message 0)) where
   abbrev Room : List ℕ
   Room = replicate max_message 0
 

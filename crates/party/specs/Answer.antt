@@ -1,6 +1,7 @@
 -- The answers of a party's opening and of its steps, by document 01's numbers, and what the code's results say as such. Assumes nothing.
 use Rattle.std.specs.Prelude.{Bool, List, ℕ, Result, Ok, Err}
 use Rattle.cause.specs.Cause.{number}
+use Rattle.cause.specs.declared.Cause.{Cause}
 use Rattle.cause.specs.declared.Refusal.{Refusal}
 use Rattle.cause.specs.declared.Refusal.TheVariants as refusal
 use Rattle.merkle.specs.Shares.{blank}
@@ -21,12 +22,12 @@ abbrev pub opened : Opening → Opened
 opened o = record { state = o.state; cause = (root_said o.root).cause; root = (root_said o.root).root }
 
 -- the same of an opening by a named sender; and how many bytes were written for the others, or are needed with cause 9
-abbrev pub opened_by : Party → Result Begun Refusal → Opened
+abbrev pub opened_by : Party → Result Begun (Refusal Cause) → Opened
 opened_by x (Ok b) = record { state = x; cause = 0; root = b.root }
 opened_by x (Err (refusal.Because c)) = record { state = x; cause = number c; root = blank }
 opened_by x (Err (refusal.Short k)) = record { state = x; cause = 9; root = blank }
 
-abbrev pub value_by : Result Begun Refusal → ℕ
+abbrev pub value_by : Result Begun (Refusal Cause) → ℕ
 value_by (Ok b) = b.len
 value_by (Err (refusal.Because c)) = 0
 value_by (Err (refusal.Short k)) = k
@@ -39,7 +40,7 @@ pub data Answer : Type 0 where
   Sent Nothing : ℕ → Answer
   Message : ℕ → ℕ → Answer
 
-abbrev pub answered : Result Taken Refusal → Answer
+abbrev pub answered : Result Taken (Refusal Cause) → Answer
 answered (Ok (taken.Happy b)) = Happy b
 answered (Ok (taken.Sent l)) = Sent l
 answered (Ok (taken.Nothing f)) = Nothing f

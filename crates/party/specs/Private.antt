@@ -121,12 +121,12 @@ pub record Gathered (n : ℕ) (shares : List (List ℕ)) (x y : List ℕ) (p : L
   pub parts : parts_at n (x ++ y) p ≡ shares
 
 -- what comes of writing: the next state where bytes were written, else the state as it was
-abbrev pub after : Party → Party → Result ℕ Refusal → Reply
+abbrev pub after : Party → Party → Result ℕ (Refusal Cause) → Reply
 after x next (Ok k) = record { state = next; answer = Ok (answer.Sent k) }
 after x next (Err r) = record { state = x; answer = Err r }
 
 -- an opening, of which so many bytes were written for the others
-abbrev pub begun_with : Result (List ℕ) Cause → ℕ → Result Begun Refusal
+abbrev pub begun_with : Result (List ℕ) Cause → ℕ → Result Begun (Refusal Cause)
 begun_with (Ok z) l = Ok (record { root = z; len = l })
 begun_with (Err c) l = Err (refusal.Because c)
 

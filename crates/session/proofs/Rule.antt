@@ -124,7 +124,7 @@ root-or-blank : (r : Result (List ℕ) Cause) → result_unwrap_or r blank ≡ (
 root-or-blank (Ok w) = refl
 root-or-blank (Err c) = refl
 
-pub opening-by : (x : Party) (r : Result Told Refusal) (w : List ℕ) → w ≡ root_begun r
+pub opening-by : (x : Party) (r : Result Told (Refusal Cause)) (w : List ℕ) → w ≡ root_begun r
     → ◌≡◌ {A = Opening} (record { state = x; root = w }) (opening_of (opened_by x r))
 opening-by x (Ok b) w h = ap {B = Opening} (λ (l : List ℕ). record { state = x; root = l }) h
 opening-by x (Err (refusal.Because c)) w h = ap {B = Opening} (λ (l : List ℕ). record { state = x; root = l }) h
@@ -134,12 +134,12 @@ pub opening-plain : (x : Party) (r : Result (List ℕ) Cause) (w : List ℕ) →
     → ◌≡◌ {A = Opening} (record { state = x; root = w }) (record { state = x; root = (root_said r).root })
 opening-plain x r w h = ap {B = Opening} (λ (l : List ℕ). record { state = x; root = l }) (h ∙ root-or-blank r)
 
-pub begun-ok : (x : Party) (r : Result Told Refusal) → (opened_by x r).cause ≡ 0 → IsOk r
+pub begun-ok : (x : Party) (r : Result Told (Refusal Cause)) → (opened_by x r).cause ≡ 0 → IsOk r
 begun-ok x (Ok b) e = refl
 begun-ok x (Err (refusal.Because c)) e = elim (number-nonzero c e) [ ]
 begun-ok x (Err (refusal.Short k)) e = absurd (let z : ◌≡◌ {A = ℕ} 9 0 = e in omega arith)
 
-pub begun-value : (r : Result Told Refusal) (b : Told) → r ≡ Ok b → value_by r ≡ b.len
+pub begun-value : (r : Result Told (Refusal Cause)) (b : Told) → r ≡ Ok b → value_by r ≡ b.len
 begun-value r b e = ap value_by e
 
 -- what the code reads of such a plan is what the definitions say

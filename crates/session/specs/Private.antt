@@ -4,6 +4,7 @@ use denote.Ref.{Bor}
 use Rattle.std.specs.declared.option.Option.{Option}
 use Rattle.limits.specs.Limits.{max_parties, max_message}
 use Rattle.sha256.specs.Sha256.{sha256}
+use Rattle.cause.specs.declared.Cause.{Cause}
 use Rattle.cause.specs.declared.Refusal.{Refusal}
 use Rattle.merkle.specs.Shares.{blank, same}
 use Rattle.party.specs.Steps.{Stepped}
@@ -92,7 +93,7 @@ pub record Finishing (s : List ℕ) (relays : Outgoing) (state : Party) (q : ℕ
 abbrev pub opening_of : Opened → Opening
 opening_of x = record { state = x.state; root = x.root }
 
-abbrev pub root_begun : Result Begun Refusal → List ℕ
+abbrev pub root_begun : Result Begun (Refusal Cause) → List ℕ
 root_begun (Ok b) = b.root
 root_begun (Err e) = blank
 

@@ -1,6 +1,7 @@
 -- `exchange::Inbox::entry` meets its contract: the packet behind two bytes, and then its length in these. Assumes nothing.
 use Rattle.std.proofs.Common.{Result, Ok, ◌≡◌, ◌∙◌, refl, ap, List, ℕ, [], ◌∷◌, ◌++◌, ◌+◌, ◌-◌, ◌/◌, ◌%◌, ◌≤◌, ◌<◌, length, take, drop, arith, length-drop}
 use Rattle.limits.specs.Limits.{max_entry}
+use Rattle.cause.specs.declared.Cause.{Cause}
 use Rattle.cause.specs.declared.Refusal.{Refusal}
 use Rattle.buffer.specs.Given.{said, gave, written}
 use Rattle.packet.specs.Format.{entry_of}
@@ -15,7 +16,7 @@ use Rattle.exchange.proofs.Rooms.{sent-within}
 use Rattle.exchange.proofs.Inbox.entry.Goals as goal
 
 -- what is written behind the first two bytes of a buffer with room for it
-behind-two : (w o b : List ℕ) (r : Result ℕ Refusal) → 2 + length w ≤ length o → gave (said r) b ≡ written w (take (length o - 2) (drop 2 o))
+behind-two : (w o b : List ℕ) (r : Result ℕ (Refusal Cause)) → 2 + length w ≤ length o → gave (said r) b ≡ written w (take (length o - 2) (drop 2 o))
     → (r ≡ Ok (length w)) × (b ≡ spliced (drop 2 o) 0 w)
 behind-two w o b r room e =
     let g = given-ok w (take (length o - 2) (drop 2 o)) r b (omega (arith, ap length (part-rest o 2), length-drop 2 o, room)) e in

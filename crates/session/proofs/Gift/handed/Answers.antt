@@ -1,6 +1,7 @@
 -- `Gift::handed` meets its contract: to the sender its book, to another one what a good sender wrote, or what the plan says. Assumes nothing.
 use Rattle.std.proofs.Common.{List, ℕ, take, sym, ap, ◌∙◌, arith}
 use Rattle.sha256.specs.Sha256.{sha256}
+use Rattle.cause.specs.Cause.{number}
 use Rattle.buffer.specs.Given.{said}
 use Rattle.buffer.proofs.Parts.{part-rest}
 use Rattle.plan.specs.Plan.{block_given}
@@ -43,7 +44,7 @@ returns c =
     let bad = sym (c.is_good.ensures ∙ sender-good _ _ k g.named g.sender g.sender_is) ∙ c.if-is_good.false in
     let t = block-told s p.parts k g.named bad q c.args.out.now (omega (arith, c.requires)) (said c.block.result) _
     (c.block.ensures ∙ ap (λ (l : List ℕ). block_given p.parts.n q l c.args.out.now) (part-rest s p.parts.packets)) in
-    let v = c.value_of.ensures in (
+    let v = c.value_of.ensures number in (
       omega (arith, v, t.0),
       ap (λ (i : ℕ). take i c.block.new.out) v ∙ t.1
           ∙ sym (handed-bad s (taken p) sha256 q (λ e. c.if-q-sender.false (e ∙ sym g.sender_is)) bad),

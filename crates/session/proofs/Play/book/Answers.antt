@@ -5,6 +5,7 @@ use Prim.Native.Nat.{ℕ}
 use native.Mathlib.Omega.{arith}
 use Rattle.session.proofs.Rule.{known}
 use lib.ListN.{take}
+use Rattle.cause.specs.Cause.{number}
 use Rattle.buffer.specs.Given.{said}
 use Rattle.buffer.proofs.Parts.{part-rest}
 use Rattle.plan.specs.Plan.{book_given}
@@ -24,5 +25,5 @@ returns c =
     let o = c.args.out.now in
     let t = book-told s p.parts (known p) c.args.q o c.requires (said c.book.result) _
     (c.book.ensures ∙ ap (λ (l : List ℕ). book_given p.parts.n p.parts.holders c.args.q l o) (part-rest s p.parts.books)) in
-    let v = c.value_of.ensures in
+    let v = c.value_of.ensures number in
     (omega (arith, v, t.0), ap (λ (k : ℕ). take k c.book.new.out) v ∙ t.1)

@@ -7,6 +7,7 @@ use Rattle.session.proofs.Rule.{known}
 use native.Mathlib.Nat.{mul-le-mul_right}
 use lib.ListN.{length, take, drop}
 use Rattle.limits.specs.Limits.{max_parties}
+use Rattle.cause.specs.Cause.{number}
 use Rattle.buffer.specs.Given.{said}
 use Rattle.buffer.proofs.Parts.{part-rest}
 use Rattle.plan.specs.Layout.{n_in, good_in, exchange_in, exchange_at}
@@ -71,7 +72,7 @@ returns c =
     let sent = a.sent.now in
     let w = inbox-filled (M p e) sent.slots sent.lens (Blocks p at) a.i (lawful p e at a.i h c.requires.0 c.requires.1) a.out.now
     (omega (arith, room p e, c.requires.2)) (said c.fill.result) _ c.fill.ensures in
-    let v = c.value_of.ensures in
+    let v = c.value_of.ensures number in
     let slots : ℕ → List ℕ = slot_of max_outbox sent.slots sent.lens in (
       omega (arith, v, w.0),
       ap (λ (y : ℕ). take y c.fill.new.out) v ∙ w.1

@@ -2,6 +2,7 @@
 -- nor finds the buffer short. Assumes nothing.
 use Rattle.std.proofs.Common.{◌≡◌, ℕ, ◌-◌, ◌*◌, ◌≤◌, List, [], ◌∷◌, length, take, drop, sym, ap, ap₂, ◌∙◌, arith}
 use Rattle.std.specs.Prelude.{Result, Ok, is_ok}
+use Rattle.cause.specs.declared.Cause.{Cause}
 use Rattle.cause.specs.declared.Refusal.{Refusal}
 use Rattle.sha256.specs.Sha256.{sha256}
 use Rattle.buffer.specs.Given.{Given, Done, said, gave}
@@ -21,7 +22,7 @@ use Rattle.commitment.proofs.shares.Shares.write_entry.Goals as goal
 module _ (s : Shares) (j : ℕ) (first : 1 ≤ j) (last : j ≤ s.seat.n) (other : j ≡ s.seat.own → ⊥) (out : List ℕ) (room : length (entry s j) ≤ length out)
     (count : ℕ) (few : count ≡ length (sides_of s.seat.n j)) (share : List ℕ) (cut : share ≡ take s.len (drop ((j - 1) * s.len) s.all.now))
     (path : List (List ℕ)) (read : path ≡ path_in s.seat.n j s.leaves.now s.nodes.now)
-    (r : Result ℕ Refusal) (o : List ℕ) (given : gave (said r) o ≡ write_entry_of s.seat.n j share path count out) where
+    (r : Result ℕ (Refusal Cause)) (o : List ℕ) (given : gave (said r) o ≡ write_entry_of s.seat.n j share path count out) where
   wrote : gave (said r) o ≡ gave (Done (length (entry s j))) (spliced out 0 (entry s j))
   wrote =
       let n : ℕ = s.seat.n in
