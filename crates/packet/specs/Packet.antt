@@ -11,11 +11,15 @@ pub data Packet : Type 0 where
   Silence : Packet
   Share : ℕ → ℕ → ℕ → ℕ → Packet
 
--- the answer that a result says
+-- the answer that a result says, by a numbering of its causes
+abbrev pub read_by : {E : Type 0} → (E → ℕ) → Result (Option Parts) E → Packet
+read_by f (Err e) = Refused (f e)
+read_by f (Ok None) = Silence
+read_by f (Ok (Some s)) = Share s.number s.from s.len s.count
+
+-- the same by document 01's numbers
 abbrev pub read_said : Result (Option Parts) Cause → Packet
-read_said (Err c) = Refused (number c)
-read_said (Ok None) = Silence
-read_said (Ok (Some s)) = Share s.number s.from s.len s.count
+read_said = read_by number
 
 -- an entry: its packet, and the place of the next one
 pub record Entry : Type 0 where

@@ -1,14 +1,14 @@
 // Packets: the bytes in which one party sends another a share with its audit path, or a whole message. Reading them, judging them, and writing them.
 #![tactic(auto)]
 
-ghost use Rattle.std.specs.Prelude.{◌≡◌, ◌≢◌, drop, ◌+◌, ◌*◌, ◌≤◌, ◌<◌, ◌++◌, length, MatchOption, MatchResult};
+ghost use Rattle.std.specs.Prelude.{◌≡◌, ◌≢◌, ℕ, drop, ◌+◌, ◌*◌, ◌≤◌, ◌<◌, ◌++◌, length, MatchOption, MatchResult};
 ghost use Rattle.limits.specs.Limits.{max_parties, max_path, max_share};
 ghost use Rattle.buffer.specs.Given.{said, gave, written};
 ghost use Rattle.packet.specs.Format.{share_in};
 ghost use Rattle.sha256.specs.Sha256.{sha256};
 ghost use Rattle.cause.specs.Cause.{number as number_of};
 ghost use Rattle.packet.specs.Packet as packet;
-ghost use Rattle.packet.specs.Packet.{read_said, entry_said};
+ghost use Rattle.packet.specs.Packet.{read_said, read_by, entry_said};
 ghost use Rattle.packet.specs.Judged.{judgement, judged_said};
 ghost use Rattle.packet.specs.Answer.{told, read_at, placed, told_entry, entry_read, next_at, path_at, verdict, verdict_on, judge_of};
 ghost use Rattle.packet.specs.Answer.{write_cause, write_of, write_entry_of};
@@ -142,17 +142,18 @@ pub fn path_at(s: &[u8], at: usize, count: usize) -> [Hash; MAX_PATH]
     path
 }
 
-// Judges a packet that was read from s: whether it bears number j and its path leads to the root under the session's number. Cause 1, 3 or 7.
+// Judges a packet that was read from s: whether it bears number j and its path leads to the root under the session's number. Cause 1, 3 or 7. Why a packet was
+// not read plays no part in it, whatever the kind of that cause.
 #[tactic(auto, using(std::proofs::lemmas::Bool::Decides::nat_tests), unfolding(limits::specs::Limits::parties, limits::specs::Limits::numbered, crate::specs::Answer::judge_of))]
-pub fn judge(
+pub fn judge<E: Copy>(
     session: u32,
     n: usize,
     j: usize,
     root: &[u8],
     s: &[u8],
-    packet: Read,
+    packet: Result<Option<Share>, E>,
 ) -> Result<Judged, Cause>
-    ensures { verdict (judged_said result) ≡ verdict (judge_of sha256 session n j root.now s.now (read_said packet)) }
+    ensures { (f : E → ℕ) → verdict (judged_said result) ≡ verdict (judge_of sha256 session n j root.now s.now (read_by f packet)) }
 {
     if !limits::parties(n) {
         return Err(Cause::Parties);
