@@ -138,10 +138,10 @@ pub part-byte : (s : List ℕ) (at n c : ℕ) → c < n → get_or (take (at + n
 part-byte s at n c h = get_or-take (at + n - at) (drop at s) c 0 (omega arith) ∙ get_or-drop at s c 0
 
 -- two bytes and a message put into an array of zeros
-pub frame-array : (hi lo k n : ℕ) (h y m : List ℕ) → h ≡ hi ∷ lo ∷ [] → y ≡ m → (i : ℕ)
-    → get_or (put_mid 2 k (h ++ drop 2 (replicate n 0)) y) i 0 ≡ get_or (hi ∷ lo ∷ m) i 0
-frame-array hi lo k n h y m e f i =
-    let z : List ℕ = drop 2 (replicate n 0) in
+pub frame-array : (hi lo k : ℕ) (x h y m : List ℕ) → ((i : ℕ) → get_or x i 0 ≡ 0) → h ≡ hi ∷ lo ∷ [] → y ≡ m → (i : ℕ)
+    → get_or (put_mid 2 k (h ++ drop 2 x) y) i 0 ≡ get_or (hi ∷ lo ∷ m) i 0
+frame-array hi lo k x h y m none e f i =
+    let z : List ℕ = drop 2 x in
     ap₂ (λ (p q : List ℕ). get_or (put_mid 2 k (p ++ z) q) i 0) e f
     ∙ zeros-past (hi ∷ lo ∷ m) (drop k z)
-    (λ j. get_or-drop k z j 0 ∙ get_or-drop 2 (replicate n 0) (k + j) 0 ∙ all-zero n (2 + (k + j))) i
+    (λ j. get_or-drop k z j 0 ∙ get_or-drop 2 x (k + j) 0 ∙ none (2 + (k + j))) i

@@ -50,13 +50,12 @@ fn share_length(b: usize, len: usize) -> usize
     (len + 2).div_ceil(b)
 }
 
-// Writes the frame of a message, and zeros past it. It is written where it is used, as is that of shares: one given back by value lies on the stack twice.
+// Writes the frame of a message into an array of zeros of the caller's, as is done with that of shares: given back by value, one lies on the stack twice and more.
 fn frame_of(message: &[u8], frame: &mut [u8; MAX_FRAME])
-    requires { length message.now ≤ max_message }
+    requires { (length message.now ≤ max_message) × ((i : ℕ) → get_or frame.old i 0 ≡ 0) }
     ensures { (i : ℕ) → get_or frame.new i 0 ≡ get_or (headed message.now) i 0 }
 {
     let len = message.len();
-    frame.fill(0);
     frame[..2].copy_from_slice(&(len as u16).to_be_bytes());
     frame[2..len + 2].copy_from_slice(message);
 }
@@ -353,14 +352,14 @@ fn add_share(frame: &mut [u8], coefficients: &[u8], share: &[u8])
     }
 }
 
-// Writes the frame of shares of s bytes to the start of an array: they are added one after the other.
+// Writes the frame of shares of s bytes to the start of an array of zeros: they are added one after the other.
 fn whole_frame(shares: &[Share], s: usize, frame: &mut [u8; MAX_FRAME])
     requires { (length shares.now ≤ max_parties) × (length shares.now * s ≤ max_share + max_parties)
-        × ((m : ℕ) → m < length shares.now → length (point (points shares.now) m).share ≡ s) }
+        × ((m : ℕ) → m < length shares.now → length (point (points shares.now) m).share ≡ s)
+        × ((i : ℕ) → get_or frame.old i 0 ≡ 0) }
     ensures { take (length shares.now * s) frame.new ≡ framed (length shares.now) s (points shares.now) }
 {
     let b = shares.len();
-    frame.fill(0);
     for (m, share) in shares.iter().enumerate() {
         let row = basis_of(shares, m);
         add_share(frame, &row[..b], share.bytes);

@@ -7,7 +7,7 @@ use Rattle.buffer.specs.Given.{Short, Done}
 use Rattle.buffer.proofs.Given.{written-short, written-done}
 use Rattle.erasure.specs.Coding.{frame, shares}
 use Rattle.erasure.specs.Arrays.{shares_of}
-use Rattle.erasure.proofs.Arrays.{blocks-small, length-shares, shares_of-cong, shares-frame}
+use Rattle.erasure.proofs.Arrays.{all-zero, blocks-small, length-shares, shares_of-cong, shares-frame}
 use Rattle.erasure.proofs.Frame.{share-high, share-most, get_or-frame}
 use Rattle.erasure.proofs.Outcomes.{err-because, encode-refused, encode-long, encode-written}
 use Rattle.erasure.proofs.encode.Goals as goal
@@ -41,6 +41,9 @@ returns-then-out-need c =
     ap (λ k. gave (Short k) a.out.now) need
     ∙ sym (encode-written a.n a.t m a.out.now fine c.if-message-gt-MAX_MESSAGE.false
     ∙ written-short (shares a.n (a.n - a.t) m) a.out.now (omega (arith, need)))
+
+pub frame_of-requires : goal.frame_of-requires
+frame_of-requires c = (c.if-message-gt-MAX_MESSAGE.false, all-zero 3090)
 
 pub write_shares-requires : goal.write_shares-requires
 write_shares-requires c =

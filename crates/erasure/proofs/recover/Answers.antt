@@ -3,6 +3,7 @@ use Rattle.std.proofs.Common.{take, sym, ap, ◌∙◌, arith}
 use Rattle.cause.specs.declared.Cause.TheVariants as cause
 use Rattle.erasure.specs.Rebuild.{present, answered}
 use Rattle.erasure.specs.Arrays.{slices}
+use Rattle.erasure.proofs.Arrays.{all-zero}
 use Rattle.erasure.proofs.Outcomes.{recovered-few, none-because}
 use Rattle.erasure.proofs.Points.{even-lengths, used-count, used-joined, used-framed}
 use Rattle.erasure.proofs.recover.Goals as goal
@@ -32,7 +33,7 @@ whole_frame-requires c =
     let h = rw c.in_ok-lowest.ensures.ok_part at c.lowest_present.ensures in
     let even = rw c.in_ok-s.ensures.ok_part at c.size_of.ensures in
     let n = used-count b (present 1 (slices c.args.shares.now)) us c.requires.0 h.0 h.1 in
-    (omega (arith, n), even.2, even-lengths us c.in_ok-s.s even.1)
+    (omega (arith, n), even.2, even-lengths us c.in_ok-s.s even.1, all-zero 3090)
 
 pub returns-in_err-message : goal.returns-in_err-message
 returns-in_err-message c =

@@ -21,10 +21,7 @@ sum_more m f x e = ap (λ (y : ℕ). bit_xor y (f m)) e ∙ ap (λ (n : ℕ). su
 
 pub loop-m-init : goal.loop-m-init
 unfolding sum
-loop-m-init c = (
-  c.fill.ensures.len ∙ search rules,
-  λ k i h g. ap (λ l. get_or l (k * c.args.s + i) 0) (c.fill.ensures.after (λ y e. e)) ∙ all-zero (length c.args.frame.now) (k * c.args.s + i),
-)
+loop-m-init c = (search rules, λ k i h g. c.requires.3 (k * c.args.s + i))
 
 pub add_share-requires : goal.add_share-requires
 add_share-requires c =
